@@ -1,0 +1,2 @@
+pub mod Lcm
+pub mod Travel

@@ -1,0 +1,4 @@
+pub mod Bytes
+pub mod Load
+pub mod Names
+pub mod Together

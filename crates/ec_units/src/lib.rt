@@ -1,0 +1,12 @@
+//! Sync units: the types that keep every limit, and their reader from a TOML text.
+#![tactic(auto)]
+
+mod name;
+mod slave;
+mod unit;
+mod units;
+
+pub use name::Name;
+pub use slave::{Place, Slave, Slaves};
+pub use unit::{Load, Unit, UnitList};
+pub use units::{Units, bytes_of};

@@ -1,0 +1,72 @@
+//! Sync units; each keeps its own limits.
+
+ghost use Rattle.std.specs.Prelude.{◌≡◌, ℕ, ◌+◌, ◌<◌, ◌≤◌, length, true};
+ghost use Rattle.std.specs.Option.{ForSome};
+ghost use Rattle.ec_units.specs.Names.{is_name};
+ghost use Rattle.ec_units.specs.Bytes.{bytes_of_slaves};
+
+use crate::name::Name;
+use crate::slave::{Place, Slaves};
+use std::marker::Model;
+
+/// A sync unit: slaves whose process bytes travel together, once in each period (own profile).
+///
+/// `name` has 1 to 32 bytes of a-z, A-Z, 0-9, `_` and `-`. `period` is 1 to 60 ticks. There are 1 to 8
+/// slaves, with 1 to 1486 process bytes together. A place that is given has a phase below the period.
+#[derive(Debug, Drop)]
+pub struct Unit {
+    pub name: Name,
+    pub period: u16,
+    pub slaves: Slaves,
+    pub place: Option<Place>,
+    pub ghost named: { is_name name ≡ true },
+    pub ghost period_range: { (1 ≤ period) × (period ≤ 60) },
+    pub ghost slave_count: { (1 ≤ length slaves) × (length slaves ≤ 8) },
+    pub ghost size: { bytes_of_slaves slaves ≤ 1486 },
+    pub ghost place_range: { ForSome place (λ p. p.phase < period) },
+}
+
+/// What the wire sees of a unit: its process bytes and its period in ticks.
+#[derive(Clone, Copy, Debug, PartialEq, Eq)]
+pub struct Load {
+    pub bytes: u16,
+    pub period: u16,
+}
+
+/// Units in file order. A contract sees them as their list.
+#[derive(Debug, Drop)]
+pub struct UnitList {
+    items: Vec<Unit>,
+}
+
+impl Model for UnitList {
+    ghost use Rattle.std.specs.Prelude.{List};
+    ghost use Rattle.ec_units.specs.declared.unit.Unit.{Unit as SyncUnit};
+
+    ghost Value = { List SyncUnit };
+
+    ghost view = { λ s. s.items.items };
+}
+
+impl UnitList {
+    /// These units, in this order; takes no memory.
+    pub fn new(items: Vec<Unit>) -> UnitList
+        ensures { result ≡ items.items }
+    {
+        UnitList { items }
+    }
+
+    /// The units as a slice.
+    pub fn as_slice(&self) -> &[Unit]
+        ensures { result.now ≡ self.now }
+    {
+        self.items.as_slice()
+    }
+
+    /// The units as a `Vec` again; takes no memory.
+    pub fn into_vec(self) -> Vec<Unit>
+        ensures { result.items ≡ self }
+    {
+        self.items
+    }
+}
