@@ -1,0 +1,4 @@
+pub mod CostLemmas
+pub mod PayloadLemmas
+pub mod ItemLemmas
+pub mod TestLemmas

@@ -1,0 +1,5 @@
+pub mod Cost
+pub mod Examples
+pub mod Held
+pub mod Laws
+pub mod Legal

@@ -1,0 +1,107 @@
+//! The loads of the units that have a place so far; every sum is computed anew.
+
+ghost use Rattle.std.specs.Prelude.{◌≡◌, ℕ, ◌+◌, ◌*◌, ◌<◌, ◌≤◌, length, IfOk, slice_set, Some};
+ghost use Rattle.ec_hyper.specs.Lcm.{lcm_of};
+ghost use Rattle.ec_units.specs.Load.{loads_of, periods_of};
+ghost use Rattle.ec_loads.specs.Cost.{payload as payload_of, tick_cost, IsFirstBusiest};
+
+use crate::peak::busiest_below;
+use crate::sums::{cost, payload};
+use crate::table::{EMPTY, fill};
+use ec_hyper::Hyper;
+use ec_units::{Load, Place, Units, bytes_of};
+use std::alloc::{AllocError, Global};
+use std::marker::Model;
+
+/// What the units that have a place so far put on the wire.
+#[derive(Drop)]
+pub struct Loads {
+    loads: Vec<Load>,
+    places: Vec<Option<Place>>,
+    slots: u8,
+    hyper: Hyper,
+}
+
+impl Model for Loads {
+    ghost use Rattle.std.specs.Prelude.{◌≡◌, ℕ, ◌≤◌, length};
+    ghost use Rattle.ec_hyper.specs.Lcm.{lcm_of};
+    ghost use Rattle.ec_units.specs.Load.{periods_of};
+    ghost use Rattle.ec_loads.specs.Held.{Held, AreLoads};
+
+    ghost Value = { Held };
+
+    ghost view = { λ s. record { loads = s.loads.items; slots = s.slots; places = s.places.items } };
+
+    ghost invariant = { λ s.
+        record {
+          units : AreLoads s.loads.items;
+          few : length s.loads.items ≤ 48;
+          each : length s.places.items ≡ length s.loads.items;
+          slots : s.slots ≤ 8;
+          whole : s.hyper ≡ lcm_of (periods_of s.loads.items);
+        } };
+}
+
+impl Loads {
+    ghost use Rattle.ec_loads.specs.Held.{Held, items_of, no_places};
+
+    /// The units, none with a place. The one call of `Loads` that takes memory.
+    pub fn new(alloc: Global, units: &Units) -> Result<Loads, AllocError>
+        ensures { IfOk result (λ s. s ≡ record { loads = loads_of units.now.units; slots = units.now.slots; places = no_places (loads_of units.now.units) }) }
+    {
+        let all = units.units.as_slice();
+        let mut loads = Vec::new(alloc);
+        let mut places = Vec::new(alloc);
+        for unit in all {
+            loads.push(Load {
+                bytes: bytes_of(unit),
+                period: unit.period,
+            })?;
+            places.push(None)?;
+        }
+        Ok(Loads {
+            loads,
+            places,
+            slots: units.slots,
+            hyper: units.hyper(),
+        })
+    }
+
+    /// Gives a unit, numbered in file order from 0, its place.
+    pub fn place(&mut self, unit: usize, place: Place)
+        requires { unit < length self.old.places }
+        ensures { self.new ≡ record self.old { places = slice_set self.old.places unit (Some place) } }
+    {
+        self.places[unit] = Some(place);
+    }
+
+    /// The payload of a slot in a tick, in bytes: 12 for each group and the bytes of the units that travel there.
+    pub fn payload(&self, tick: u32, slot: u8) -> u32
+        ensures value { result ≡ payload_of (items_of self.now) tick slot }
+        ensures bound { result ≤ 71904 }
+    {
+        let mut table = EMPTY;
+        let count = fill(self.loads.as_slice(), self.places.as_slice(), &mut table);
+        payload(&table[..count], tick, slot)
+    }
+
+    /// What a tick costs on the wire, in bytes; at most 575,552.
+    pub fn cost(&self, tick: u32) -> u64
+        ensures value { result ≡ tick_cost (items_of self.now) self.now.slots tick }
+        ensures bound { result ≤ 575552 }
+    {
+        let mut table = EMPTY;
+        let count = fill(self.loads.as_slice(), self.places.as_slice(), &mut table);
+        cost(&table[..count], self.slots, tick)
+    }
+
+    /// The greatest cost of a tick in bytes, of all ticks, and the least tick that has it.
+    pub fn top(&self) -> (u64, u32)
+        ensures busiest { IsFirstBusiest (items_of self.now) self.now.slots result.0 result.1 }
+        ensures bound { result.0 ≤ 575552 }
+    {
+        let mut table = EMPTY;
+        let count = fill(self.loads.as_slice(), self.places.as_slice(), &mut table);
+        busiest_below(&table[..count], self.slots, self.hyper.ticks())
+    }
+}
