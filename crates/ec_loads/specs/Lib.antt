@@ -3,3 +3,4 @@ pub mod Examples
 pub mod Held
 pub mod Laws
 pub mod Legal
+pub mod Shape
