@@ -1,4 +1,10 @@
+pub mod AtKey
 pub mod Bytes
+pub mod FaultText
+pub mod Fits
 pub mod Load
 pub mod Names
+pub mod Reading
 pub mod Together
+pub mod UnitText
+pub mod Views

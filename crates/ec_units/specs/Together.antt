@@ -15,12 +15,15 @@ names_of units = map (λ u. u.name) units
 abbrev pub stations_of : List SyncUnit → List ℕ
 stations_of units = flat_map (λ u. map (λ s. s.station) u.slaves) units
 
+-- two of these are one, by a test
+abbrev pub has_same : {X : Type 0} → (X → X → Bool) → List X → Bool
+has_same eq [] = false
+has_same eq (x ∷ xs) = list_any (eq x) xs || has_same eq xs
+
 -- two of these names are one
 abbrev pub has_same_name : List (List ℕ) → Bool
-has_same_name [] = false
-has_same_name (n ∷ ns) = list_any (bytes_eq n) ns || has_same_name ns
+has_same_name names = has_same bytes_eq names
 
 -- two of these stations are one
 abbrev pub has_same_station : List ℕ → Bool
-has_same_station [] = false
-has_same_station (n ∷ ns) = list_any (λ m. n == m) ns || has_same_station ns
+has_same_station stations = has_same (λ n m. n == m) stations

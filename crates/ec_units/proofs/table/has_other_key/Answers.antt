@@ -1,0 +1,7 @@
+use Rattle.std.proofs.Common.{◌∙◌, sym, ap, rules}
+use Rattle.ec_units.specs.AtKey.{is_one_of}
+use Rattle.ec_units.proofs.Beside.{any_other, has_other_key-any}
+use Rattle.ec_units.proofs.table.has_other_key.Goals as goal
+
+pub loop-key-init : goal.loop-key-init
+loop-key-init c = rw (c.into_iter-key-iterator.ensures.into_iter_gives, c.keys-key-items.ensures.rest) (sym (has_other_key-any c.args.keys.now c.args.table.now.entries))
