@@ -1,0 +1,5 @@
+pub mod Input
+pub mod Lines
+pub mod Output
+pub mod Refusals
+pub mod Words

@@ -1,0 +1,110 @@
+-- What the program writes for what it reads.
+use Rattle.std.specs.Prelude.{◌≡◌, ℕ, ◌<◌, ◌≤◌, ◌⊎◌, is_none, List, length, Option, Result, Ok, Err, MatchOption, MatchResult, string_bytes, String}
+use Rattle.std.proofs.Common.{inl, inr, MutBor, Global, Some, None}
+use Rattle.std.specs.List.{position_from, filter_map}
+use Rattle.std.specs.Io.KnownBytes.{Appends}
+use Rattle.ec_hyper.specs.Lcm.{lcm_of}
+use Rattle.ec_wire.specs.Stream.{WritesFront}
+use Rattle.ec_units.specs.declared.slave.Place.{Place}
+use Rattle.ec_units.specs.Load.{periods_of}
+use Rattle.ec_units.specs.Reading.{reading}
+use Rattle.ec_units.specs.Views.{UnitView, UnitsView, view_loads}
+use Rattle.ec_loads.specs.declared.item.Item.{Item}
+use Rattle.ec_loads.specs.declared.plan.Illegal.{Illegal}
+use Rattle.ec_loads.specs.Cost.{plan_items, tick_cost, IsFirstBusiest}
+use Rattle.ec_loads.specs.Legal.{IsLegal, IsIllegalBy}
+use Rattle.ecplan.specs.declared.refusal.Refusal.{Refusal}
+use Rattle.ecplan.specs.declared.refusal.Refusal.TheVariants as refusal
+use Rattle.ecplan.specs.declared.words.Job.{Job}
+use Rattle.ecplan.specs.declared.words.Job.TheVariants as job
+use Rattle.ecplan.specs.Lines.{cost_lines}
+use Rattle.ecplan.specs.Refusals.{refusal_line, refusal_code, out_of_memory}
+
+-- a text and the exit status
+pub record Written : Type 0 where
+  pub text : List ℕ
+  pub code : ℕ
+
+-- a refusal is its one line with its status
+abbrev pub refused : Refusal → Written
+refused r = record { text = refusal_line r; code = refusal_code r }
+
+-- a text with status 0
+abbrev pub done : List ℕ → Written
+done text = record { text = text; code = 0 }
+
+-- the text of a cost: the busiest tick in it is the busiest of all ticks, and the first that is
+pub record IsCostText (xs : List Item) (n h tick_ns : ℕ) (text : List ℕ) : Type 0 where
+  pub top : ℕ
+  pub at : ℕ
+  pub busiest : IsFirstBusiest xs n top at
+  pub lines : text ≡ cost_lines (tick_cost xs n) h top at tick_ns
+
+-- the first unit without a place
+abbrev pub first_unplaced : List UnitView → Option ℕ
+first_unplaced units = position_from (λ u. is_none u.place) 0 units
+
+-- the places that are given
+abbrev pub places_of : List UnitView → List Place
+places_of units = filter_map (λ u. u.place) units
+
+-- what is written for units that all have a place: the fault of their plan, or its costs
+abbrev pub IsPlacedOutput : UnitsView → List Place → Written → Type 0
+IsPlacedOutput v places w =
+    ((f : Illegal) × IsIllegalBy (view_loads v.units) v.slots places f × (w ≡ refused (refusal.Illegal f)))
+    ⊎ (IsLegal (view_loads v.units) v.slots places
+    × IsCostText (plan_items (view_loads v.units) places) v.slots (lcm_of (periods_of (view_loads v.units))) v.tick_ns w.text
+    × (w.code ≡ 0))
+
+-- what is written for units
+abbrev pub IsCostOutput : UnitsView → Written → Type 0
+IsCostOutput v w =
+    MatchOption (first_unplaced v.units) (IsPlacedOutput v (places_of v.units) w) (λ n. w ≡ refused (refusal.NoPlace n))
+
+-- what is written for a unit text of at most 1,048,576 bytes
+abbrev pub IsTextOutput : Job → List ℕ → Written → Type 0
+IsTextOutput job.Cost text w = MatchResult (reading text) (λ v. IsCostOutput v w) (λ f. w ≡ refused (refusal.Unit f))
+
+-- what is written for the bytes of units that a reader has
+abbrev pub IsOutput : Job → List ℕ → Written → Type 0
+IsOutput j bytes w = ((length bytes ≤ 1048576) × IsTextOutput j bytes w) ⊎ ((1048576 < length bytes) × (w ≡ refused refusal.TooLarge))
+
+-- an answer, which may be want of memory, is as a fact about what is written says
+abbrev pub Answers : Result (String Global) Refusal → (Written → Type 0) → Type 0
+Answers (Ok text) P = P (done (string_bytes text))
+Answers (Err r) P = (r ≡ out_of_memory) ⊎ P (refused r)
+
+-- what an answer makes the program write
+abbrev pub written_of : Result (String Global) Refusal → Written
+written_of (Ok text) = done (string_bytes text)
+written_of (Err r) = refused r
+
+-- the writer gets what is written for an answer with its status, or the line that says that memory ran out
+abbrev pub Tells : Result (String Global) Refusal → Option (List ℕ) → Option (List ℕ) → ℕ → Type 0
+Tells answer old new code = (w : Written) × ((w ≡ written_of answer) ⊎ (w ≡ refused out_of_memory)) × (code ≡ w.code) × Appends old new w.text
+
+-- the writer gets a front of it
+abbrev pub TellsFront : Result (String Global) Refusal → Option (List ℕ) → Option (List ℕ) → Type 0
+TellsFront answer old new = (w : Written) × ((w ≡ written_of answer) ⊎ (w ≡ refused out_of_memory)) × WritesFront old new w.text
+
+-- the writer gets this refusal with its status, or the line that says that memory ran out
+abbrev pub WritesRefusal : Refusal → Option (List ℕ) → Option (List ℕ) → ℕ → Type 0
+WritesRefusal r old new code = (w : Written) × ((w ≡ refused r) ⊎ (w ≡ refused out_of_memory)) × (code ≡ w.code) × Appends old new w.text
+
+-- the writer gets what is written for these bytes with its status, or the line that says that memory ran out
+abbrev pub Writes : Job → List ℕ → Option (List ℕ) → Option (List ℕ) → ℕ → Type 0
+Writes j bytes old new code = (w : Written) × (IsOutput j bytes w ⊎ (w ≡ refused out_of_memory)) × (code ≡ w.code) × Appends old new w.text
+
+-- the writer gets a front of it
+abbrev pub WritesFrontOf : Job → List ℕ → Option (List ℕ) → Option (List ℕ) → Type 0
+WritesFrontOf j bytes old new = (w : Written) × (IsOutput j bytes w ⊎ (w ≡ refused out_of_memory)) × WritesFront old new w.text
+
+-- what an `Option<&mut X>` leaves
+abbrev pub left_behind : {X : Type 0} → (Unit {0} ⊎ ((MutBor X × Unit {0}) ⊎ ⊥)) → Option X
+left_behind (inl u) = None
+left_behind (inr (inl f)) = Some f.0.now
+left_behind (inr (inr b)) = absurd b
+
+-- what is written is a function of the bytes that are read
+abbrev pub OneOutputEach : Type 0
+OneOutputEach = (j : Job) (bytes : List ℕ) (a b : Written) → IsOutput j bytes a → IsOutput j bytes b → a ≡ b

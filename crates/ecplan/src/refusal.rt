@@ -1,0 +1,140 @@
+//! What the program refuses, and the line that says so.
+
+ghost use Rattle.std.specs.Prelude.{◌≡◌, Some};
+ghost use Rattle.ecplan.specs.Refusals.{fault_text, illegal_text, reason_text, refusal_code, out_of_memory};
+ghost use Rattle.ecplan.specs.declared.refusal.Refusal.TheVariants.{Unit as UnitRefusal, Illegal as IllegalRefusal};
+
+use ec_loads::Illegal;
+use ec_units::UnitFault;
+use std::alloc::{AllocError, AllocFailed};
+use std::fmt;
+
+/// Why a run was refused.
+#[derive(Clone, Copy, Debug, PartialEq, Eq)]
+pub enum Refusal {
+    /// The unit text has this fault, or memory ran out.
+    Unit(UnitFault),
+    /// The plan is not legal.
+    Illegal(Illegal),
+    /// The unit text has more than 1,048,576 bytes.
+    TooLarge,
+    /// This unit, numbered in file order from 0, has no place.
+    NoPlace(usize),
+    /// A read failed.
+    Read,
+}
+
+impl Refusal {
+    /// The exit status: 4 for memory and reading, else 3.
+    pub fn code(&self) -> u8
+        ensures { result ≡ refusal_code self.now }
+    {
+        match self {
+            Refusal::Unit(UnitFault::OutOfMemory) | Refusal::Read => 4,
+            Refusal::Unit(_) | Refusal::Illegal(_) | Refusal::TooLarge | Refusal::NoPlace(_) => 3,
+        }
+    }
+}
+
+impl From<AllocError> for Refusal {
+    ghost from_gives = { λ _ r. r ≡ out_of_memory };
+
+    fn from(_error: AllocError) -> Refusal {
+        Refusal::Unit(UnitFault::OutOfMemory)
+    }
+}
+
+impl<T: Drop> From<AllocFailed<T>> for Refusal {
+    ghost from_gives = { λ _ r. r ≡ out_of_memory };
+
+    fn from(_error: AllocFailed<T>) -> Refusal {
+        Refusal::Unit(UnitFault::OutOfMemory)
+    }
+}
+
+impl From<UnitFault> for Refusal {
+    ghost from_gives = { λ f r. r ≡ UnitRefusal f };
+
+    fn from(fault: UnitFault) -> Refusal {
+        Refusal::Unit(fault)
+    }
+}
+
+impl From<Illegal> for Refusal {
+    ghost from_gives = { λ f r. r ≡ IllegalRefusal f };
+
+    fn from(illegal: Illegal) -> Refusal {
+        Refusal::Illegal(illegal)
+    }
+}
+
+/// A fault of a unit text as it is printed: code, name and fields.
+#[derive(Clone, Copy, Debug)]
+struct FaultText(UnitFault);
+
+impl fmt::Display for FaultText {
+    ghost output = { λ t. Some (fault_text t.0) };
+
+    fn fmt<W: fmt::Write>(&self, f: &mut fmt::Formatter<W>) -> fmt::Result {
+        match self.0 {
+            UnitFault::OutOfMemory => write!(f, "U1 OutOfMemory"),
+            UnitFault::NotToml => write!(f, "U2 NotToml"),
+            UnitFault::Missing(spot, key) => write!(f, "U3 Missing {spot} {key}"),
+            UnitFault::WrongType(spot, key) => write!(f, "U4 WrongType {spot} {key}"),
+            UnitFault::UnknownKey(spot) => write!(f, "U5 UnknownKey {spot}"),
+            UnitFault::NoUnits => write!(f, "U6 NoUnits"),
+            UnitFault::TooManyUnits => write!(f, "U7 TooManyUnits"),
+            UnitFault::BadName(spot) => write!(f, "U8 BadName {spot}"),
+            UnitFault::DuplicateName(spot) => write!(f, "U9 DuplicateName {spot}"),
+            UnitFault::PeriodRange(spot) => write!(f, "U10 PeriodRange {spot}"),
+            UnitFault::SlaveCount(spot) => write!(f, "U11 SlaveCount {spot}"),
+            UnitFault::SlaveBytes(spot) => write!(f, "U12 SlaveBytes {spot}"),
+            UnitFault::UnitTooBig(spot) => write!(f, "U13 UnitTooBig {spot}"),
+            UnitFault::StationRange(spot) => write!(f, "U14 StationRange {spot}"),
+            UnitFault::DuplicateStation(spot) => write!(f, "U15 DuplicateStation {spot}"),
+            UnitFault::AreaRange(spot) => write!(f, "U16 AreaRange {spot}"),
+            UnitFault::HyperTooLong => write!(f, "U17 HyperTooLong"),
+            UnitFault::SlotsRange => write!(f, "U18 SlotsRange"),
+            UnitFault::TickRange => write!(f, "U19 TickRange"),
+            UnitFault::PlaceRange(spot) => write!(f, "U20 PlaceRange {spot}"),
+            UnitFault::PlaceHalf(spot) => write!(f, "U21 PlaceHalf {spot}"),
+        }
+    }
+}
+
+/// Why a plan is not legal as it is printed: code, name and fields.
+#[derive(Clone, Copy, Debug)]
+struct IllegalText(Illegal);
+
+impl fmt::Display for IllegalText {
+    ghost output = { λ t. Some (illegal_text t.0) };
+
+    fn fmt<W: fmt::Write>(&self, f: &mut fmt::Formatter<W>) -> fmt::Result {
+        match self.0 {
+            Illegal::WrongCount => write!(f, "I1 WrongCount"),
+            Illegal::PhaseRange(unit) => write!(f, "I2 PhaseRange {unit}"),
+            Illegal::SlotRange(unit) => write!(f, "I3 SlotRange {unit}"),
+            Illegal::Full { tick, slot, bytes } => write!(f, "I4 Full {tick} {slot} {bytes}"),
+        }
+    }
+}
+
+impl fmt::Display for Refusal {
+    ghost output = { λ r. Some (reason_text r) };
+
+    fn fmt<W: fmt::Write>(&self, f: &mut fmt::Formatter<W>) -> fmt::Result {
+        match self {
+            Refusal::Unit(fault) => {
+                let fault = FaultText(*fault);
+                write!(f, "{fault}")
+            }
+            Refusal::Illegal(illegal) => {
+                let illegal = IllegalText(*illegal);
+                write!(f, "{illegal}")
+            }
+            Refusal::TooLarge => write!(f, "E1 TooLarge"),
+            Refusal::NoPlace(unit) => write!(f, "E2 NoPlace {unit}"),
+            Refusal::Read => write!(f, "E3 Read"),
+        }
+    }
+}
