@@ -1,18 +1,20 @@
-//! ecplan: plans the cyclic frames of an EtherCAT line.
+//! ecplan: plans the cyclic frames of an EtherCAT line. The words of the command line say what to do, the
+//! units come on standard input, and the text goes to standard output.
 #![tactic(auto)]
 
 mod cost;
 mod input;
+mod job;
 mod law;
+mod plain;
 mod refusal;
 mod run;
 mod words;
 
 use ec_wire::Io;
 use run::run;
-use std::alloc::AllocError;
 use std::process::ExitCode;
-use std::{env, io, rt};
+use std::{env, io};
 use words::{LineFault, read_words};
 
 /// The words after the program's name.
@@ -50,3 +52,6 @@ fn main(rt: HostRuntime) -> ExitCode {
     let status = run(rt.alloc(), &line.job, &mut units, none, &mut text, nowhere);
     ExitCode::from(status.code)
 }
+
+#[cfg(test)]
+mod tests;

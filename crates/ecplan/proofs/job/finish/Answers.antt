@@ -2,7 +2,7 @@ use Rattle.std.proofs.Common.{inl, inr, refl, sym, ap, ◌∙◌, string_bytes}
 use Rattle.ecplan.specs.Output.{done, written_of, refused}
 use Rattle.ecplan.specs.Refusals.{out_of_memory}
 use Rattle.ecplan.proofs.TellLemmas.{tells_by, front_by}
-use Rattle.ecplan.proofs.run.finish.Goals as goal
+use Rattle.ecplan.proofs.job.finish.Goals as goal
 
 pub returns-in-Ok-clause-told : goal.returns-in-Ok-clause-told
 returns-in-Ok-clause-told g c = λ ok.
