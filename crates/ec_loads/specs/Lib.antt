@@ -3,4 +3,5 @@ pub mod Examples
 pub mod Held
 pub mod Laws
 pub mod Legal
+pub mod Search
 pub mod Shape

@@ -1,12 +1,14 @@
 //! The loads of the units that have a place so far; every sum is computed anew.
 
-ghost use Rattle.std.specs.Prelude.{◌≡◌, ℕ, ◌+◌, ◌*◌, ◌<◌, ◌≤◌, length, IfOk, slice_set, Some};
+ghost use Rattle.std.specs.Prelude.{◌≡◌, ℕ, ◌+◌, ◌*◌, ◌<◌, ◌≤◌, length, IfOk, MatchOption, slice_set, Some, None};
 ghost use Rattle.ec_hyper.specs.Lcm.{lcm_of};
 ghost use Rattle.ec_units.specs.Load.{loads_of, periods_of};
-ghost use Rattle.ec_loads.specs.Cost.{payload as payload_of, tick_cost, IsFirstBusiest};
+ghost use Rattle.ec_loads.specs.Cost.{payload as payload_of, tick_cost, raw_cost, IsFirstBusiest};
+ghost use Rattle.ec_loads.specs.Legal.{Fits, IsFirstFull};
 
+use crate::legal::first_full;
 use crate::peak::busiest_below;
-use crate::sums::{cost, payload};
+use crate::sums::{cost, payload, raw};
 use crate::table::{EMPTY, fill};
 use ec_hyper::Hyper;
 use ec_units::{Load, Place, Units, bytes_of};
@@ -75,6 +77,14 @@ impl Loads {
         self.places[unit] = Some(place);
     }
 
+    /// Takes the place of a unit away again.
+    pub fn remove(&mut self, unit: usize)
+        requires { unit < length self.old.places }
+        ensures { self.new ≡ record self.old { places = slice_set self.old.places unit None } }
+    {
+        self.places[unit] = None;
+    }
+
     /// The payload of a slot in a tick, in bytes: 12 for each group and the bytes of the units that travel there.
     pub fn payload(&self, tick: u32, slot: u8) -> u32
         ensures value { result ≡ payload_of (items_of self.now) tick slot }
@@ -103,5 +113,27 @@ impl Loads {
         let mut table = EMPTY;
         let count = fill(self.loads.as_slice(), self.places.as_slice(), &mut table);
         busiest_below(&table[..count], self.slots, self.hyper.ticks())
+    }
+
+    /// What a tick costs on the wire without padding, in bytes; at most 575,552.
+    pub fn raw(&self, tick: u32) -> u64
+        ensures value { result ≡ raw_cost (items_of self.now) self.now.slots tick }
+        ensures bound { result ≤ 575552 }
+    {
+        let mut table = EMPTY;
+        let count = fill(self.loads.as_slice(), self.places.as_slice(), &mut table);
+        raw(&table[..count], self.slots, tick)
+    }
+
+    /// The least tick, and in it the least slot, with a payload above 1498 bytes.
+    pub fn full(&self) -> Option<(u32, u8)>
+        ensures { MatchOption result (Fits (items_of self.now) self.now.slots) (λ f. (b : ℕ) × IsFirstFull (items_of self.now) self.now.slots f.0 f.1 b) }
+    {
+        let mut table = EMPTY;
+        let count = fill(self.loads.as_slice(), self.places.as_slice(), &mut table);
+        match first_full(&table[..count], self.slots, self.hyper.ticks()) {
+            Some((tick, slot, _)) => Some((tick, slot)),
+            None => None,
+        }
     }
 }

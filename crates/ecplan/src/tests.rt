@@ -527,5 +527,39 @@ fn loads_of_two_units(rt: HostRuntime) -> Result<(), Fail> {
     assert_eq!(rt; loads.cost(1), 0);
     assert_eq!(rt; loads.cost(4_000_000_000), 252);
     assert_eq!(rt; loads.top(), (252, 0));
+    assert_eq!(rt; loads.raw(0), 252);
+    loads.remove(0);
+    assert_eq!(rt; loads.payload(0, 0), 112);
+    assert_eq!(rt; loads.cost(0), 152);
+    loads.remove(1);
+    assert_eq!(rt; loads.payload(0, 0), 0);
+    assert_eq!(rt; loads.cost(0), 0);
+    assert_eq!(rt; loads.raw(0), 0);
+    assert_eq!(rt; loads.full(), None);
+    Ok(())
+}
+
+#[test]
+fn loads_without_padding(rt: HostRuntime) -> Result<(), Fail> {
+    let units = units_of(rt.alloc(), 1, &[(4, 1, None), (10, 1, None)])?;
+    assert_eq!(rt; units.units.as_slice().len(), 2);
+    let mut loads = Loads::new(rt.alloc(), &units)?;
+    loads.place(0, Place { phase: 0, slot: 0 });
+    assert_eq!(rt; loads.raw(0), 56);
+    assert_eq!(rt; loads.cost(0), 84);
+    loads.place(1, Place { phase: 0, slot: 0 });
+    assert_eq!(rt; loads.cost(0), 84);
+    Ok(())
+}
+
+#[test]
+fn loads_that_are_full(rt: HostRuntime) -> Result<(), Fail> {
+    let units = units_of(rt.alloc(), 2, &[(800, 2, None), (800, 3, None)])?;
+    assert_eq!(rt; units.units.as_slice().len(), 2);
+    let mut loads = Loads::new(rt.alloc(), &units)?;
+    loads.place(0, Place { phase: 1, slot: 1 });
+    assert_eq!(rt; loads.full(), None);
+    loads.place(1, Place { phase: 2, slot: 1 });
+    assert_eq!(rt; loads.full(), Some((5, 1)));
     Ok(())
 }
