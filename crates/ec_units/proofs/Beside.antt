@@ -1,10 +1,9 @@
 -- Members and items beside what the code walks.
-use Rattle.std.proofs.Common.{◌≡◌, ◌==◌, ◌<◌, ◌≤◌, ℕ, suc, ◌+◌, add-one, arith, length, drop, take, set, map, All, get_or, Bool, true, false, not, ◌||◌, List, [], ◌∷◌, ◌++◌, append_assoc, Option, Some, None, String, Global, string_bytes, refl, ap, sym, ◌∙◌}
+use Rattle.std.proofs.Common.{◌≡◌, ◌<◌, ◌≤◌, ℕ, suc, ◌+◌, add-one, length, drop, take, set, map, All, get_or, Bool, false, not, ◌||◌, List, [], ◌∷◌, ◌++◌, append_assoc, Some, None, String, Global, string_bytes, refl, ap, sym, ◌∙◌}
 use Rattle.std.specs.Map.{keys_of}
 use Rattle.std.specs.List.{flat_map}
 use Rattle.std.proofs.lemmas.List.{drop_more, take_more, take_more_set, append-nil, map-append}
 use Rattle.std.proofs.lemmas.List.Elements.{All-nil, All-cons, All-append}
-use Rattle.std.proofs.lemmas.Bool.Decides.{nat_tests}
 use Rattle.toml.specs.Data.{Data, Items, no_items, item, Members, as_table, push_item}
 use Rattle.toml.specs.View.{view, items_view, members_view}
 use Rattle.toml.proofs.Views.{items_view-drop, items_view-push}

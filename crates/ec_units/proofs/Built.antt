@@ -1,10 +1,10 @@
 -- What units that a document without a fault says keep together.
-use Rattle.std.proofs.Common.{◌≡◌, ◌==◌, ◌≤◌, ◌<◌, ℕ, suc, ℤ, pos, negsuc, arith, length, get_or, Bool, true, false, List, [], ◌∷◌, ◌++◌, All, map, unwrap_or, Option, Some, None, refl, ap, sym, ◌∙◌}
+use Rattle.std.proofs.Common.{◌≡◌, ◌≤◌, ◌<◌, ℕ, ℤ, pos, negsuc, arith, length, false, List, ◌++◌, All, map, unwrap_or, Option, Some, None, ap, sym, ◌∙◌}
 use Rattle.std.specs.Option.{ForSome}
 use Rattle.std.proofs.lemmas.Bool.{or_parts, leb-false, eqb-false, ltb-false, true≢false}
 use Rattle.std.proofs.lemmas.List.{length-map, get_or-map}
 use Rattle.std.proofs.lemmas.List.Elements.{All-nil, All-cons}
-use Rattle.std.specs.Prelude.{int_lt, int_le, nat_lt, nat_le, unsigned_abs}
+use Rattle.std.specs.Prelude.{int_lt, int_le, unsigned_abs}
 use Rattle.toml.specs.Data.{Items, no_items, item, Members, as_table}
 use Rattle.ec_hyper.specs.Lcm.{lcm_of}
 use Rattle.ec_units.specs.declared.fault.Key.TheVariants as key

@@ -1,20 +1,17 @@
 -- What holds of a document without a fault.
-use Rattle.std.proofs.Common.{◌≡◌, ◌≤◌, ◌<◌, ◌==◌, ℕ, zero, suc, ◌+◌, ℤ, pos, arith, length, get_or, Bool, true, false, not, ◌||◌, nat_lt, List, [], ◌∷◌, ◌++◌, map, option_and_then, unwrap_or, is_some, Option, Some, None, refl, ap, sym, ◌∙◌}
+use Rattle.std.proofs.Common.{◌≡◌, ◌≤◌, ◌<◌, ◌==◌, ℕ, zero, suc, pos, arith, length, get_or, Bool, true, false, not, nat_lt, List, [], ◌∷◌, ◌++◌, option_and_then, unwrap_or, is_some, Option, Some, None, refl}
 use Rattle.std.specs.List.{flat_map}
 use Rattle.std.proofs.lemmas.Bool.{and_parts, not-false, ltb-false, false≢true, true≢false}
 use Rattle.toml.specs.Data.{Data, Items, no_items, item, Members, get_member, as_array, as_table, push_item}
 use Rattle.ec_hyper.specs.Lcm.{lcm_of}
-use Rattle.ec_units.specs.declared.fault.Key.{Key}
 use Rattle.ec_units.specs.declared.fault.Key.TheVariants as key
-use Rattle.ec_units.specs.declared.fault.Spot.{Spot}
 use Rattle.ec_units.specs.declared.fault.UnitFault.{UnitFault}
 use Rattle.ec_units.specs.declared.rule.Rule.{Rule}
 use Rattle.ec_units.specs.declared.rule.Rule.TheVariants as rule
 use Rattle.ec_units.specs.FaultText.{key_text}
 use Rattle.ec_units.specs.AtKey.{integer_at, items_at, item_count, all_tables, is_array_of_tables, is_other, has_wrong, is_between}
 use Rattle.ec_units.specs.UnitText.{first, fault_if, at_top, at_unit, top_keys, unit_keys, wrong_at, top_faults, hyper_faults, faults_of_unit, faults_of_slave_item, slave_faults_from, faults_of_unit_item, unit_faults_from, faults_by, early_rules, late_rules, unit_faults, bytes_in, periods_in}
-use Rattle.ec_units.specs.Fits.{SlaveItemFits, SlavesFit, PeriodFits, PeriodsFit, UnitFits, UnitItemFits, UnitsFit}
-use Rattle.ec_units.proofs.Beside.{first-append_none}
+use Rattle.ec_units.specs.Fits.{SlaveItemFits, SlavesFit, PeriodFits, PeriodsFit, UnitItemFits, UnitsFit}
 use Rattle.ec_units.proofs.Fitting.{slave_numbers_fit, count_in}
 
 pub first_parts : (xs ys : List UnitFault) → first (xs ++ ys) ≡ None → (first xs ≡ None) × (first ys ≡ None)

@@ -1,6 +1,6 @@
 -- What the tests of a slave's and a unit's numbers tell.
-use Rattle.std.proofs.Common.{◌≡◌, ◌≤◌, ◌<◌, ◌==◌, ℕ, zero, suc, ◌+◌, ℤ, pos, negsuc, ◌+ℤ◌, arith, Bool, true, false, not, ◌&&◌, ◌||◌, nat_lt, nat_le, int_le, int_lt, refl}
-use Rattle.std.proofs.lemmas.Bool.{and_parts, or_parts, or_cases, not-true, not-false, false≢true, true≢false, ltb-false, leb-true, eqb-false}
+use Rattle.std.proofs.Common.{◌≡◌, ◌≤◌, ◌<◌, ◌==◌, ℕ, zero, suc, ◌+◌, ℤ, pos, negsuc, ◌+ℤ◌, arith, true, false, not, ◌&&◌, ◌||◌, nat_lt, nat_le, int_le, int_lt, refl}
+use Rattle.std.proofs.lemmas.Bool.{and_parts, or_parts, not-true, false≢true, true≢false, ltb-false, leb-true, eqb-false}
 use Rattle.std.proofs.lemmas.Bool.Decides.{nat_tests}
 use Rattle.std.specs.Ordering.{int_eq}
 use Rattle.ec_units.specs.AtKey.{is_between}

@@ -1,10 +1,9 @@
 -- Units beside what the tables of a document say of them.
-use Rattle.std.proofs.Common.{◌≡◌, ◌≤◌, ◌<◌, ℕ, suc, ◌+◌, ℤ, pos, arith, length, Bool, true, false, List, [], ◌∷◌, ◌++◌, All, drop, map, sum_by, Option, Some, None, refl, ap, sym, ◌∙◌}
+use Rattle.std.proofs.Common.{◌≡◌, ◌≤◌, ℕ, suc, ◌+◌, arith, length, List, [], ◌∷◌, ◌++◌, drop, map, Option, Some, None, refl, ap, sym, ◌∙◌}
 use Rattle.std.specs.List.{flat_map}
-use Rattle.std.specs.Option.{ForSome}
 use Rattle.std.proofs.lemmas.List.{length-map, append-nil, drop_all}
 use Rattle.std.proofs.lemmas.List.Sums.{sum_by-cons}
-use Rattle.toml.specs.Data.{Data, Items, no_items, item, Members, as_table}
+use Rattle.toml.specs.Data.{Items, no_items, item, Members, as_table}
 use Rattle.toml.specs.View.{items_view}
 use Rattle.toml.specs.declared.value.Value.{Value}
 use Rattle.ec_units.specs.declared.fault.Key.TheVariants as key

@@ -19,3 +19,6 @@ pub use read::read_units;
 pub use slave::{Place, Slave, Slaves};
 pub use unit::{Load, Unit, UnitList};
 pub use units::{Units, bytes_of};
+
+#[cfg(test)]
+mod tests;

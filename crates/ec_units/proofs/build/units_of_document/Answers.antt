@@ -1,8 +1,7 @@
 use Rattle.std.proofs.Common.{◌≡◌, ◌∙◌, map, ap}
-use Rattle.toml.specs.View.{items_view, table_view}
+use Rattle.toml.specs.View.{table_view}
 use Rattle.ec_units.specs.declared.fault.Key.TheVariants as key
 use Rattle.ec_units.specs.AtKey.{items_at, tables_in}
-use Rattle.ec_units.specs.Together.{SlotsBelow}
 use Rattle.ec_units.specs.Views.{unit_view, unit_of}
 use Rattle.ec_units.proofs.Alone.{names_apart, stations_apart}
 use Rattle.ec_units.proofs.Built.{tick_within, slots_within, count_of_units, short, slots_below}

@@ -1,6 +1,5 @@
-use Rattle.std.proofs.Common.{◌∙◌, sym, ap, rules}
-use Rattle.ec_units.specs.AtKey.{is_one_of}
-use Rattle.ec_units.proofs.Beside.{any_other, has_other_key-any}
+use Rattle.std.proofs.Common.{sym}
+use Rattle.ec_units.proofs.Beside.{has_other_key-any}
 use Rattle.ec_units.proofs.table.has_other_key.Goals as goal
 
 pub loop-key-init : goal.loop-key-init

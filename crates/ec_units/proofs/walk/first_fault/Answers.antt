@@ -1,7 +1,6 @@
-use Rattle.std.proofs.Common.{◌≡◌, ◌≤◌, ◌∙◌, sym, ap, arith, length}
-use Rattle.toml.specs.View.{items_view, table_view}
+use Rattle.std.proofs.Common.{◌≡◌, ◌∙◌, sym, ap, length}
+use Rattle.toml.specs.View.{table_view}
 use Rattle.ec_units.specs.AtKey.{item_count}
-use Rattle.ec_units.specs.Fits.{PeriodsFit}
 use Rattle.ec_units.proofs.Beside.{item_count-items_view}
 use Rattle.ec_units.proofs.Faultless.{periods_fit, few_periods}
 use Rattle.ec_units.proofs.walk.first_fault.Goals as goal

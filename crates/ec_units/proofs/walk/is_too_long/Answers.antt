@@ -1,4 +1,4 @@
-use Rattle.std.proofs.Common.{◌≡◌, ◌∙◌, map, ap, arith, length, length-set}
+use Rattle.std.proofs.Common.{◌∙◌, map, ap, arith, length-set}
 use Rattle.toml.specs.Data.{as_table}
 use Rattle.toml.specs.View.{view}
 use Rattle.ec_units.specs.AtKey.{table_list}

@@ -1,4 +1,4 @@
-use Rattle.std.proofs.Common.{◌≡◌, take, ◌∙◌, sym, ap, arith}
+use Rattle.std.proofs.Common.{take, ◌∙◌, sym, ap, arith}
 use Rattle.toml.specs.Data.{as_table}
 use Rattle.toml.specs.View.{view, items_view}
 use Rattle.ec_units.specs.UnitText.{first, faults_of_slave_item}
