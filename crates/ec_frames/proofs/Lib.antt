@@ -1,0 +1,7 @@
+pub mod WrittenSteps
+pub mod BuildFaults
+pub mod ParsingSteps
+pub mod ReadingLaws
+pub mod ReadingLists
+pub mod ReadingFrames
+pub mod WrittenReads
