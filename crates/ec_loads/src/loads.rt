@@ -45,7 +45,7 @@ impl Model for Loads {
 }
 
 impl Loads {
-    ghost use Rattle.ec_loads.specs.Held.{Held, items_of, no_places};
+    ghost use Rattle.ec_loads.specs.Held.{Held, AreLoads, items_of, no_places};
 
     /// The units, none with a place. The one call of `Loads` that takes memory.
     pub fn new(alloc: Global, units: &Units) -> Result<Loads, AllocError>
@@ -83,6 +83,41 @@ impl Loads {
         ensures { self.new ≡ record self.old { places = slice_set self.old.places unit None } }
     {
         self.places[unit] = None;
+    }
+
+    /// The places so far, in file order.
+    pub fn places(&self) -> &[Option<Place>]
+        ensures value { result.now ≡ self.now.places }
+        ensures each { length result.now ≡ length self.now.loads }
+        ensures few { length result.now ≤ 48 }
+    {
+        self.places.as_slice()
+    }
+
+    /// The bytes and periods of the units, in file order.
+    pub fn loads(&self) -> &[Load]
+        ensures value { result.now ≡ self.now.loads }
+        ensures units { AreLoads self.now.loads }
+        ensures few { length result.now ≤ 48 }
+    {
+        self.loads.as_slice()
+    }
+
+    /// The slot count, at most 8.
+    pub fn slots(&self) -> u8
+        ensures value { result ≡ self.now.slots }
+        ensures bound { result ≤ 8 }
+    {
+        self.slots
+    }
+
+    /// The hyperperiod of the units, in ticks.
+    pub fn ticks(&self) -> u32
+        ensures value { result ≡ lcm_of (periods_of self.now.loads) }
+        ensures range { (1 ≤ result) × (result ≤ 1024) }
+        ensures units { AreLoads self.now.loads }
+    {
+        self.hyper.ticks()
     }
 
     /// The payload of a slot in a tick, in bytes: 12 for each group and the bytes of the units that travel there.

@@ -1,0 +1,5 @@
+pub mod SetLemmas
+pub mod SubLemmas
+pub mod AverageLemmas
+pub mod LeafLemmas
+pub mod LeftLemmas

@@ -1,0 +1,24 @@
+-- Which units have no place yet.
+use Rattle.std.specs.Prelude.{◌≡◌, ℕ, ◌+◌, ◌*◌, ◌/◌, Bool, true, is_none, if◌then◌else◌, List, [], ◌∷◌, map}
+use Rattle.ec_units.specs.declared.unit.Load.{Load}
+use Rattle.ec_loads.specs.Held.{Held}
+
+-- the loads in file order, and for each whether it has no place
+pub record Left : Type 0 where
+  pub loads : List Load
+  pub unplaced : List Bool
+
+-- the bytes that the loads without a place send in h ticks
+abbrev pub demand_of : List Load → List Bool → ℕ → ℕ
+demand_of [] bs h = 0
+demand_of (l ∷ ls) [] h = 0
+demand_of (l ∷ ls) (b ∷ bs) h = (if b then l.bytes * (h / l.period) else 0) + demand_of ls bs h
+
+-- none has a place
+abbrev pub all_of : List Load → List Bool
+all_of loads = map (λ _. true) loads
+
+-- it names the units that the loads don't hold
+pub record IsRestOf (left : Left) (held : Held) : Type 0 where
+  pub loads : left.loads ≡ held.loads
+  pub unplaced : left.unplaced ≡ map (λ p. is_none p) held.places

@@ -1,0 +1,61 @@
+//! The bounds themselves; none takes memory.
+
+ghost use Rattle.std.specs.Prelude.{◌≡◌, ℕ, ◌+◌, ◌*◌, ◌<◌, ◌≤◌, ◌↔◌, IsTrue, MatchOption, None, Some};
+ghost use Rattle.ec_loads.specs.Cost.{raw_cost, sum_below};
+ghost use Rattle.ec_hyper.specs.Lcm.{lcm_of};
+ghost use Rattle.ec_units.specs.Load.{periods_of};
+ghost use Rattle.ec_loads.specs.Held.{items_of};
+ghost use Rattle.ec_loads.specs.Search.{TickHolds, FullHolds, AverageHolds};
+ghost use Rattle.ec_bounds.specs.Left.{IsRestOf};
+ghost use Rattle.ec_bounds.specs.Laws.{IsFirstFullLeaf};
+
+use crate::rest::Rest;
+use ec_loads::Loads;
+
+/// The least tick that costs at least the value, in bytes; none where there is no value.
+pub fn tick_bound(loads: &Loads, value: Option<u64>) -> Option<u32>
+    ensures { MatchOption result ((t : ℕ) → ¬ (TickHolds loads.now.loads loads.now.slots value loads.now.places t))
+        (λ t. TickHolds loads.now.loads loads.now.slots value loads.now.places t
+        × ((i : ℕ) → i < t → ¬ (TickHolds loads.now.loads loads.now.slots value loads.now.places i))) }
+{
+    let value = value?;
+    for tick in 0..loads.ticks() {
+        if loads.cost(tick) >= value {
+            return Some(tick);
+        }
+    }
+    None
+}
+
+/// The least tick, and in it the least slot, whose payload is above 1498 bytes.
+pub fn full_bound(loads: &Loads) -> Option<(u32, u8)>
+    ensures { MatchOption result ((t s : ℕ) → ¬ (FullHolds loads.now.loads loads.now.slots loads.now.places t s))
+        (λ f. IsFirstFullLeaf loads.now f.0 f.1) }
+{
+    loads.full()
+}
+
+/// The bytes without padding of the units that have a place, over a hyperperiod.
+fn raw_total(loads: &Loads) -> u64
+    ensures value { result ≡ sum_below (raw_cost (items_of loads.now) loads.now.slots) (lcm_of (periods_of loads.now.loads)) }
+    ensures bound { result ≤ 589365248 }
+{
+    let mut total = 0u64;
+    for tick in 0..loads.ticks() {
+        total += loads.raw(tick);
+    }
+    total
+}
+
+/// Whether the bytes of a hyperperiod, without padding and with those of the units that have no place, are more
+/// than one byte less than the value in each tick would hold; false where there is no value.
+pub fn average_bound(loads: &Loads, rest: &Rest, value: Option<u64>) -> bool
+    ensures { IsRestOf rest.now loads.now → (IsTrue result ↔ AverageHolds loads.now.loads loads.now.slots value loads.now.places) }
+{
+    let Some(value) = value else {
+        return false;
+    };
+    let ticks = u128::from(loads.ticks());
+    let bytes = u128::from(raw_total(loads)) + u128::from(rest.demand());
+    u128::from(value) * ticks < bytes + ticks
+}

@@ -1,0 +1,13 @@
+//! Bounds: why a prefix of a plan can't become a plan whose busiest tick is cheaper than a value.
+#![tactic(auto)]
+
+mod bound;
+mod law;
+mod rest;
+
+pub use bound::{average_bound, full_bound, tick_bound};
+pub use law::leaves_bound;
+pub use rest::Rest;
+
+#[cfg(test)]
+mod tests;
