@@ -1,0 +1,90 @@
+-- Which places are children.
+use Rattle.std.proofs.Common.{◌≡◌, ℕ, zero, suc, ◌+◌, ◌<◌, ◌≤◌, ◌⊎◌, min, List, [], ◌∷◌, ◌++◌, map, get_or, refl, sym, ap, subst, arith, inl, inr}
+use Rattle.std.specs.List.{flat_map, range_with_len}
+use Rattle.std.proofs.lemmas.Bool.{cases_eq}
+use Rattle.ec_units.specs.declared.slave.Place.{Place}
+use Rattle.ec_units.specs.declared.unit.Load.{Load}
+use Rattle.ec_loads.specs.Search.{Prefix, used, nobody, children}
+use Rattle.ec_symmetry.specs.Reached.{In, here, there}
+
+pub In-cases : {A : Type 0} {x y : A} {xs : List A} → In x (y ∷ xs) → (x ≡ y) ⊎ In x xs
+In-cases here = inl refl
+In-cases (there m) = inr m
+
+In-range : (x a n : ℕ) → a ≤ x → x < a + n → In x (range_with_len a n)
+In-range x a zero low high = absurd (omega arith)
+In-range x a (suc n) low high =
+    elim (cases_eq x a) [
+      | inl is ↦ subst (λ w. In w (a ∷ range_with_len (a + 1) n)) (sym is) here
+      | inr apart ↦ there (In-range x (a + 1) n (omega arith) (omega arith))
+    ]
+
+In-map : {A B : Type 0} (f : A → B) {x : A} {xs : List A} → In x xs → In (f x) (map f xs)
+In-map f here = here
+In-map f (there m) = there (In-map f m)
+
+In-left : {A : Type 0} {x : A} {xs : List A} (ys : List A) → In x xs → In x (xs ++ ys)
+In-left ys here = here
+In-left ys (there m) = there (In-left ys m)
+
+In-right : {A : Type 0} {x : A} (xs : List A) {ys : List A} → In x ys → In x (xs ++ ys)
+In-right [] m = m
+In-right (y ∷ xs) m = there (In-right xs m)
+
+In-flat_map : {A B : Type 0} (f : A → List B) {x : A} {y : B} {xs : List A} → In x xs → In y (f x) → In y (flat_map f xs)
+In-flat_map f (here {x} {xs}) m = In-left (flat_map f xs) m
+In-flat_map f (there {x} {y = z} {xs} k) m = In-right (f z) (In-flat_map f k m)
+
+-- which places are children
+pub In-children : (loads : List Load) (n : ℕ) (ps : Prefix) (u : ℕ) (p : Place) → p.phase < (get_or loads u nobody).period → p.slot ≤ used ps → p.slot < n → In p (children loads n ps u)
+In-children loads n ps u p phase low slot =
+    let row : ℕ → List Place = λ f. map (λ s. record { phase = f; slot = s }) (range_with_len 0 (min (suc (used ps)) n)) in
+    In-flat_map row (In-range p.phase 0 (get_or loads u nobody).period (omega arith) (omega arith))
+    (In-map (λ s. record { phase = p.phase; slot = s }) (In-range p.slot 0 (min (suc (used ps)) n) (omega arith) (omega arith)))
+
+range-In : (x a n : ℕ) → In x (range_with_len a n) → (a ≤ x) × (x < a + n)
+range-In x a zero m = elim m [ ]
+range-In x a (suc n) m =
+    elim (In-cases m) [
+      | inl is ↦ (omega arith, omega arith)
+      | inr later ↦ let r = range-In x (a + 1) n later in (omega (arith, r.0), omega (arith, r.1))
+    ]
+
+map-In : {A B : Type 0} (f : A → B) (y : B) (xs : List A) → In y (map f xs) → (x : A) × In x xs × (y ≡ f x)
+map-In f y [] m = elim m [ ]
+map-In f y (x ∷ xs) m =
+    elim (In-cases m) [
+      | inl is ↦ (x, here, is)
+      | inr later ↦ let r = map-In f y xs later in (r.0, there r.1, r.2)
+    ]
+
+append-In : {A : Type 0} (x : A) (xs ys : List A) → In x (xs ++ ys) → In x xs ⊎ In x ys
+append-In x [] ys m = inr m
+append-In x (z ∷ xs) ys m =
+    elim (In-cases m) [
+      | inl is ↦ inl (subst (λ w. In w (z ∷ xs)) (sym is) here)
+      | inr later ↦ elim (append-In x xs ys later) [
+        | inl left ↦ inl (there left)
+        | inr right ↦ inr right
+      ]
+    ]
+
+flat_map-In : {A B : Type 0} (f : A → List B) (y : B) (xs : List A) → In y (flat_map f xs) → (x : A) × In x xs × In y (f x)
+flat_map-In f y [] m = elim m [ ]
+flat_map-In f y (x ∷ xs) m =
+    elim (append-In y (f x) (flat_map f xs) m) [
+      | inl left ↦ (x, here, left)
+      | inr right ↦ let r = flat_map-In f y xs right in (r.0, there r.1, r.2)
+    ]
+
+-- and they are within these limits
+pub children-In : (loads : List Load) (n : ℕ) (ps : Prefix) (u : ℕ) (p : Place) → In p (children loads n ps u) → (p.phase < (get_or loads u nobody).period) × (p.slot ≤ used ps) × (p.slot < n)
+children-In loads n ps u p m =
+    let row : ℕ → List Place = λ f. map (λ s. record { phase = f; slot = s }) (range_with_len 0 (min (suc (used ps)) n)) in
+    let f = flat_map-In row p (range_with_len 0 (get_or loads u nobody).period) m in
+    let s = map-In (λ s. let q : Place = record { phase = f.0; slot = s } in q) p (range_with_len 0 (min (suc (used ps)) n)) f.2 in
+    let phase : p.phase ≡ f.0 = ap (λ (w : Place). w.phase) s.2 in
+    let slot : p.slot ≡ s.0 = ap (λ (w : Place). w.slot) s.2 in
+    let low = range-In f.0 0 (get_or loads u nobody).period f.1 in
+    let high = range-In s.0 0 (min (suc (used ps)) n) s.1 in
+    (omega (arith, low.1, phase), omega (arith, high.1, slot), omega (arith, high.1, slot))

@@ -1,0 +1,9 @@
+pub mod SlotLemmas
+pub mod ChoiceLemmas
+pub mod SwapLemmas
+pub mod UsedLemmas
+pub mod CanonLemmas
+pub mod RenameLemmas
+pub mod SetLemmas
+pub mod InLemmas
+pub mod ReachLemmas

@@ -1,0 +1,15 @@
+//! The places that a search tries for a unit, and plans whose slots are renamed so that it finds them.
+#![tactic(auto)]
+
+mod child;
+mod law;
+mod rename;
+mod slots;
+
+pub use child::{Children, choices};
+pub use law::{every_plan_is_reached, slots_have_no_gap};
+pub use rename::canonical;
+pub use slots::used_slots;
+
+#[cfg(test)]
+mod tests;

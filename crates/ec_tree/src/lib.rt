@@ -1,0 +1,6 @@
+//! What a search tree means: a tree for the empty prefix bounds every legal plan.
+#![tactic(auto)]
+
+mod law;
+
+pub use law::trees_bound;
