@@ -1,0 +1,13 @@
+pub mod ByteLaws
+pub mod DecimalLemmas
+pub mod HeadLaws
+pub mod LineLemmas
+pub mod ManyLaws
+pub mod ManyLemmas
+pub mod NameLemmas
+pub mod NodeLaws
+pub mod NumberLemmas
+pub mod TextLaws
+pub mod TreeLemmas
+pub mod WordLaws
+pub mod WriteLemmas

@@ -1,0 +1,47 @@
+-- A tree in memory, level by level.
+use Rattle.std.proofs.Common.{◌≡◌, ◌↔◌, ℕ, zero, suc, ◌+◌, ◌-◌, ◌<◌, ◌≤◌, List, [], ◌∷◌, length, drop, get_or, map, Vec, Global, refl, ap, sym, subst, ◌∙◌, arith, rules}
+use Rattle.std.proofs.lemmas.List.{drop_more, drop_all}
+use Rattle.ec_loads.specs.Shape.{Shape, split, Shapes, no_shapes, more, shape_count}
+use Rattle.ec_cert.specs.Shapes.{shape_of, shapes_of, shapes}
+use Rattle.ec_cert.specs.Text.{HasLevels, HaveLevels}
+use Rattle.ec_cert.specs.declared.tree.Tree.{Tree, Split, the_lemmas}
+
+pub shape_of-Split : (v : Vec Tree Global) → shape_of (Split v) ≡ split (shapes_of v.items)
+shape_of-Split v = search (rules, the_lemmas)
+
+pub shape_count-shapes : (ss : List Shape) → shape_count (shapes ss) ≡ length ss
+shape_count-shapes [] = refl
+shape_count-shapes (s ∷ ss) = ap suc (shape_count-shapes ss)
+
+pub shape_count-shapes_of : (ts : List Tree) → shape_count (shapes_of ts) ≡ length ts
+shape_count-shapes_of [] = refl
+shape_count-shapes_of (t ∷ ts) = ap suc (shape_count-shapes_of ts)
+
+pub shapes_of-drop : (ts : List Tree) (i : ℕ) (d : Tree) → i < length ts → shapes_of (drop i ts) ≡ more (shape_of (get_or ts i d)) (shapes_of (drop (i + 1) ts))
+shapes_of-drop ts i d h = ap shapes_of (drop_more ts i d h)
+
+-- what has been looked at has the levels, so the rest decides
+abbrev pub SameLevels : ℕ → List Tree → ℕ → Type 0
+SameLevels d ts i = HaveLevels d (shapes_of (drop i ts)) ↔ HaveLevels d (shapes_of ts)
+
+pub levels_more : (d : ℕ) (ts : List Tree) (i : ℕ) (t : Tree) → i < length ts → HasLevels d (shape_of (get_or ts i t)) → SameLevels d ts i → SameLevels d ts (i + 1)
+levels_more d ts i t h here same =
+    let e = shapes_of-drop ts i t h in
+    (λ rest. same.0 (subst (HaveLevels d) (sym e) (here, rest)), λ all. (subst (HaveLevels d) e (same.1 all)).1)
+
+pub levels_here : (d : ℕ) (ts : List Tree) (i : ℕ) (t : Tree) → i < length ts → SameLevels d ts i → HaveLevels d (shapes_of ts) → HasLevels d (shape_of (get_or ts i t))
+levels_here d ts i t h same all = (subst (HaveLevels d) (shapes_of-drop ts i t h) (same.1 all)).0
+
+pub levels_end : (d : ℕ) (ts : List Tree) (i : ℕ) → length ts ≤ i → SameLevels d ts i → HaveLevels d (shapes_of ts)
+levels_end d ts i h same = same.0 (subst (λ l. HaveLevels d (shapes_of l)) (sym (drop_all i ts h)) tt)
+
+pub levels_split : (d : ℕ) (t : Tree) (v : Vec Tree Global) → (0 < d) → t ≡ Split v
+    → HasLevels d (shape_of t) ↔ ((1 ≤ length v.items) × (length v.items ≤ 480) × HaveLevels (d - 1) (shapes_of v.items))
+levels_split zero t v pos is = absurd (omega arith)
+levels_split (suc d) t v pos is =
+    let e : shape_of t ≡ split (shapes_of v.items) = ap shape_of is ∙ shape_of-Split v in
+    let n : shape_count (shapes_of v.items) ≡ length v.items = shape_count-shapes_of v.items in
+    let down : suc d - 1 ≡ d = omega arith in (
+      λ has. let (low, high, all) = subst (HasLevels (suc d)) e has in (omega arith, omega arith, rw down all),
+      λ parts. let below : HaveLevels d (shapes_of v.items) = subst (λ k. HaveLevels k (shapes_of v.items)) down parts.2 in subst (HasLevels (suc d)) (sym e) (omega arith, omega arith, below),
+    )

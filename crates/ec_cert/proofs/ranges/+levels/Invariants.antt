@@ -1,0 +1,6 @@
+use Rattle.std.proofs.Common.{◌↔◌}
+use Rattle.ec_cert.proofs.TreeLemmas.{SameLevels}
+use Rattle.ec_cert.proofs.ranges.+levels.Given as goal
+
+abbrev pub invariant-have_levels-children : goal.invariant-have_levels-children
+invariant-have_levels-children l = SameLevels l.levels l.tree-items l.tree-index

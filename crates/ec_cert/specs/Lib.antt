@@ -1,0 +1,4 @@
+pub mod Reading
+pub mod Shapes
+pub mod Text
+pub mod Views

@@ -1,0 +1,32 @@
+//! Certificates, and parts of search trees with what they show.
+
+use crate::lists::UnitLines;
+use crate::order::Order;
+use crate::tree::Tree;
+use ec_loads::Plan;
+
+/// A plan with the greatest cost of a tick under it, in wire bytes.
+#[derive(Debug, Drop)]
+pub struct Best {
+    pub busiest: u64,
+    pub plan: Plan,
+}
+
+/// A certificate (own profile): for which units, slots and order of the units which tree shows that no legal plan
+/// is better than the best one, or without a best one, that no plan is legal.
+#[derive(Debug, Drop)]
+pub struct Cert {
+    pub version: u8,
+    pub slots: u8,
+    pub units: UnitLines,
+    pub order: Order,
+    pub best: Option<Best>,
+    pub tree: Tree,
+}
+
+/// A tree whose leaves hold at the threshold; no threshold is above every number.
+#[derive(Debug, Drop)]
+pub struct Subtree {
+    pub threshold: Option<u64>,
+    pub tree: Tree,
+}

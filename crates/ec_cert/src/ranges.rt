@@ -1,0 +1,133 @@
+//! Which certificates have a text.
+
+ghost use Rattle.std.specs.Prelude.{◌≡◌, ℕ, ◌<◌, ◌≤◌, ◌↔◌, length, IsTrue};
+ghost use Rattle.std.specs.List.{All, list_all};
+ghost use Rattle.ec_units.specs.Names.{is_name as is_name_spec, is_name_byte as is_name_byte_spec};
+ghost use Rattle.ec_cert.specs.Shapes.{shape_of, shapes_of, cert_view};
+ghost use Rattle.ec_cert.specs.Text.{HasLevels, HaveLevels, IsUnitLine, IsPlaceLine, IsBest, IsBestOrNone, IsWellFormed};
+
+use crate::cert::{Best, Cert};
+use crate::lists::UnitLine;
+use crate::tree::Tree;
+use ec_units::Place;
+
+/// The most levels of a tree: no node has more than 48 splits above it.
+pub(crate) const LEVELS: u8 = 49;
+
+fn is_name_byte(byte: u8) -> bool
+    ensures { result ≡ is_name_byte_spec byte }
+{
+    byte.is_ascii_lowercase()
+        || byte.is_ascii_uppercase()
+        || byte.is_ascii_digit()
+        || byte == b'_'
+        || byte == b'-'
+}
+
+fn are_name_bytes(bytes: &[u8]) -> bool
+    ensures { result ≡ list_all is_name_byte_spec bytes.now }
+{
+    bytes.iter().all(|byte| is_name_byte(*byte))
+}
+
+/// Whether these bytes are 1 to 32 of a-z, A-Z, 0-9, `_` and `-`.
+pub(crate) fn is_name(bytes: &[u8]) -> bool
+    ensures { result ≡ is_name_spec bytes.now }
+{
+    1 <= bytes.len() && bytes.len() <= 32 && are_name_bytes(bytes)
+}
+
+fn is_unit_line(unit: &UnitLine) -> bool
+    ensures { IsTrue result ↔ IsUnitLine unit.now }
+{
+    is_name(unit.name.as_str().as_bytes())
+        && 1 <= unit.bytes
+        && unit.bytes <= 1486
+        && 1 <= unit.period
+        && unit.period <= 60
+}
+
+fn are_unit_lines(units: &[UnitLine]) -> bool
+    ensures { IsTrue result ↔ All IsUnitLine units.now }
+{
+    units.iter().all(is_unit_line)
+}
+
+fn are_below(order: &[u8], units: usize) -> bool
+    ensures { IsTrue result ↔ All (λ i. i < units) order.now }
+{
+    order.iter().all(|unit| usize::from(*unit) < units)
+}
+
+fn are_places(places: &[Place]) -> bool
+    ensures { IsTrue result ↔ All IsPlaceLine places.now }
+{
+    places
+        .iter()
+        .all(|place| place.phase <= 59 && place.slot <= 7)
+}
+
+fn is_best(best: &Best, units: usize) -> bool
+    ensures { IsTrue result ↔ IsBest units best.now }
+{
+    let places = best.plan.places.as_slice();
+    84 <= best.busiest && best.busiest <= 12304 && places.len() == units && are_places(places)
+}
+
+fn is_child_count(count: usize) -> bool
+    ensures { IsTrue result ↔ ((1 ≤ count) × (count ≤ 480)) }
+{
+    1 <= count && count <= 480
+}
+
+/// Whether the numbers of a tree are in range, no leaf is open, and it has at most so many levels.
+#[cycle(levels)]
+fn has_levels(tree: &Tree, levels: u8) -> bool
+    ensures { IsTrue result ↔ HasLevels levels (shape_of tree.now) }
+{
+    if levels == 0 {
+        return false;
+    }
+    match tree {
+        Tree::Split(trees) => is_child_count(trees.len()) && have_levels(trees, levels - 1),
+        Tree::TickLeaf(tick) => *tick <= 1023,
+        Tree::FullLeaf(tick, slot) => *tick <= 1023 && *slot <= 7,
+        Tree::Average => true,
+        Tree::OpenLeaf => false,
+    }
+}
+
+#[cycle(levels)]
+fn have_levels(trees: &Vec<Tree>, levels: u8) -> bool
+    ensures { IsTrue result ↔ HaveLevels levels (shapes_of trees.now.items) }
+{
+    'children: for tree in trees {
+        if !has_levels(tree, levels) {
+            return false;
+        }
+    }
+    true
+}
+
+/// Whether a certificate has a text: its parts are in the ranges of the text and of version 1, its counts agree,
+/// and no node has more than 48 splits above it. Takes no memory.
+pub fn well_formed(cert: &Cert) -> bool
+    ensures { IsTrue result ↔ IsWellFormed (cert_view cert.now) }
+{
+    let units = cert.units.as_slice();
+    let order = cert.order.as_slice();
+    let is_best_right = match &cert.best {
+        None => true,
+        Some(best) => is_best(best, units.len()),
+    };
+    cert.version == 1
+        && 1 <= cert.slots
+        && cert.slots <= 8
+        && 1 <= units.len()
+        && units.len() <= 48
+        && are_unit_lines(units)
+        && order.len() == units.len()
+        && are_below(order, units.len())
+        && is_best_right
+        && has_levels(&cert.tree, LEVELS)
+}

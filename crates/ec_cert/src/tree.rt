@@ -1,0 +1,16 @@
+//! Search trees.
+
+/// A search tree (own profile). Ticks and slots are numbered from 0.
+#[derive(Debug, Drop)]
+pub enum Tree {
+    /// A tree for each child, in the order of the children.
+    Split(Vec<Tree>),
+    /// Closed: this tick costs at least the value.
+    TickLeaf(u32),
+    /// Closed: the payload of this slot in this tick is too large.
+    FullLeaf(u32, u8),
+    /// Closed: some tick costs at least the value, by the average of all.
+    Average,
+    /// Left open; no text of version 1 has it.
+    OpenLeaf,
+}

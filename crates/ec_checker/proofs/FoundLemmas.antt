@@ -1,0 +1,92 @@
+-- What is found in a tree: it is one, or it isn't and the fault is a node's.
+use Rattle.std.proofs.Common.{◌≡◌, ℕ, zero, suc, ◌+◌, ◌*◌, ◌<◌, ◌≤◌, ◌==◌, ◌&&◌, nat_le, nat_lt, if◌then◌else◌, Bool, true, false, List, [], ◌∷◌, length, set, Option, Some, None, Result, Ok, Err, MatchResult, refl, ap, sym, subst, ◌∙◌, arith}
+use Rattle.std.proofs.lemmas.Bool.{eqb-true, eq-eqb, leb-true, le-leb, ltb-true, lt-ltb, false≢true}
+use Rattle.ec_hyper.specs.Lcm.{lcm_of}
+use Rattle.ec_units.specs.declared.slave.Place.{Place}
+use Rattle.ec_units.specs.declared.unit.Load.{Load}
+use Rattle.ec_units.specs.Load.{periods_of}
+use Rattle.ec_loads.specs.Cost.{items, payload, tick_cost}
+use Rattle.ec_loads.specs.Shape.{Shape, Shapes, split, tick, full, average, open_leaf, no_shapes, more, shape_count}
+use Rattle.ec_loads.specs.Search.{Prefix, children, least_raw, TickHolds, FullHolds, AverageHolds, TreeWith, TreesWith}
+use Rattle.ec_checker.specs.declared.fault.CheckFault.{CheckFault}
+use Rattle.ec_checker.specs.declared.fault.CheckFault.TheVariants as fault
+use Rattle.ec_checker.specs.Certified.{IsNodeFault}
+use Rattle.ec_checker.specs.Judged.{next, tick_holds, full_holds, average_holds, leaf_judged, then_judged, tree_judged, trees_judged}
+
+-- yes where it holds, and else the fault of a node
+abbrev pub Found : Type 0 → Result ℕ CheckFault → Type 0
+Found P r = MatchResult r (λ _. P) (λ e. IsNodeFault e × (¬ P))
+
+abbrev closed : Prefix → List ℕ → Type 0
+closed ps order = ⊥
+
+found_leaf : (P : Type 0) (b : Bool) (k : ℕ) → (b ≡ true → P) → (P → b ≡ true) → Found P (leaf_judged b k)
+found_leaf P true k to back = to refl
+found_leaf P false k to back = (tt, λ p. false≢true (back p))
+
+found_and : (P Q : Type 0) (r : Result ℕ CheckFault) → P → Found Q r → Found (P × Q) r
+found_and P Q (Ok k) p q = (p, q)
+found_and P Q (Err e) p q = (q.0, λ h. q.1 h.1)
+
+found_then : (P Q : Type 0) (r : Result ℕ CheckFault) (f : ℕ → Result ℕ CheckFault) → Found P r → ((k : ℕ) → Found Q (f k)) → Found (P × Q) (then_judged r f)
+found_then P Q (Ok k) f p q = found_and P Q (f k) p (q k)
+found_then P Q (Err e) f p q = (p.0, λ h. p.1 h.0)
+
+-- the leaves
+found_tick : (loads : List Load) (n : ℕ) (v : Option ℕ) (ps : Prefix) (t k : ℕ) → Found (TickHolds loads n v ps t) (leaf_judged (tick_holds loads n v ps t) k)
+found_tick loads n None ps t k = (tt, λ h. let e = h.1 in absurd cc)
+found_tick loads n (Some b) ps t k =
+    found_leaf (TickHolds loads n (Some b) ps t) (nat_le b (tick_cost (items loads ps) n t)) k
+    (λ e. (b, refl, leb-true b (tick_cost (items loads ps) n t) e))
+    (λ h. let e : b ≡ h.0 = cc in le-leb b (tick_cost (items loads ps) n t) (subst (λ w. w ≤ tick_cost (items loads ps) n t) (sym e) h.2))
+
+and_parts : (a b : Bool) → (a && b) ≡ true → (a ≡ true) × (b ≡ true)
+and_parts true b h = (refl, h)
+and_parts false b h = absurd (false≢true h)
+
+found_full : (loads : List Load) (n : ℕ) (ps : Prefix) (t s k : ℕ) → Found (FullHolds loads n ps t s) (leaf_judged (full_holds loads n ps t s) k)
+found_full loads n ps t s k =
+    found_leaf (FullHolds loads n ps t s) (full_holds loads n ps t s) k
+    (λ e. let parts = and_parts (nat_lt s n) (nat_lt 1498 (payload (items loads ps) t s)) e in (ltb-true s n parts.0, ltb-true 1498 (payload (items loads ps) t s) parts.1))
+    (λ h. λ j. lt-ltb s n h.0 j && lt-ltb 1498 (payload (items loads ps) t s) h.1 j)
+
+found_average : (loads : List Load) (n : ℕ) (v : Option ℕ) (ps : Prefix) (k : ℕ) → Found (AverageHolds loads n v ps) (leaf_judged (average_holds loads n v ps) k)
+found_average loads n None ps k = (tt, λ h. let e = h.1 in absurd cc)
+found_average loads n (Some b) ps k =
+    let m = lcm_of (periods_of loads) in
+    found_leaf (AverageHolds loads n (Some b) ps) (nat_lt (b * m) (least_raw loads n ps m + m)) k
+    (λ e. (b, refl, ltb-true (b * m) (least_raw loads n ps m + m) e))
+    (λ h. let e : b ≡ h.0 = cc in lt-ltb (b * m) (least_raw loads n ps m + m) (subst (λ w. w * m < least_raw loads n ps m + m) (sym e) h.2))
+
+-- as many trees as children
+trees_count : (loads : List Load) (n : ℕ) (v : Option ℕ) (ts : Shapes) (ps : Prefix) (u : ℕ) (order : List ℕ) (places : List Place) → TreesWith closed loads n v ts ps u order places → shape_count ts ≡ length places
+trees_count loads n v no_shapes ps u order [] h = refl
+trees_count loads n v no_shapes ps u order (p ∷ rest) h = absurd h
+trees_count loads n v (more t ts) ps u order [] h = absurd h
+trees_count loads n v (more t ts) ps u order (p ∷ rest) h = ap suc (trees_count loads n v ts ps u order rest h.1)
+
+found_split : (P : Type 0) (b : Bool) (r : Result ℕ CheckFault) (k want got : ℕ) → (b ≡ true → Found P r) → (P → b ≡ true) → Found P (if b then r else Err (fault.Children k want got))
+found_split P true r k want got to back = to refl
+found_split P false r k want got to back = (tt, λ p. false≢true (back p))
+
+mutual
+  pub found_tree : (loads : List Load) (n : ℕ) (v : Option ℕ) (t : Shape) (ps : Prefix) (order : List ℕ) (k : ℕ) → Found (TreeWith closed loads n v t ps order) (tree_judged loads n v t ps order k)
+  found_tree loads n v (split ts) ps [] k = (tt, λ h. h)
+  found_tree loads n v (split ts) ps (u ∷ order) k =
+      let kids = children loads n ps u in
+      found_split (TreesWith closed loads n v ts ps u order kids) (shape_count ts == length kids) (trees_judged loads n v ts ps u order kids (next k)) k (length kids) (shape_count ts)
+      (λ e. found_trees loads n v ts ps u order kids (next k) (eqb-true (shape_count ts) (length kids) e))
+      (λ h. eq-eqb (shape_count ts) (length kids) (trees_count loads n v ts ps u order kids h))
+  found_tree loads n v (tick t) ps order k = found_tick loads n v ps t k
+  found_tree loads n v (full t s) ps order k = found_full loads n ps t s k
+  found_tree loads n v average ps order k = found_average loads n v ps k
+  found_tree loads n v open_leaf ps order k = (tt, λ h. h)
+
+  found_trees : (loads : List Load) (n : ℕ) (v : Option ℕ) (ts : Shapes) (ps : Prefix) (u : ℕ) (order : List ℕ) (places : List Place) (k : ℕ) → shape_count ts ≡ length places → Found (TreesWith closed loads n v ts ps u order places) (trees_judged loads n v ts ps u order places k)
+  found_trees loads n v no_shapes ps u order [] k e = tt
+  found_trees loads n v no_shapes ps u order (p ∷ rest) k e = absurd (omega (arith, e))
+  found_trees loads n v (more t ts) ps u order [] k e = absurd (omega (arith, e))
+  found_trees loads n v (more t ts) ps u order (p ∷ rest) k e =
+      found_then (TreeWith closed loads n v t (set ps u (Some p)) order) (TreesWith closed loads n v ts ps u order rest) (tree_judged loads n v t (set ps u (Some p)) order k) (λ j. trees_judged loads n v ts ps u order rest j)
+      (found_tree loads n v t (set ps u (Some p)) order k)
+      (λ j. found_trees loads n v ts ps u order rest j (omega (arith, e)))

@@ -1,0 +1,5 @@
+pub mod CheckLemmas
+pub mod FoundLemmas
+pub mod HeadLemmas
+pub mod SlotLemmas
+pub mod WalkLemmas

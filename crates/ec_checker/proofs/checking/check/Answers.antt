@@ -1,0 +1,76 @@
+use Rattle.std.proofs.Common.{◌≡◌, ℕ, length, List, map, is_none, Some, None, Result, Ok, Err, refl, ap, sym, subst, ◌∙◌}
+use Rattle.std.proofs.lemmas.List.{length-map}
+use Rattle.std.proofs.lemmas.Result.{err_from_is_err_and}
+use Rattle.ec_units.specs.Load.{load_of, loads_of}
+use Rattle.ec_loads.specs.Held.{Held, no_places}
+use Rattle.ec_cert.specs.Shapes.{cert_view}
+use Rattle.ec_checker.specs.Certified.{IsFor, IsOrder, IsBestPlan, HasHead, IsCertified, IsFaultOf, IsAnswer, value_of, tree_found}
+use Rattle.ec_checker.specs.Judged.{IsReady}
+use Rattle.ec_checker.proofs.HeadLemmas.{order_ready, empty_rest}
+use Rattle.ec_checker.proofs.CheckLemmas.{tree_from, fault_from, verdict_some, verdict_none, claim_from, found_is}
+use Rattle.ec_checker.proofs.checking.check.Goals as goal
+
+pub walk-requires-clause-ready : goal.walk-requires-clause-ready
+walk-requires-clause-ready c =
+    let us = c.args.units.now.units in
+    let order : IsOrder (length us) c.as_slice-order.result.now = subst (λ w. IsOrder (length w) c.as_slice-order.result.now) c.as_slice.ensures (c.if-not-is_order.ensures.0 refl) in
+    subst (λ (h : Held). IsReady h.places c.as_slice-order.result.now) (sym c.in_ok-loads.ensures)
+    (order_ready (loads_of us) (length us) c.as_slice-order.result.now (sym (length-map us load_of)) order)
+
+pub walk-requires-clause-left : goal.walk-requires-clause-left
+walk-requires-clause-left c = empty_rest (loads_of c.args.units.now.units) c.args.units.now.slots c.in_ok-loads.loads c.all-rest.result c.in_ok-loads.ensures c.all-rest.ensures
+
+pub returns-in_err-walk-clause-exact : goal.returns-in_err-walk-clause-exact
+returns-in_err-walk-clause-exact c =
+    let us = c.args.units.now.units in
+    let n = c.args.units.now.slots in
+    let v = cert_view c.args.cert.now in
+    let order : IsOrder (length us) v.order = subst (λ w. IsOrder (length w) v.order) c.as_slice.ensures (subst (IsOrder (length c.as_slice.result.now)) c.as_slice-order.ensures (c.if-not-is_order.ensures.0 refl)) in
+    let head : HasHead us n v = record { same = c.if-not-is_for.ensures.0 refl; order = order; best = c.in_ok-value.ensures.ok.1 } in
+    let found = found_is (loads_of us) n v c.in_ok-loads.loads c.in_ok-value.value c.as_slice-order.result.now c.walk.result c.in_ok-loads.ensures c.in_ok-value.ensures.ok.0 c.as_slice-order.ensures c.walk.ensures.judged in
+    let p = err_from_is_err_and c.from_residual-in_err-walk.result c.from_residual-in_err-walk.ensures.1 in
+    rw (p.1, p.2) (fault_from us n v c.in_err-walk.field-0.0 head (sym found ∙ c.in_err-walk.was))
+
+pub returns-in-Some-clause-exact : goal.returns-in-Some-clause-exact
+returns-in-Some-clause-exact c =
+    let us = c.args.units.now.units in
+    let n = c.args.units.now.slots in
+    let v = cert_view c.args.cert.now in
+    let order : IsOrder (length us) v.order = subst (λ w. IsOrder (length w) v.order) c.as_slice.ensures (subst (IsOrder (length c.as_slice.result.now)) c.as_slice-order.ensures (c.if-not-is_order.ensures.0 refl)) in
+    let head : HasHead us n v = record { same = c.if-not-is_for.ensures.0 refl; order = order; best = c.in_ok-value.ensures.ok.1 } in
+    let found = found_is (loads_of us) n v c.in_ok-loads.loads c.in_ok-value.value c.as_slice-order.result.now c.walk.result c.in_ok-loads.ensures c.in_ok-value.ensures.ok.0 c.as_slice-order.ensures c.walk.ensures.judged in
+    let yes_of : IsCertified us n v = record { head = head; tree = tree_from (loads_of us) n v c.in_ok-walk.field-0 (sym found ∙ c.in_ok-walk.was) } in
+    (yes_of, verdict_some v.best c.in_ok-value.value c.in-Some.value c.in-Some.is c.in_ok-value.ensures.ok.0)
+
+pub returns-in-Some-clause-sound : goal.returns-in-Some-clause-sound
+returns-in-Some-clause-sound c =
+    let us = c.args.units.now.units in
+    let n = c.args.units.now.slots in
+    let v = cert_view c.args.cert.now in
+    let order : IsOrder (length us) v.order = subst (λ w. IsOrder (length w) v.order) c.as_slice.ensures (subst (IsOrder (length c.as_slice.result.now)) c.as_slice-order.ensures (c.if-not-is_order.ensures.0 refl)) in
+    let head : HasHead us n v = record { same = c.if-not-is_for.ensures.0 refl; order = order; best = c.in_ok-value.ensures.ok.1 } in
+    let found = found_is (loads_of us) n v c.in_ok-loads.loads c.in_ok-value.value c.as_slice-order.result.now c.walk.result c.in_ok-loads.ensures c.in_ok-value.ensures.ok.0 c.as_slice-order.ensures c.walk.ensures.judged in
+    let yes_of : IsCertified us n v = record { head = head; tree = tree_from (loads_of us) n v c.in_ok-walk.field-0 (sym found ∙ c.in_ok-walk.was) } in
+    claim_from c.trees_bound.ensures us n v _ yes_of (verdict_some v.best c.in_ok-value.value c.in-Some.value c.in-Some.is c.in_ok-value.ensures.ok.0)
+
+pub returns-clause-exact : goal.returns-clause-exact
+returns-clause-exact c =
+    let us = c.args.units.now.units in
+    let n = c.args.units.now.slots in
+    let v = cert_view c.args.cert.now in
+    let order : IsOrder (length us) v.order = subst (λ w. IsOrder (length w) v.order) c.as_slice.ensures (subst (IsOrder (length c.as_slice.result.now)) c.as_slice-order.ensures (c.if-not-is_order.ensures.0 refl)) in
+    let head : HasHead us n v = record { same = c.if-not-is_for.ensures.0 refl; order = order; best = c.in_ok-value.ensures.ok.1 } in
+    let found = found_is (loads_of us) n v c.in_ok-loads.loads c.in_ok-value.value c.as_slice-order.result.now c.walk.result c.in_ok-loads.ensures c.in_ok-value.ensures.ok.0 c.as_slice-order.ensures c.walk.ensures.judged in
+    let yes_of : IsCertified us n v = record { head = head; tree = tree_from (loads_of us) n v c.in_ok-walk.field-0 (sym found ∙ c.in_ok-walk.was) } in
+    (yes_of, verdict_none v.best c.in_ok-value.value c.in-None.is c.in_ok-value.ensures.ok.0)
+
+pub returns-clause-sound : goal.returns-clause-sound
+returns-clause-sound c =
+    let us = c.args.units.now.units in
+    let n = c.args.units.now.slots in
+    let v = cert_view c.args.cert.now in
+    let order : IsOrder (length us) v.order = subst (λ w. IsOrder (length w) v.order) c.as_slice.ensures (subst (IsOrder (length c.as_slice.result.now)) c.as_slice-order.ensures (c.if-not-is_order.ensures.0 refl)) in
+    let head : HasHead us n v = record { same = c.if-not-is_for.ensures.0 refl; order = order; best = c.in_ok-value.ensures.ok.1 } in
+    let found = found_is (loads_of us) n v c.in_ok-loads.loads c.in_ok-value.value c.as_slice-order.result.now c.walk.result c.in_ok-loads.ensures c.in_ok-value.ensures.ok.0 c.as_slice-order.ensures c.walk.ensures.judged in
+    let yes_of : IsCertified us n v = record { head = head; tree = tree_from (loads_of us) n v c.in_ok-walk.field-0 (sym found ∙ c.in_ok-walk.was) } in
+    claim_from c.trees_bound.ensures us n v _ yes_of (verdict_none v.best c.in_ok-value.value c.in-None.is c.in_ok-value.ensures.ok.0)

@@ -1,0 +1,105 @@
+-- Which certificates the checker says yes to, what a yes claims, and what each fault says.
+use Rattle.std.specs.Prelude.{◌≡◌, ◌≢◌, ℕ, ◌<◌, ◌==◌, Bool, false, List, map, length, Option, Some, None, Result, Ok, Err, All}
+use Rattle.ec_units.specs.declared.unit.Unit.{Unit as SyncUnit}
+use Rattle.ec_units.specs.declared.unit.Load.{Load}
+use Rattle.ec_units.specs.Bytes.{bytes_of_slaves}
+use Rattle.ec_units.specs.Load.{loads_of}
+use Rattle.ec_units.specs.Together.{has_same}
+use Rattle.ec_loads.specs.Cost.{plan_items, IsBusiest}
+use Rattle.ec_loads.specs.Held.{no_places}
+use Rattle.ec_loads.specs.Legal.{IsLegal, IsIllegalBy}
+use Rattle.ec_loads.specs.Search.{IsTree, IsLeast, HasNoPlan}
+use Rattle.ec_cert.specs.declared.lists.UnitLine.{UnitLine}
+use Rattle.ec_cert.specs.declared.cert.Best.{Best}
+use Rattle.ec_cert.specs.Shapes.{CertView}
+use Rattle.ec_checker.specs.declared.fault.CheckFault.{CheckFault}
+use Rattle.ec_checker.specs.declared.fault.CheckFault.TheVariants as fault
+use Rattle.ec_checker.specs.declared.fault.Verdict.{Verdict}
+use Rattle.ec_checker.specs.declared.fault.Verdict.TheVariants as verdict
+use Rattle.ec_checker.specs.Judged.{tree_judged}
+
+-- what a certificate says of a unit
+abbrev pub line_of : SyncUnit → UnitLine
+line_of u = record { name = u.name; bytes = bytes_of_slaves u.slaves; period = u.period }
+
+abbrev pub lines_of : List SyncUnit → List UnitLine
+lines_of units = map line_of units
+
+-- the slots and the names, bytes and periods of the units are the same
+pub record IsFor (units : List SyncUnit) (n : ℕ) (c : CertView) : Type 0 where
+  pub slots : c.slots ≡ n
+  pub lines : c.units ≡ lines_of units
+
+-- two of these numbers are one
+abbrev pub has_repeat : List ℕ → Bool
+has_repeat order = has_same (λ a b. a == b) order
+
+-- each of so many units once
+pub record IsOrder (units : ℕ) (order : List ℕ) : Type 0 where
+  pub count : length order ≡ units
+  pub below : All (λ u. u < units) order
+  pub once : has_repeat order ≡ false
+
+abbrev pub value_of : Option Best → Option ℕ
+value_of None = None
+value_of (Some b) = Some b.busiest
+
+-- the best plan is legal and its busiest tick costs what is stated
+abbrev pub IsBestPlan : List Load → ℕ → Option Best → Type 0
+IsBestPlan loads n None = Unit {0}
+IsBestPlan loads n (Some b) = IsLegal loads n b.plan.places × IsBusiest (plan_items loads b.plan.places) n b.busiest
+
+-- all that stands before the tree is right
+pub record HasHead (units : List SyncUnit) (n : ℕ) (c : CertView) : Type 0 where
+  pub same : IsFor units n c
+  pub order : IsOrder (length units) c.order
+  pub best : IsBestPlan (loads_of units) n c.best
+
+-- the checker says yes: what stands before the tree is right, and the tree is one for the empty prefix at the value
+pub record IsCertified (units : List SyncUnit) (n : ℕ) (c : CertView) : Type 0 where
+  pub head : HasHead units n c
+  pub tree : IsTree (loads_of units) n (value_of c.best) c.tree (no_places (loads_of units)) c.order
+
+abbrev pub verdict_of : Option Best → Verdict
+verdict_of None = verdict.NoPlan
+verdict_of (Some b) = verdict.Least b.busiest
+
+-- what is found in the tree
+abbrev pub tree_found : List Load → ℕ → CertView → Result ℕ CheckFault
+tree_found loads n c = tree_judged loads n (value_of c.best) c.tree (no_places loads) c.order 0
+
+-- the fault is one of the best plan
+abbrev pub IsPlanFault : List Load → ℕ → Option Best → CheckFault → Type 0
+IsPlanFault loads n best (fault.Plan e) = (b : Best) × (best ≡ Some b) × IsIllegalBy loads n b.plan.places e × (¬ (IsLegal loads n b.plan.places))
+IsPlanFault loads n best (fault.Value stated found) =
+    (b : Best) × (best ≡ Some b) × IsLegal loads n b.plan.places × (stated ≡ b.busiest) × IsBusiest (plan_items loads b.plan.places) n found × (stated ≢ found)
+IsPlanFault loads n best e = ⊥
+
+-- the fault is one of a node
+abbrev pub IsNodeFault : CheckFault → Type 0
+IsNodeFault (fault.Children node want got) = Unit {0}
+IsNodeFault (fault.Leaf node) = Unit {0}
+IsNodeFault (fault.Depth node) = Unit {0}
+IsNodeFault e = ⊥
+
+-- the fault is there, and none that is judged before it is; memory may be refused at any point
+abbrev pub IsFaultOf : List SyncUnit → ℕ → CertView → CheckFault → Type 0
+IsFaultOf units n c fault.OutOfMemory = Unit {0}
+IsFaultOf units n c fault.OtherUnits = ¬ (IsFor units n c)
+IsFaultOf units n c fault.Order = IsFor units n c × (¬ (IsOrder (length units) c.order))
+IsFaultOf units n c (fault.Plan e) = IsFor units n c × IsOrder (length units) c.order × IsPlanFault (loads_of units) n c.best (fault.Plan e)
+IsFaultOf units n c (fault.Value stated found) = IsFor units n c × IsOrder (length units) c.order × IsPlanFault (loads_of units) n c.best (fault.Value stated found)
+IsFaultOf units n c (fault.Children node want got) = HasHead units n c × (tree_found (loads_of units) n c ≡ Err (fault.Children node want got))
+IsFaultOf units n c (fault.Leaf node) = HasHead units n c × (tree_found (loads_of units) n c ≡ Err (fault.Leaf node))
+IsFaultOf units n c (fault.Depth node) = HasHead units n c × (tree_found (loads_of units) n c ≡ Err (fault.Depth node))
+
+-- what the checker answers: yes with the verdict of the best plan, or the first fault
+abbrev pub IsAnswer : List SyncUnit → ℕ → CertView → Result Verdict CheckFault → Type 0
+IsAnswer units n c (Ok v) = IsCertified units n c × (v ≡ verdict_of c.best)
+IsAnswer units n c (Err e) = IsFaultOf units n c e
+
+-- what a verdict claims of all legal plans, and of the certificate's own
+abbrev pub IsClaim : List Load → ℕ → Option Best → Verdict → Type 0
+IsClaim loads n best (verdict.Least v) =
+    IsLeast loads n v × ((b : Best) × (best ≡ Some b) × IsLegal loads n b.plan.places × IsBusiest (plan_items loads b.plan.places) n v)
+IsClaim loads n best verdict.NoPlan = HasNoPlan loads n

@@ -1,0 +1,68 @@
+-- What is found in a tree, node by node, each before its children.
+use Rattle.std.specs.Prelude.{◌≡◌, ℕ, suc, ◌+◌, ◌*◌, ◌==◌, ◌&&◌, nat_lt, nat_le, min, Bool, false, if◌then◌else◌, List, [], ◌∷◌, length, set, slice_get, Option, Some, None, Result, Ok, Err}
+use Rattle.std.specs.List.{list_any}
+use Rattle.ec_hyper.specs.Lcm.{lcm_of}
+use Rattle.ec_units.specs.declared.slave.Place.{Place}
+use Rattle.ec_units.specs.declared.unit.Load.{Load}
+use Rattle.ec_units.specs.Load.{periods_of}
+use Rattle.ec_loads.specs.Cost.{items, payload, tick_cost}
+use Rattle.ec_loads.specs.Shape.{Shape, Shapes, split, tick, full, average, open_leaf, no_shapes, more, shape_count}
+use Rattle.ec_loads.specs.Search.{Prefix, children, least_raw}
+use Rattle.ec_checker.specs.declared.fault.CheckFault.{CheckFault}
+use Rattle.ec_checker.specs.declared.fault.CheckFault.TheVariants as fault
+
+-- a place in this slot is given
+abbrev pub has_slot : ℕ → Option Place → Bool
+has_slot s None = false
+has_slot s (Some p) = s == p.slot
+
+abbrev pub shares_slot : ℕ → Prefix → Bool
+shares_slot s ps = list_any (has_slot s) ps
+
+-- no unit of the order has a place when its turn comes
+abbrev pub IsReady : Prefix → List ℕ → Type 0
+IsReady ps [] = Unit {0}
+IsReady ps (u ∷ order) = (slice_get ps u ≡ Some None) × ((p : Place) → IsReady (set ps u (Some p)) order)
+
+-- the number of the next node, or the greatest one
+abbrev pub next : ℕ → ℕ
+next k = min (k + 1) 18446744073709551615
+
+-- the tests of the leaves
+abbrev pub tick_holds : List Load → ℕ → Option ℕ → Prefix → ℕ → Bool
+tick_holds loads n None ps t = false
+tick_holds loads n (Some b) ps t = nat_le b (tick_cost (items loads ps) n t)
+
+abbrev pub full_holds : List Load → ℕ → Prefix → ℕ → ℕ → Bool
+full_holds loads n ps t s = nat_lt s n && nat_lt 1498 (payload (items loads ps) t s)
+
+abbrev pub average_holds : List Load → ℕ → Option ℕ → Prefix → Bool
+average_holds loads n None ps = false
+average_holds loads n (Some b) ps = nat_lt (b * lcm_of (periods_of loads)) (least_raw loads n ps (lcm_of (periods_of loads)) + lcm_of (periods_of loads))
+
+abbrev pub leaf_judged : Bool → ℕ → Result ℕ CheckFault
+leaf_judged holds k = if holds then Ok (next k) else Err (fault.Leaf k)
+
+-- what comes after a tree in which no fault was found
+abbrev pub then_judged : Result ℕ CheckFault → (ℕ → Result ℕ CheckFault) → Result ℕ CheckFault
+then_judged (Ok k) rest = rest k
+then_judged (Err e) rest = Err e
+
+-- the number of the node after a tree that holds at a prefix, or the first fault of one that doesn't; k is the number of its root
+abbrev mutual
+  pub tree_judged : List Load → ℕ → Option ℕ → Shape → Prefix → List ℕ → ℕ → Result ℕ CheckFault
+  tree_judged loads n v (split ts) ps [] k = Err (fault.Depth k)
+  tree_judged loads n v (split ts) ps (u ∷ order) k =
+      if shape_count ts == length (children loads n ps u)
+      then trees_judged loads n v ts ps u order (children loads n ps u) (next k)
+      else Err (fault.Children k (length (children loads n ps u)) (shape_count ts))
+  tree_judged loads n v (tick t) ps order k = leaf_judged (tick_holds loads n v ps t) k
+  tree_judged loads n v (full t s) ps order k = leaf_judged (full_holds loads n ps t s) k
+  tree_judged loads n v average ps order k = leaf_judged (average_holds loads n v ps) k
+  tree_judged loads n v open_leaf ps order k = Err (fault.Leaf k)
+
+  pub trees_judged : List Load → ℕ → Option ℕ → Shapes → Prefix → ℕ → List ℕ → List Place → ℕ → Result ℕ CheckFault
+  trees_judged loads n v no_shapes ps u order places k = Ok k
+  trees_judged loads n v (more t ts) ps u order [] k = Ok k
+  trees_judged loads n v (more t ts) ps u order (p ∷ rest) k =
+      then_judged (tree_judged loads n v t (set ps u (Some p)) order k) (λ j. trees_judged loads n v ts ps u order rest j)

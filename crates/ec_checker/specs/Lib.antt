@@ -1,0 +1,3 @@
+pub mod Certified
+pub mod Judged
+pub mod Laws

@@ -1,0 +1,45 @@
+//! The checker.
+
+ghost use Rattle.std.specs.Prelude.{IfOk};
+ghost use Rattle.ec_units.specs.Load.{loads_of};
+ghost use Rattle.ec_cert.specs.Shapes.{cert_view};
+ghost use Rattle.ec_checker.specs.Certified.{IsAnswer, IsClaim};
+
+use crate::best::value_of;
+use crate::fault::{CheckFault, Verdict};
+use crate::order::is_order;
+use crate::same::is_for;
+use crate::walk::walk;
+use ec_bounds::Rest;
+use ec_cert::Cert;
+use ec_loads::Loads;
+use ec_tree::trees_bound;
+use ec_units::Units;
+use std::alloc::Global;
+
+/// Whether a certificate, whoever made it, shows that its plan is the best of all legal plans of these units, or
+/// that none is legal. A yes says so of every legal plan; a no is the first fault: of the units, the order, the
+/// plan, its stated cost, and then of the tree, node by node.
+///
+/// It takes memory once, for the places of the units, and visits each node once.
+pub fn check(alloc: Global, units: &Units, cert: &Cert) -> Result<Verdict, CheckFault>
+    ensures sound { IfOk result (IsClaim (loads_of units.now.units) units.now.slots cert.now.best) }
+    ensures exact { IsAnswer units.now.units units.now.slots (cert_view cert.now) result }
+{
+    trees_bound();
+    if !is_for(units, cert) {
+        return Err(CheckFault::OtherUnits);
+    }
+    let order = cert.order.as_slice();
+    if !is_order(order, units.units.as_slice().len()) {
+        return Err(CheckFault::Order);
+    }
+    let value = value_of(units, &cert.best)?;
+    let mut loads = Loads::new(alloc, units)?;
+    let mut rest = Rest::all(units);
+    walk(&mut loads, &mut rest, value, order, &cert.tree, 0)?;
+    match value {
+        Some(value) => Ok(Verdict::Least(value)),
+        None => Ok(Verdict::NoPlan),
+    }
+}

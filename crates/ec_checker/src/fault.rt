@@ -1,0 +1,47 @@
+//! What the checker answers.
+
+ghost use Rattle.std.specs.Prelude.{◌≡◌};
+ghost use Rattle.ec_checker.specs.declared.fault.CheckFault.TheVariants.{OutOfMemory};
+
+use ec_loads::Illegal;
+use std::alloc::AllocError;
+
+/// What a certificate shows of all legal plans.
+#[derive(Clone, Copy, Debug, PartialEq, Eq)]
+pub enum Verdict {
+    /// The certificate's plan is legal, its busiest tick costs this, and every legal plan has a tick that costs at
+    /// least this.
+    Least(u64),
+    /// No plan is legal.
+    NoPlan,
+}
+
+/// Why a certificate shows nothing. Nodes are numbered from 0, each before its children; a number that a `usize`
+/// can't hold is told as the greatest one.
+#[derive(Clone, Copy, Debug, PartialEq, Eq)]
+pub enum CheckFault {
+    /// Memory was refused.
+    OutOfMemory,
+    /// The slots, the count of units, or the name, bytes or period of a unit are others.
+    OtherUnits,
+    /// The order doesn't name each unit once.
+    Order,
+    /// The plan is not legal.
+    Plan(Illegal),
+    /// The stated cost of the busiest tick, and the plan's own.
+    Value(u64, u64),
+    /// A split has not one tree for each child: the node, the count of children, and the count of trees.
+    Children(usize, usize, usize),
+    /// This leaf doesn't hold.
+    Leaf(usize),
+    /// This node is a split where every unit has a place.
+    Depth(usize),
+}
+
+impl From<AllocError> for CheckFault {
+    ghost from_gives = { λ _ e. e ≡ OutOfMemory };
+
+    fn from(_e: AllocError) -> CheckFault {
+        CheckFault::OutOfMemory
+    }
+}

@@ -1,0 +1,16 @@
+//! The checker of certificates: its yes needs no trust in whoever made the certificate.
+#![tactic(auto)]
+
+mod best;
+mod checking;
+mod children;
+mod fault;
+mod law;
+mod leaf;
+mod order;
+mod same;
+mod walk;
+
+pub use checking::check;
+pub use fault::{CheckFault, Verdict};
+pub use law::faults_refute;

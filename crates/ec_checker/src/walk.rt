@@ -1,0 +1,60 @@
+//! The walk over a tree.
+
+ghost use Rattle.std.specs.Prelude.{◌≡◌, ℕ, ◌<◌, ◌≤◌};
+ghost use Rattle.ec_bounds.specs.Left.{IsRestOf};
+ghost use Rattle.ec_cert.specs.Shapes.{shape_of};
+ghost use Rattle.ec_checker.specs.Judged.{IsReady, tree_judged};
+
+use crate::children::children_of;
+use crate::fault::CheckFault;
+use crate::leaf::{average_holds, full_holds, judged, tick_holds};
+use ec_bounds::Rest;
+use ec_cert::Tree;
+use ec_loads::Loads;
+
+/// Whether a tree holds at the places so far: the number of the node after it, or its first fault. The places are as
+/// before afterwards. Each node is visited once, and no recursion is deeper than the order is long.
+pub(crate) fn walk(
+    loads: &mut Loads,
+    rest: &mut Rest,
+    value: Option<u64>,
+    order: &[u8],
+    tree: &Tree,
+    number: usize,
+) -> Result<usize, CheckFault>
+    requires ready { IsReady loads.old.places order.now }
+    requires left { IsRestOf rest.old loads.old }
+    ensures same { loads.new ≡ loads.old }
+    ensures left { IsRestOf rest.new loads.new }
+    ensures judged { result ≡ tree_judged loads.old.loads loads.old.slots value (shape_of tree.now) loads.old.places order.now number }
+{
+    match tree {
+        Tree::Split(trees) => match order.split_first() {
+            None => Err(CheckFault::Depth(number)),
+            Some((unit, later)) => {
+                let unit = usize::from(*unit);
+                let mut places = children_of(loads, unit);
+                if trees.len() != places.len() {
+                    return Err(CheckFault::Children(number, places.len(), trees.len()));
+                }
+                let mut at = number.saturating_add(1);
+                for i in 0..trees.len() {
+                    let Some(place) = places.next() else {
+                        return Ok(at);
+                    };
+                    loads.place(unit, place);
+                    rest.placed(unit);
+                    let child = walk(loads, rest, value, later, &trees[i], at);
+                    loads.remove(unit);
+                    rest.unplaced(unit);
+                    at = child?;
+                }
+                Ok(at)
+            }
+        },
+        Tree::TickLeaf(tick) => judged(tick_holds(loads, value, *tick), number),
+        Tree::FullLeaf(tick, slot) => judged(full_holds(loads, *tick, *slot), number),
+        Tree::Average => judged(average_holds(loads, rest, value), number),
+        Tree::OpenLeaf => judged(false, number),
+    }
+}
