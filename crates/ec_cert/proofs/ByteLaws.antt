@@ -1,25 +1,24 @@
 -- The texts of certificates have no byte but line feeds and those from the space to `~`.
-use Rattle.std.proofs.Common.{◌≡◌, ℕ, zero, suc, ◌+◌, ◌^◌, ◌<◌, ◌≤◌, Bool, true, false, ◌&&◌, ◌==◌, nat_le, nat_lt, List, [], ◌∷◌, ◌++◌, length, codes, Option, Some, None, Result, Ok, Err, IfOk, refl, ap, sym, subst, ◌∙◌, arith, rules}
-use Rattle.std.specs.List.{flat_map, AllByRecursion, All, list_all}
+use Rattle.std.proofs.Common.{◌≡◌, ℕ, zero, suc, ◌^◌, ◌<◌, ◌≤◌, Bool, true, false, nat_lt, List, [], ◌∷◌, ◌++◌, length, codes, Option, Some, None, Result, Ok, Err, IfOk, refl, arith}
+use Rattle.std.specs.List.{flat_map, AllByRecursion, list_all}
 use Rattle.std.specs.Str.{all_ascii_digits}
 use Rattle.std.specs.Fmt.{decimal}
 use Rattle.std.proofs.lemmas.Fmt.{digits_decimal}
 use Rattle.std.proofs.lemmas.Bool.{and_parts}
 use Rattle.std.proofs.lemmas.Bool.Decides.{nat_tests}
-use Rattle.ec_units.specs.Names.{is_name, is_name_byte}
+use Rattle.ec_units.specs.Names.{is_name_byte}
 use Rattle.ec_units.specs.declared.slave.Place.{Place}
 use Rattle.ec_loads.specs.Shape.{Shape, split, tick, full, average, open_leaf, Shapes, no_shapes, more, shape_count}
 use Rattle.ec_cert.specs.declared.fault.CertFault.{CertFault}
-use Rattle.ec_cert.specs.declared.fault.CertFault.TheVariants as fault
 use Rattle.ec_cert.specs.declared.lists.UnitLine.{UnitLine}
 use Rattle.ec_cert.specs.declared.cert.Best.{Best}
 use Rattle.ec_cert.specs.declared.cert.Cert.{Cert}
 use Rattle.ec_cert.specs.Shapes.{CertView, cert_view}
 use Rattle.ec_cert.specs.Reading.{Gives, is_text_byte, reading}
-use Rattle.ec_cert.specs.Text.{version_line, slots_line, unit_line, index_word, order_line, value_line, place_line, best_lines, split_line, tick_line, full_line, node_lines, row_lines, tree_lines, certificate_text, HasLevels, HaveLevels, IsUnitLine, IsPlaceLine, IsBest, IsBestOrNone, IsWellFormed}
+use Rattle.ec_cert.specs.Text.{version_line, slots_line, unit_line, index_word, order_line, value_line, place_line, best_lines, split_line, node_lines, row_lines, tree_lines, certificate_text, HasLevels, HaveLevels, IsUnitLine, IsPlaceLine, IsBestOrNone, IsWellFormed}
 use Rattle.ec_cert.proofs.WordLaws.{own, if_err, if_ok}
 use Rattle.ec_cert.proofs.ManyLaws.{Rec-from_All}
-use Rattle.ec_cert.proofs.TextLaws.{body, body_found, body_again}
+use Rattle.ec_cert.proofs.TextLaws.{body_found, body_again}
 
 abbrev are_text : List ℕ → Bool
 are_text bs = list_all is_text_byte bs

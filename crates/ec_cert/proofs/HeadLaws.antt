@@ -1,5 +1,5 @@
 -- The lines before the tree: what is read is spelled so, and is read again.
-use Rattle.std.proofs.Common.{◌≡◌, ◌⊎◌, ℕ, zero, suc, ◌+◌, ◌*◌, ◌-◌, ◌^◌, ◌<◌, ◌≤◌, Bool, true, false, not, ◌&&◌, ◌||◌, ◌==◌, cond, nat_eq, List, [], ◌∷◌, ◌++◌, length, take, drop, codes, Option, Some, None, Result, Ok, Err, refl, ap, sym, subst, ◌∙◌, arith, rules, inl, inr, append_assoc, append-nil, length-append}
+use Rattle.std.proofs.Common.{◌≡◌, ℕ, zero, suc, ◌+◌, ◌-◌, ◌^◌, ◌<◌, ◌≤◌, Bool, true, false, ◌==◌, nat_eq, List, [], ◌∷◌, ◌++◌, length, drop, codes, Option, Some, None, Ok, refl, ap, sym, subst, ◌∙◌, arith, inl, inr, append_assoc, append-nil}
 use Rattle.std.specs.List.{starts_with, flat_map, AllByRecursion, list_all}
 use Rattle.std.specs.Str.{bytes_eq, all_ascii_digits}
 use Rattle.std.specs.Fmt.{decimal}
@@ -9,15 +9,11 @@ use Rattle.std.proofs.lemmas.Bool.Decides.{nat_tests}
 use Rattle.std.proofs.lemmas.List.{length_push}
 use Rattle.ec_units.specs.Names.{is_name, is_name_byte}
 use Rattle.ec_units.specs.declared.slave.Place.{Place}
-use Rattle.ec_cert.specs.declared.words.Wrong.{Wrong}
-use Rattle.ec_cert.specs.declared.words.Wrong.TheVariants as wrong
-use Rattle.ec_cert.specs.declared.fault.CertFault.{CertFault}
-use Rattle.ec_cert.specs.declared.fault.CertFault.TheVariants as fault
 use Rattle.ec_cert.specs.declared.lists.UnitLine.{UnitLine}
 use Rattle.ec_cert.specs.declared.cert.Best.{Best}
-use Rattle.ec_cert.specs.Reading.{◌>>=◌, At, cut, line_at, number_in, pair_in, ok_map, on_line, with_front, is_number, slots_in, slots_at, unit_from, unit_in, unit_at, is_unit_next, units_from, first_unit_at, units_at, begins_with_number, are_numbers, many_from, index_from, index_in, indexes_in, order_in, order_at, place_in, place_at, value_in, best_with, best_at, start_at}
-use Rattle.ec_cert.specs.Text.{slots_line, unit_line, index_word, order_line, value_line, place_line, best_lines, IsUnitLine, IsPlaceLine, IsBest, IsBestOrNone}
-use Rattle.ec_cert.proofs.WordLaws.{own, if_err, if_ok, bind_ok, chosen, ok_map_ok, on_line_ok, lacks, lacks-append, cut_found, cut_again, decimal_lacks, number_found, is_number-decimal, number_again, pair_found, pair_again, begins, same_bytes, line_found, line_again, one_line, one_line_found, one_line_again}
+use Rattle.ec_cert.specs.Reading.{At, cut, line_at, number_in, pair_in, on_line, with_front, slots_in, slots_at, unit_from, unit_in, unit_at, is_unit_next, units_from, first_unit_at, units_at, are_numbers, many_from, index_from, index_in, indexes_in, order_in, order_at, place_in, place_at, value_in, best_with, best_at, start_at}
+use Rattle.ec_cert.specs.Text.{slots_line, unit_line, index_word, order_line, value_line, place_line, best_lines, IsUnitLine, IsPlaceLine, IsBestOrNone}
+use Rattle.ec_cert.proofs.WordLaws.{own, if_ok, bind_ok, chosen, ok_map_ok, on_line_ok, lacks, lacks-append, cut_found, cut_again, decimal_lacks, number_found, is_number-decimal, number_again, pair_found, pair_again, begins, same_bytes, line_found, line_again, one_line_found, one_line_again}
 use Rattle.ec_cert.proofs.ManyLaws.{many_found, many_again, All-from_Rec, Rec-from_All}
 
 -- ---- texts regrouped

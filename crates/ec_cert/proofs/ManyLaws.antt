@@ -1,8 +1,8 @@
 -- Several of a kind, one after the other.
-use Rattle.std.proofs.Common.{◌≡◌, ℕ, zero, suc, ◌+◌, ◌-◌, ◌<◌, ◌≤◌, List, [], ◌∷◌, ◌++◌, length, Result, Ok, Err, refl, ap, sym, ◌∙◌, arith, append_assoc}
+use Rattle.std.proofs.Common.{◌≡◌, ℕ, zero, suc, ◌+◌, ◌<◌, List, [], ◌∷◌, ◌++◌, length, Result, Ok, refl, ap, sym, ◌∙◌, arith, append_assoc}
 use Rattle.std.specs.List.{flat_map, All, AllByRecursion}
 use Rattle.ec_cert.specs.declared.fault.CertFault.{CertFault}
-use Rattle.ec_cert.specs.Reading.{◌>>=◌, At, many_from}
+use Rattle.ec_cert.specs.Reading.{At, many_from}
 use Rattle.ec_cert.proofs.WordLaws.{bind_ok}
 
 pub Rec-from_All : {X : Type 0} (P : X → Type 0) (xs : List X) → All P xs → AllByRecursion P xs

@@ -1,5 +1,5 @@
 -- Trees: what is read is spelled so, and is read again.
-use Rattle.std.proofs.Common.{◌≡◌, ◌⊎◌, ℕ, zero, suc, ◌+◌, ◌*◌, ◌-◌, ◌^◌, ◌<◌, ◌≤◌, Bool, true, false, ◌&&◌, ◌==◌, cond, nat_eq, List, [], ◌∷◌, ◌++◌, length, drop, codes, Result, Ok, Err, refl, ap, sym, subst, ◌∙◌, arith, rules, inl, inr, append_assoc}
+use Rattle.std.proofs.Common.{◌≡◌, ℕ, zero, suc, ◌+◌, ◌<◌, ◌≤◌, Bool, true, false, ◌==◌, cond, nat_eq, List, [], ◌∷◌, ◌++◌, drop, codes, Result, Ok, Err, refl, ap, sym, ◌∙◌, arith, inl, inr, append_assoc}
 use Rattle.std.specs.List.{starts_with, flat_map, AllByRecursion}
 use Rattle.std.specs.Str.{bytes_eq}
 use Rattle.std.specs.Fmt.{decimal}
@@ -7,15 +7,14 @@ use Rattle.std.proofs.lemmas.Bool.Decides.{nat_tests}
 use Rattle.ec_loads.specs.Shape.{Shape, split, tick, full, average, open_leaf, Shapes, no_shapes, more, shape_count}
 use Rattle.ec_cert.specs.declared.fault.CertFault.{CertFault}
 use Rattle.ec_cert.specs.declared.fault.CertFault.TheVariants as fault
-use Rattle.ec_cert.specs.declared.words.Wrong.{Wrong}
 use Rattle.ec_cert.specs.declared.words.Wrong.TheVariants as wrong
 use Rattle.ec_cert.specs.declared.nodes.Node.{Node}
 use Rattle.ec_cert.specs.declared.nodes.Node.TheVariants as node
 use Rattle.ec_cert.specs.Shapes.{shapes}
-use Rattle.ec_cert.specs.Reading.{◌>>=◌, At, line_at, number_in, pair_in, ok_map, on_line, many_from, node_in, node_at, below, tree_at}
+use Rattle.ec_cert.specs.Reading.{At, line_at, number_in, pair_in, ok_map, on_line, many_from, node_in, node_at, below, tree_at}
 use Rattle.ec_cert.specs.Text.{node_lines, row_lines, HasLevels, HaveLevels}
 use Rattle.ec_cert.proofs.TreeLemmas.{shape_count-shapes}
-use Rattle.ec_cert.proofs.WordLaws.{if_err, if_ok, bind_ok, chosen, ok_map_ok, on_line_ok, lacks, lacks-append, decimal_lacks, number_found, number_again, pair_found, pair_again, begins, same_bytes, line_found, line_again}
+use Rattle.ec_cert.proofs.WordLaws.{if_err, bind_ok, chosen, ok_map_ok, on_line_ok, lacks, lacks-append, decimal_lacks, number_found, number_again, pair_found, pair_again, begins, same_bytes, line_found, line_again}
 use Rattle.ec_cert.proofs.ManyLaws.{Spells, many_found}
 use Rattle.ec_cert.proofs.HeadLaws.{regroup_1, regroup_2}
 

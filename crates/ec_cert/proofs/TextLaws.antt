@@ -1,24 +1,17 @@
 -- Whole texts: what is read is the text of it, and a text is read again.
-use Rattle.std.proofs.Common.{◌≡◌, ◌⊎◌, ℕ, zero, suc, ◌+◌, ◌*◌, ◌-◌, ◌^◌, ◌<◌, ◌≤◌, Bool, true, false, not, ◌&&◌, ◌||◌, ◌==◌, cond, nat_eq, nat_lt, nat_le, List, [], ◌∷◌, ◌++◌, length, drop, codes, Option, Some, None, Result, Ok, Err, IfOk, refl, ap, sym, subst, ◌∙◌, arith, rules, inl, inr, append_assoc, append-nil}
-use Rattle.std.specs.List.{starts_with, flat_map, AllByRecursion, All, list_all}
-use Rattle.std.specs.Str.{bytes_eq, all_ascii_digits}
+use Rattle.std.proofs.Common.{◌≡◌, ℕ, ◌+◌, ◌-◌, ◌<◌, ◌≤◌, ◌==◌, nat_eq, List, [], ◌∷◌, ◌++◌, length, drop, codes, Result, Ok, Err, refl, ap, sym, subst, ◌∙◌, arith, inl, inr}
+use Rattle.std.specs.List.{starts_with, flat_map, AllByRecursion}
+use Rattle.std.specs.Str.{bytes_eq}
 use Rattle.std.specs.Fmt.{decimal}
-use Rattle.std.proofs.lemmas.Fmt.{decimal_digit, digits_decimal}
-use Rattle.std.proofs.lemmas.Bool.{and_parts, false≢true}
+use Rattle.std.proofs.lemmas.Fmt.{decimal_digit}
 use Rattle.std.proofs.lemmas.Bool.Decides.{nat_tests}
 use Rattle.std.proofs.lemmas.List.{nil_from_length}
-use Rattle.ec_units.specs.Names.{is_name, is_name_byte}
-use Rattle.ec_units.specs.declared.slave.Place.{Place}
-use Rattle.ec_loads.specs.Shape.{Shape, split, tick, full, average, open_leaf, Shapes, no_shapes, more, shape_count}
 use Rattle.ec_cert.specs.declared.fault.CertFault.{CertFault}
 use Rattle.ec_cert.specs.declared.fault.CertFault.TheVariants as fault
-use Rattle.ec_cert.specs.declared.lists.UnitLine.{UnitLine}
-use Rattle.ec_cert.specs.declared.cert.Best.{Best}
-use Rattle.ec_cert.specs.declared.cert.Cert.{Cert}
-use Rattle.ec_cert.specs.Shapes.{CertView, cert_view}
-use Rattle.ec_cert.specs.Reading.{◌>>=◌, At, Gives, line_at, is_text_byte, version_at, slots_at, units_at, order_at, best_at, start_at, tree_at, nothing_at, end_at, parts_at, reading}
-use Rattle.ec_cert.specs.Text.{version_line, slots_line, unit_line, index_word, order_line, value_line, place_line, best_lines, split_line, tick_line, full_line, node_lines, row_lines, tree_lines, certificate_text, HasLevels, HaveLevels, IsUnitLine, IsPlaceLine, IsBest, IsBestOrNone, IsWellFormed}
-use Rattle.ec_cert.proofs.WordLaws.{own, if_err, if_ok, bind_ok, chosen, begins, same_bytes, line_found, line_again}
+use Rattle.ec_cert.specs.Shapes.{CertView}
+use Rattle.ec_cert.specs.Reading.{◌>>=◌, At, line_at, version_at, slots_at, units_at, order_at, best_at, start_at, tree_at, nothing_at, end_at, parts_at}
+use Rattle.ec_cert.specs.Text.{version_line, slots_line, unit_line, order_line, best_lines, node_lines, tree_lines, certificate_text, IsUnitLine, IsWellFormed}
+use Rattle.ec_cert.proofs.WordLaws.{if_ok, bind_ok, chosen, begins, same_bytes, line_found, line_again}
 use Rattle.ec_cert.proofs.ManyLaws.{Rec-from_All, All-from_Rec}
 use Rattle.ec_cert.proofs.HeadLaws.{slots_found, slots_again, units_found, units_again, order_found, order_again, best_found, best_again, start_found, start_again}
 use Rattle.ec_cert.proofs.NodeLaws.{tree_found, tree_again}

@@ -1,7 +1,7 @@
 -- A tree in memory, level by level.
-use Rattle.std.proofs.Common.{◌≡◌, ◌↔◌, ℕ, zero, suc, ◌+◌, ◌-◌, ◌<◌, ◌≤◌, List, [], ◌∷◌, length, drop, get_or, map, Vec, Global, refl, ap, sym, subst, ◌∙◌, arith, rules}
+use Rattle.std.proofs.Common.{◌≡◌, ◌↔◌, ℕ, zero, suc, ◌+◌, ◌-◌, ◌<◌, ◌≤◌, List, [], ◌∷◌, length, drop, get_or, Vec, Global, refl, ap, sym, subst, ◌∙◌, arith, rules}
 use Rattle.std.proofs.lemmas.List.{drop_more, drop_all}
-use Rattle.ec_loads.specs.Shape.{Shape, split, Shapes, no_shapes, more, shape_count}
+use Rattle.ec_loads.specs.Shape.{Shape, split, more, shape_count}
 use Rattle.ec_cert.specs.Shapes.{shape_of, shapes_of, shapes}
 use Rattle.ec_cert.specs.Text.{HasLevels, HaveLevels}
 use Rattle.ec_cert.specs.declared.tree.Tree.{Tree, Split, the_lemmas}

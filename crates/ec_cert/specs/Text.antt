@@ -1,5 +1,5 @@
 -- The text of a certificate, line by line, and which certificates have one.
-use Rattle.std.specs.Prelude.{◌≡◌, ℕ, zero, suc, ◌<◌, ◌≤◌, true, List, [], ◌∷◌, ◌++◌, length, codes, Option, None, Some}
+use Rattle.std.specs.Prelude.{◌≡◌, ℕ, zero, suc, ◌<◌, ◌≤◌, true, List, [], ◌++◌, length, codes, Option, None, Some}
 use Rattle.std.specs.List.{All, flat_map}
 use Rattle.std.specs.Fmt.{decimal}
 use Rattle.ec_units.specs.Names.{is_name}

@@ -1,14 +1,13 @@
 -- From what is found in a certificate to what the checker answers.
-use Rattle.std.proofs.Common.{◌≡◌, ◌≢◌, ℕ, ◌+◌, ◌<◌, ◌≤◌, List, length, Option, Some, None, Result, Ok, Err, All, MatchResult, refl, ap, sym, subst, ◌∙◌, arith}
+use Rattle.std.proofs.Common.{◌≡◌, ℕ, ◌<◌, List, length, Option, Some, None, Result, Ok, Err, All, refl, ap, sym, subst, ◌∙◌, arith}
 use Rattle.std.proofs.lemmas.List.{length-map}
 use Rattle.ec_units.specs.declared.unit.Unit.{Unit as SyncUnit}
 use Rattle.ec_units.specs.declared.unit.Load.{Load}
 use Rattle.ec_units.specs.Load.{load_of, loads_of}
 use Rattle.ec_loads.specs.declared.item.Item.{Item}
-use Rattle.ec_loads.specs.Cost.{plan_items, tick_cost, IsBusiest}
+use Rattle.ec_loads.specs.Cost.{plan_items, IsBusiest}
 use Rattle.ec_loads.specs.Held.{Held, no_places}
-use Rattle.ec_loads.specs.Legal.{IsLegal}
-use Rattle.ec_loads.specs.Search.{IsTree, BoundsAll, IsLeast, HasTick}
+use Rattle.ec_loads.specs.Search.{IsTree, BoundsAll}
 use Rattle.ec_loads.proofs.ItemLemmas.{AreLoads-loads_of}
 use Rattle.ec_cert.specs.declared.cert.Best.{Best}
 use Rattle.ec_cert.specs.Shapes.{CertView}
@@ -17,7 +16,7 @@ use Rattle.ec_checker.specs.declared.fault.CheckFault.{CheckFault}
 use Rattle.ec_checker.specs.declared.fault.CheckFault.TheVariants as fault
 use Rattle.ec_checker.specs.declared.fault.Verdict.{Verdict}
 use Rattle.ec_checker.specs.declared.fault.Verdict.TheVariants as verdict
-use Rattle.ec_checker.specs.Certified.{IsOrder, IsBestPlan, HasHead, IsCertified, value_of, verdict_of, tree_found, IsPlanFault, IsNodeFault, IsFaultOf, IsClaim}
+use Rattle.ec_checker.specs.Certified.{IsBestPlan, HasHead, IsCertified, value_of, verdict_of, tree_found, IsPlanFault, IsNodeFault, IsFaultOf, IsClaim}
 use Rattle.ec_checker.specs.Judged.{tree_judged}
 use Rattle.ec_checker.specs.Laws.{FaultsRefute}
 use Rattle.ec_checker.proofs.FoundLemmas.{Found, found_tree}

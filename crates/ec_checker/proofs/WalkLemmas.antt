@@ -1,5 +1,5 @@
 -- The walk over the children of a prefix.
-use Rattle.std.proofs.Common.{◌≡◌, ◌≢◌, ℕ, zero, suc, ◌+◌, ◌<◌, ◌≤◌, ◌==◌, if◌then◌else◌, Bool, true, false, is_none, List, [], ◌∷◌, map, length, set, drop, get_or, slice_get, Option, Some, None, Result, Ok, Err, Vec, Global, refl, sym, ap, ◌∙◌, subst, arith, set-set}
+use Rattle.std.proofs.Common.{◌≡◌, ℕ, zero, suc, ◌+◌, ◌<◌, ◌≤◌, ◌==◌, if◌then◌else◌, Bool, true, false, is_none, List, [], ◌∷◌, map, length, set, drop, get_or, slice_get, Option, Some, None, Result, Ok, Err, Vec, Global, refl, sym, ap, ◌∙◌, subst, set-set}
 use Rattle.std.proofs.lemmas.Bool.{eq-eqb, ne_eqb}
 use Rattle.std.proofs.lemmas.List.{drop_all, map-set, length-map, length-set}
 use Rattle.ec_units.specs.declared.slave.Place.{Place}
@@ -9,7 +9,7 @@ use Rattle.ec_bounds.specs.Left.{Left, IsRestOf}
 use Rattle.ec_cert.specs.declared.tree.Tree.{Tree, Split}
 use Rattle.ec_cert.specs.Shapes.{shape_of, shapes_of}
 use Rattle.ec_cert.proofs.TreeLemmas.{shape_of-Split, shape_count-shapes_of, shapes_of-drop}
-use Rattle.ec_loads.specs.Shape.{Shape, Shapes, split, more, shape_count}
+use Rattle.ec_loads.specs.Shape.{Shape, split, more, shape_count}
 use Rattle.ec_checker.specs.declared.fault.CheckFault.{CheckFault}
 use Rattle.ec_checker.specs.declared.fault.CheckFault.TheVariants as fault
 use Rattle.ec_checker.specs.Judged.{IsReady, next, then_judged, tree_judged, trees_judged}

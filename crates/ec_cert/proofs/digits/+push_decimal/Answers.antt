@@ -1,4 +1,4 @@
-use Rattle.std.proofs.Common.{◌≡◌, ◌≤◌, length, ◌/◌, ◌∙◌, ◌∷◌, [], ◌++◌, ◌+◌, lit<, ap, sym, arith, append_assoc, length-append, ◌%◌}
+use Rattle.std.proofs.Common.{length, ◌/◌, ◌∙◌, ◌∷◌, [], ◌++◌, ◌+◌, lit<, ap, sym, arith, append_assoc, length-append, ◌%◌}
 use Rattle.std.specs.Fmt.{decimal}
 use Rattle.ec_cert.proofs.DecimalLemmas.{digits_step}
 use Rattle.ec_cert.proofs.digits.+push_decimal.Goals as goal

@@ -1,4 +1,4 @@
-use Rattle.std.proofs.Common.{◌≡◌, ◌+◌, ◌≤◌, length, ap, arith, length-append}
+use Rattle.std.proofs.Common.{length, ap, arith, length-append}
 use Rattle.std.specs.Fmt.{decimal}
 use Rattle.ec_cert.proofs.DecimalLemmas.{digits_fit}
 use Rattle.ec_cert.proofs.digits.push_number.Goals as goal

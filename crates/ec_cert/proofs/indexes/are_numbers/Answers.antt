@@ -1,5 +1,5 @@
-use Rattle.std.proofs.Common.{◌≡◌, sym, rules}
-use Rattle.ec_cert.specs.Reading.{is_number, are_numbers}
+use Rattle.std.proofs.Common.{sym, rules}
+use Rattle.ec_cert.specs.Reading.{are_numbers}
 use Rattle.ec_cert.proofs.ManyLemmas.{numbers_go_on}
 use Rattle.ec_cert.proofs.indexes.are_numbers.Goals as goal
 

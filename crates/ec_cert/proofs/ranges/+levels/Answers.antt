@@ -1,4 +1,4 @@
-use Rattle.std.proofs.Common.{◌≡◌, ◌≤◌, ◌<◌, length, arith, rules}
+use Rattle.std.proofs.Common.{arith}
 use Rattle.ec_cert.proofs.TreeLemmas.{levels_split}
 use Rattle.ec_cert.proofs.ranges.+levels.Goals as goal
 

@@ -1,4 +1,3 @@
-use Rattle.std.proofs.Common.{◌↔◌}
 use Rattle.ec_cert.proofs.TreeLemmas.{SameLevels}
 use Rattle.ec_cert.proofs.ranges.+levels.Given as goal
 

@@ -1,4 +1,4 @@
-use Rattle.std.proofs.Common.{◌≡◌, ◌≤◌, length, ap, sym, subst, ◌∙◌}
+use Rattle.std.proofs.Common.{◌≤◌, length, ap, subst, ◌∙◌}
 use Rattle.ec_cert.specs.Shapes.{cert_view}
 use Rattle.ec_cert.specs.Reading.{Gives, reading}
 use Rattle.ec_cert.proofs.ByteLaws.{is_found, reading_again}

@@ -1,4 +1,4 @@
-use Rattle.std.proofs.Common.{◌≡◌, ◌≤◌, min, take, drop}
+use Rattle.std.proofs.Common.{◌≡◌, ◌≤◌, min, drop}
 use Rattle.std.specs.Str.{all_ascii_digits}
 use Rattle.ec_cert.specs.Reading.{value, value_after}
 use Rattle.ec_cert.proofs.words.number.Given as goal

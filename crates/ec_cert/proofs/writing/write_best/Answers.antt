@@ -1,4 +1,4 @@
-use Rattle.std.proofs.Common.{◌≡◌, sym, subst, ap, ◌∙◌, rules}
+use Rattle.std.proofs.Common.{◌≡◌, sym, ap, rules}
 use Rattle.std.specs.List.{flat_map}
 use Rattle.ec_cert.specs.Text.{best_lines, value_line, place_line}
 use Rattle.ec_cert.proofs.WriteLemmas.{front_as, all_as, more_as, then_as, on_ok}

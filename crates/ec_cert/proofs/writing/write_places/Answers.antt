@@ -1,4 +1,4 @@
-use Rattle.std.proofs.Common.{◌≡◌, get_or, rules, ap, ◌∙◌}
+use Rattle.std.proofs.Common.{◌≡◌, get_or, rules}
 use Rattle.ec_cert.specs.Text.{place_line}
 use Rattle.ec_cert.proofs.WriteLemmas.{written_none, written_more, written_front, written_all, front_all}
 use Rattle.ec_cert.proofs.writing.write_places.Goals as goal

@@ -1,4 +1,3 @@
-use Rattle.std.proofs.Common.{◌≡◌, ◌↔◌, length}
 use Rattle.ec_checker.proofs.HeadLemmas.{SameLines}
 use Rattle.ec_checker.proofs.same.are_lines_of.Given as goal
 

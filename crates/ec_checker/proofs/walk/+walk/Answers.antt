@@ -1,11 +1,10 @@
-use Rattle.std.proofs.Common.{◌≡◌, ℕ, ◌+◌, ◌<◌, ◌∷◌, length, drop, slice_get, Option, Some, None, Result, Ok, Err, ap, sym, subst, ◌∙◌, arith, rules}
+use Rattle.std.proofs.Common.{◌≡◌, ℕ, ◌+◌, ◌<◌, ◌∷◌, length, drop, slice_get, Some, None, Result, Err, ap, sym, subst, ◌∙◌, arith}
 use Rattle.std.proofs.lemmas.Result.{err_from_is_err_and}
 use Rattle.std.proofs.lemmas.Option.{slice_get_within}
 use Rattle.ec_loads.specs.Held.{Held}
-use Rattle.ec_cert.specs.Shapes.{shape_of}
 use Rattle.ec_checker.specs.declared.fault.CheckFault.{CheckFault}
 use Rattle.ec_checker.specs.declared.fault.CheckFault.TheVariants as fault
-use Rattle.ec_checker.specs.Judged.{IsReady, next, then_judged}
+use Rattle.ec_checker.specs.Judged.{IsReady, then_judged}
 use Rattle.ec_checker.proofs.WalkLemmas.{judged_from, kids, with_place, child_step, no_more_trees, no_more_children, split_is, split_wrong, restored, rest_follows, ready_at, flags_count, still_within}
 use Rattle.ec_checker.proofs.walk.+walk.Goals as goal
 

@@ -1,4 +1,4 @@
-use Rattle.std.proofs.Common.{◌≡◌, ℕ, length, drop}
+use Rattle.std.proofs.Common.{◌≡◌, length, drop}
 use Rattle.ec_bounds.specs.Left.{IsRestOf}
 use Rattle.ec_checker.specs.Judged.{next}
 use Rattle.ec_checker.proofs.WalkLemmas.{judged_from, kids}
