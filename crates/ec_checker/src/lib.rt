@@ -14,3 +14,6 @@ mod walk;
 pub use checking::check;
 pub use fault::{CheckFault, Verdict};
 pub use law::faults_refute;
+
+#[cfg(test)]
+mod tests;
