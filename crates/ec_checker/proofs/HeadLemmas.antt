@@ -11,7 +11,8 @@ use Rattle.ec_loads.specs.Held.{Held, no_places}
 use Rattle.ec_bounds.specs.Left.{Left, IsRestOf, all_of}
 use Rattle.ec_loads.specs.Search.{Prefix}
 use Rattle.ec_cert.specs.declared.lists.UnitLine.{UnitLine}
-use Rattle.ec_checker.specs.Certified.{line_of, lines_of, has_repeat, IsOrder}
+use Rattle.ec_symmetry.specs.Orders.{has_repeat, IsOrder}
+use Rattle.ec_checker.specs.Certified.{line_of, lines_of}
 use Rattle.ec_checker.specs.Judged.{IsReady}
 
 -- what has been looked at is the same, so the rest decides

@@ -1,14 +1,14 @@
 -- Which certificates the checker says yes to, what a yes claims, and what each fault says.
-use Rattle.std.specs.Prelude.{◌≡◌, ◌≢◌, ℕ, ◌<◌, ◌==◌, Bool, false, List, map, length, Option, Some, None, Result, Ok, Err, All}
+use Rattle.std.specs.Prelude.{◌≡◌, ◌≢◌, ℕ, List, map, length, Option, Some, None, Result, Ok, Err}
 use Rattle.ec_units.specs.declared.unit.Unit.{Unit as SyncUnit}
 use Rattle.ec_units.specs.declared.unit.Load.{Load}
 use Rattle.ec_units.specs.Bytes.{bytes_of_slaves}
 use Rattle.ec_units.specs.Load.{loads_of}
-use Rattle.ec_units.specs.Together.{has_same}
 use Rattle.ec_loads.specs.Cost.{plan_items, IsBusiest}
 use Rattle.ec_loads.specs.Held.{no_places}
 use Rattle.ec_loads.specs.Legal.{IsLegal, IsIllegalBy}
 use Rattle.ec_loads.specs.Search.{IsTree, IsLeast, HasNoPlan}
+use Rattle.ec_symmetry.specs.Orders.{IsOrder}
 use Rattle.ec_cert.specs.declared.lists.UnitLine.{UnitLine}
 use Rattle.ec_cert.specs.declared.cert.Best.{Best}
 use Rattle.ec_cert.specs.Shapes.{CertView}
@@ -29,16 +29,6 @@ lines_of units = map line_of units
 pub record IsFor (units : List SyncUnit) (n : ℕ) (c : CertView) : Type 0 where
   pub slots : c.slots ≡ n
   pub lines : c.units ≡ lines_of units
-
--- two of these numbers are one
-abbrev pub has_repeat : List ℕ → Bool
-has_repeat order = has_same (λ a b. a == b) order
-
--- each of so many units once
-pub record IsOrder (units : ℕ) (order : List ℕ) : Type 0 where
-  pub count : length order ≡ units
-  pub below : All (λ u. u < units) order
-  pub once : has_repeat order ≡ false
 
 abbrev pub value_of : Option Best → Option ℕ
 value_of None = None

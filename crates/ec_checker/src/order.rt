@@ -2,7 +2,7 @@
 
 ghost use Rattle.std.specs.Prelude.{◌≡◌, ◌==◌, ℕ, ◌<◌, ◌↔◌, IsTrue, All};
 ghost use Rattle.std.specs.List.{list_any};
-ghost use Rattle.ec_checker.specs.Certified.{IsOrder, has_repeat as has_repeat_of};
+ghost use Rattle.ec_symmetry.specs.Orders.{IsOrder, has_repeat as has_repeat_of};
 
 fn are_below(order: &[u8], units: usize) -> bool
     ensures { IsTrue result ↔ All (λ u. u < units) order.now }

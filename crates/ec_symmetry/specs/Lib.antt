@@ -1,3 +1,4 @@
 pub mod Choices
+pub mod Orders
 pub mod Reached
 pub mod Renamed

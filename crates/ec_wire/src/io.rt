@@ -78,7 +78,7 @@ impl<R: Read> Io<R> {
 }
 
 impl<W: Write> Io<W> {
-    ghost use Rattle.ec_wire.specs.Stream.{stream, has_failed, WritesFront};
+    ghost use Rattle.ec_wire.specs.Stream.{stream, has_failed, taken, WritesFront};
 
     /// Writes a front of `bytes` and says how many; of some bytes at least one.
     pub fn write(&mut self, bytes: &[u8]) -> Result<usize, IoFault>
@@ -87,6 +87,7 @@ impl<W: Write> Io<W> {
         ensures some { IfOk result (λ n. 0 < length bytes.now → 0 < n) }
         ensures ok { OnOk result (has_failed self.new ≡ has_failed self.old) }
         ensures err { OnErr result (has_failed self.new ≡ true) }
+        ensures taken { taken self.new ≡ taken self.old }
     {
         match self.inner.write(bytes) {
             Ok(0) if !bytes.is_empty() => Err(self.fault()),
@@ -101,6 +102,7 @@ impl<W: Write> Io<W> {
         ensures front { WritesFront (W.contents (stream self.old)) (W.contents (stream self.new)) bytes.now }
         ensures ok { OnOk result (has_failed self.new ≡ has_failed self.old) }
         ensures err { OnErr result (has_failed self.new ≡ true) }
+        ensures taken { taken self.new ≡ taken self.old }
     {
         let mut at = 0;
         while at < bytes.len() {

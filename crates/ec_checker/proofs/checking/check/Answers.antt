@@ -4,7 +4,8 @@ use Rattle.std.proofs.lemmas.Result.{err_from_is_err_and}
 use Rattle.ec_units.specs.Load.{load_of, loads_of}
 use Rattle.ec_loads.specs.Held.{Held}
 use Rattle.ec_cert.specs.Shapes.{cert_view}
-use Rattle.ec_checker.specs.Certified.{IsOrder, HasHead, IsCertified}
+use Rattle.ec_symmetry.specs.Orders.{IsOrder}
+use Rattle.ec_checker.specs.Certified.{HasHead, IsCertified}
 use Rattle.ec_checker.specs.Judged.{IsReady}
 use Rattle.ec_checker.proofs.HeadLemmas.{order_ready, empty_rest}
 use Rattle.ec_checker.proofs.CheckLemmas.{tree_from, fault_from, verdict_some, verdict_none, claim_from, found_is}

@@ -1,5 +1,5 @@
 use Rattle.std.proofs.Common.{◌≡◌, drop}
-use Rattle.ec_checker.specs.Certified.{has_repeat}
+use Rattle.ec_symmetry.specs.Orders.{has_repeat}
 use Rattle.ec_checker.proofs.order.has_repeat.Given as goal
 
 abbrev pub invariant-loop-i : goal.invariant-loop-i

@@ -7,4 +7,5 @@ loop-at-preserved g c = record {
   within = search rules;
   written = written_more _ _ _ _ _ _ c.loop-at.invariant.written c.in-Ok.ensures.bytes;
   failed = search rules;
+  taken = search rules;
 }

@@ -7,6 +7,7 @@ invariant-loop-at g l = record {
   within : l.at ≤ length l.bytes;
   written : Appends (g.W.Write.contents l.initial.self.inner) (g.W.Write.contents l.self.inner) (take l.at l.bytes);
   failed : l.self.failed ≡ l.initial.self.failed;
+  taken : l.self.taken ≡ l.initial.self.taken;
 }
 
 abbrev pub decreases-loop-at : goal.decreases-loop-at

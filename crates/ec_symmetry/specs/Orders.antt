@@ -1,0 +1,38 @@
+-- Orders of the units, and the prefixes that they make.
+use Rattle.std.specs.Prelude.{◌≡◌, ℕ, ◌<◌, ◌==◌, Bool, false, List, [], ◌∷◌, length, set, Some, All}
+use Rattle.ec_units.specs.declared.slave.Place.{Place}
+use Rattle.ec_units.specs.declared.unit.Load.{Load}
+use Rattle.ec_units.specs.Together.{has_same}
+use Rattle.ec_loads.specs.Held.{no_places}
+use Rattle.ec_loads.specs.Search.{Prefix, children}
+use Rattle.ec_symmetry.specs.Reached.{In}
+
+-- two of these numbers are one
+abbrev pub has_repeat : List ℕ → Bool
+has_repeat order = has_same (λ a b. a == b) order
+
+-- each of so many units once
+pub record IsOrder (units : ℕ) (order : List ℕ) : Type 0 where
+  pub count : length order ≡ units
+  pub below : All (λ u. u < units) order
+  pub once : has_repeat order ≡ false
+
+-- a prefix where, in turn, the next units of the order got these places, too
+abbrev pub with_places : Prefix → List ℕ → List Place → Prefix
+with_places ps order [] = ps
+with_places ps [] (p ∷ places) = ps
+with_places ps (u ∷ order) (p ∷ places) = with_places (set ps u (Some p)) order places
+
+-- the prefix where the first units of the order have these places
+abbrev pub prefix_of : List Load → List ℕ → List Place → Prefix
+prefix_of loads order places = with_places (no_places loads) order places
+
+-- in turn, each place is a child of the prefix that the places before it made
+abbrev pub AreChildren : List Load → ℕ → Prefix → List ℕ → List Place → Type 0
+AreChildren loads n ps order [] = Unit {0}
+AreChildren loads n ps [] (p ∷ places) = ⊥
+AreChildren loads n ps (u ∷ order) (p ∷ places) = In p (children loads n ps u) × AreChildren loads n (set ps u (Some p)) order places
+
+-- the children reach the prefix where the first units of the order have these places
+abbrev pub IsReachedPrefix : List Load → ℕ → List ℕ → List Place → Type 0
+IsReachedPrefix loads n order places = AreChildren loads n (no_places loads) order places
