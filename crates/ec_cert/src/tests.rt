@@ -1,4 +1,6 @@
 ghost use Rattle.std.specs.Prelude.{Some};
+ghost use Rattle.ec_cert.specs.Shapes.{cert_view};
+ghost use Rattle.ec_cert.specs.Text.{IsWellFormed};
 
 use super::*;
 use ec_loads::{Places, Plan};
@@ -12,79 +14,6 @@ use std::test::Fail;
 /// Two units of 200 bytes, one every second and one every third tick: 19 lines, 128 bytes.
 const EXAMPLE: &[u8] =
     b"ecplan 1\nslots 1\nunit a 200 2\nunit b 200 3\norder 0 1\nvalue 464\nplace 0 0\nplace 0 0\ntree\nS 2\nS 3\nT 0\nT 4\nT 2\nS 3\nT 3\nT 1\nT 5\nend\n";
-
-/// Lines of the example from one to another, what stands in their place, and the fault of that text.
-const FAULTS: [(usize, usize, &[u8], CertFault); 58] = [
-    (1, 1, b"ecplan 2\n", CertFault::Version),
-    (1, 1, b"ecplan 3\n", CertFault::Version),
-    (1, 1, b"ecplan 01\n", CertFault::Version),
-    (1, 1, b"ecplan 1 \n", CertFault::Version),
-    (2, 2, b"slots 0\n", CertFault::Number(2)),
-    (2, 2, b"slots 9\n", CertFault::Number(2)),
-    (2, 2, b"slots 1 1\n", CertFault::BadLine(2)),
-    (2, 2, b"slots\n", CertFault::BadLine(2)),
-    (2, 2, b"slots x\n", CertFault::BadLine(2)),
-    (2, 2, b"slots \n", CertFault::BadLine(2)),
-    (2, 3, b"slots 9\nunit\n", CertFault::Number(2)),
-    (3, 3, b"unit a! 200 2\n", CertFault::BadLine(3)),
-    (3, 3, b"unit  200 2\n", CertFault::BadLine(3)),
-    (3, 3, b"unit a 200\n", CertFault::BadLine(3)),
-    (3, 3, b"unit a 200 2 3\n", CertFault::BadLine(3)),
-    (3, 3, b"unit a 0 2\n", CertFault::Number(3)),
-    (3, 3, b"unit a 1487 2\n", CertFault::Number(3)),
-    (3, 3, b"unit a 200 0\n", CertFault::Number(3)),
-    (3, 3, b"unit a 200 61\n", CertFault::Number(3)),
-    (3, 3, b"unit a 01 x\n", CertFault::BadLine(3)),
-    (3, 4, b"", CertFault::BadLine(3)),
-    (5, 5, b"order 0\n", CertFault::BadLine(5)),
-    (5, 5, b"order 0 1 0\n", CertFault::BadLine(5)),
-    (5, 5, b"order 0  1\n", CertFault::BadLine(5)),
-    (5, 5, b"order 0 2\n", CertFault::Number(5)),
-    (5, 5, b"order 00 1\n", CertFault::Number(5)),
-    (5, 5, b"order 2 x\n", CertFault::BadLine(5)),
-    (5, 5, b"end\n", CertFault::BadLine(5)),
-    (6, 6, b"value 83\n", CertFault::Number(6)),
-    (6, 6, b"value 12305\n", CertFault::Number(6)),
-    (6, 6, b"value\n", CertFault::BadLine(6)),
-    (6, 6, b"value none\n", CertFault::BadLine(7)),
-    (7, 7, b"place 60 0\n", CertFault::Number(7)),
-    (7, 7, b"place 0 8\n", CertFault::Number(7)),
-    (7, 7, b"place 0\n", CertFault::BadLine(7)),
-    (7, 7, b"", CertFault::BadLine(8)),
-    (8, 8, b"place 0 0\nplace 0 0\n", CertFault::BadLine(9)),
-    (9, 9, b"trees\n", CertFault::BadLine(9)),
-    (9, 9, b"level 252\ntree\n", CertFault::BadLine(9)),
-    (10, 10, b"S 0\n", CertFault::Number(10)),
-    (10, 10, b"S 481\n", CertFault::Number(10)),
-    (10, 10, b"F 0\n", CertFault::BadLine(10)),
-    (10, 10, b"F 0 8\n", CertFault::Number(10)),
-    (10, 10, b"F 1024 x\n", CertFault::BadLine(10)),
-    (10, 10, b"O\n", CertFault::BadLine(10)),
-    (10, 10, b"W 1\n", CertFault::BadLine(10)),
-    (10, 10, b"A \n", CertFault::BadLine(10)),
-    (10, 10, b"A\n", CertFault::Late(11)),
-    (12, 12, b"end\n", CertFault::Early(12)),
-    (13, 13, b"T 1024\n", CertFault::Number(13)),
-    (13, 13, b"T 04\n", CertFault::Number(13)),
-    (18, 18, b"", CertFault::Early(18)),
-    (19, 19, b"", CertFault::Early(19)),
-    (19, 19, b"T 0\n", CertFault::Late(19)),
-    (19, 19, b"end", CertFault::Early(19)),
-    (19, 19, b"end\nend\n", CertFault::Late(20)),
-    (19, 19, b"end\n\n", CertFault::Late(20)),
-    (19, 19, b"end\nend", CertFault::Early(20)),
-];
-
-/// The same, where the text is read: a checker and not the text says what is wrong.
-const READ: [(usize, usize, &[u8]); 7] = [
-    (5, 5, b"order 0 0\n"),
-    (6, 6, b"value 463\n"),
-    (7, 7, b"place 2 0\n"),
-    (11, 14, b"T 0\n"),
-    (11, 14, b"S 2\nT 0\nT 4\n"),
-    (12, 12, b"S 1\nT 0\n"),
-    (13, 13, b"T 0\n"),
-];
 
 /// A writer that takes at most three bytes at a time, and fails at a call.
 #[derive(Drop)]
@@ -109,6 +38,20 @@ impl Write for Slow {
     fn flush(&mut self) -> io::Result<()> {
         Ok(())
     }
+}
+
+/// What a writer that fails after so many calls holds of the certificate, and what writing it answers.
+fn write(alloc: Global, cert: &Cert, calls: u32) -> (Vec<u8>, Result<(), WriteFault>)
+    requires { IsWellFormed (cert_view cert.now) }
+{
+    let mut sheet = Slow {
+        held: Vec::new(alloc),
+        calls,
+    };
+    let mut io = Io::new(&mut sheet);
+    let answer = write_cert(cert, &mut io);
+    drop(io);
+    (sheet.held, answer)
 }
 
 /// The example with the lines from `first` to `last` replaced by `new`.
@@ -186,14 +129,9 @@ fn reads_and_writes_the_example(rt: HostRuntime) -> Result<(), Fail> {
     let both = Place { phase: 0, slot: 0 };
     assert_eq!(rt; best.plan.places.as_slice(), [both, both].as_slice());
     assert!(rt; well_formed(&cert));
-    let mut sheet = Slow {
-        held: Vec::new(alloc),
-        calls: 1000,
-    };
-    let mut io = Io::new(&mut sheet);
-    assert_eq!(rt; write_cert(&cert, &mut io), Ok(()));
-    drop(io);
-    assert_eq!(rt; sheet.held.as_slice(), EXAMPLE);
+    let (written, answer) = write(alloc, &cert, 1000);
+    assert_eq!(rt; answer, Ok(()));
+    assert_eq!(rt; written.as_slice(), EXAMPLE);
     Ok(())
 }
 
@@ -214,20 +152,184 @@ fn each_front(rt: HostRuntime) -> Result<(), Fail> {
     Ok(())
 }
 
+/// How many of these texts, put in the place of one line of the example, have the fault. The texts are separated by
+/// `|`, and each gets its line feed here.
+fn count(
+    alloc: Global,
+    line: usize,
+    texts: &str,
+    fault: Option<CertFault>,
+) -> Result<usize, AllocError> {
+    let mut count: usize = 0;
+    for text in texts.split('|') {
+        let mut new = Vec::new(alloc);
+        new.extend_from_slice(text.as_bytes())?;
+        new.push(b'\n')?;
+        let text = edited(alloc, line, line, new.as_slice())?;
+        if fault_of(alloc, text.as_slice()) == fault {
+            count = count.saturating_add(1);
+        }
+    }
+    Ok(count)
+}
+
+/// The fault of the example with lines replaced.
+fn changed(
+    alloc: Global,
+    first: usize,
+    last: usize,
+    new: &[u8],
+) -> Result<Option<CertFault>, AllocError> {
+    let text = edited(alloc, first, last, new)?;
+    Ok(fault_of(alloc, text.as_slice()))
+}
+
 #[test]
-fn changed_lines(rt: HostRuntime) -> Result<(), Fail> {
-    for (first, last, new, fault) in FAULTS {
-        let text = edited(rt.alloc(), first, last, new)?;
-        assert_eq!(rt;
-            fault_of(rt.alloc(), text.as_slice()),
-            Some(fault),
-            "{first}"
-        );
-    }
-    for (first, last, new) in READ {
-        let text = edited(rt.alloc(), first, last, new)?;
-        assert_eq!(rt; fault_of(rt.alloc(), text.as_slice()), None, "{first}");
-    }
+fn other_first_lines(rt: HostRuntime) -> Result<(), Fail> {
+    let lines = "ecplan 2|ecplan 3|ecplan 01|ecplan 1 ";
+    assert_eq!(rt; count(rt.alloc(), 1, lines, Some(CertFault::Version))?, 4);
+    Ok(())
+}
+
+#[test]
+fn other_slots(rt: HostRuntime) -> Result<(), Fail> {
+    let lines = "slots 0|slots 9|slots 9\nunit";
+    assert_eq!(rt; count(rt.alloc(), 2, lines, Some(CertFault::Number(2)))?, 3);
+    let lines = "slots 1 1|slots|slots x|slots ";
+    assert_eq!(rt;
+        count(rt.alloc(), 2, lines, Some(CertFault::BadLine(2)))?,
+        4
+    );
+    Ok(())
+}
+
+#[test]
+fn other_units(rt: HostRuntime) -> Result<(), Fail> {
+    let lines = "unit a! 200 2|unit  200 2|unit a 200|unit a 200 2 3|unit a 01 x";
+    assert_eq!(rt;
+        count(rt.alloc(), 3, lines, Some(CertFault::BadLine(3)))?,
+        5
+    );
+    let lines = "unit a 0 2|unit a 1487 2|unit a 200 0|unit a 200 61";
+    assert_eq!(rt; count(rt.alloc(), 3, lines, Some(CertFault::Number(3)))?, 4);
+    assert_eq!(rt;
+        changed(rt.alloc(), 3, 4, b"")?,
+        Some(CertFault::BadLine(3))
+    );
+    Ok(())
+}
+
+#[test]
+fn other_orders(rt: HostRuntime) -> Result<(), Fail> {
+    let lines = "order 0|order 0 1 0|order 0  1|order 2 x|end";
+    assert_eq!(rt;
+        count(rt.alloc(), 5, lines, Some(CertFault::BadLine(5)))?,
+        5
+    );
+    let lines = "order 0 2|order 00 1";
+    assert_eq!(rt; count(rt.alloc(), 5, lines, Some(CertFault::Number(5)))?, 2);
+    Ok(())
+}
+
+#[test]
+fn other_values(rt: HostRuntime) -> Result<(), Fail> {
+    let lines = "value 83|value 12305";
+    assert_eq!(rt; count(rt.alloc(), 6, lines, Some(CertFault::Number(6)))?, 2);
+    assert_eq!(rt;
+        count(rt.alloc(), 6, "value", Some(CertFault::BadLine(6)))?,
+        1
+    );
+    assert_eq!(rt;
+        count(rt.alloc(), 6, "value none", Some(CertFault::BadLine(7)))?,
+        1
+    );
+    Ok(())
+}
+
+#[test]
+fn other_places(rt: HostRuntime) -> Result<(), Fail> {
+    let lines = "place 60 0|place 0 8";
+    assert_eq!(rt; count(rt.alloc(), 7, lines, Some(CertFault::Number(7)))?, 2);
+    assert_eq!(rt;
+        count(rt.alloc(), 7, "place 0", Some(CertFault::BadLine(7)))?,
+        1
+    );
+    assert_eq!(rt;
+        changed(rt.alloc(), 7, 7, b"")?,
+        Some(CertFault::BadLine(8))
+    );
+    let lines = "place 0 0\nplace 0 0";
+    assert_eq!(rt;
+        count(rt.alloc(), 8, lines, Some(CertFault::BadLine(9)))?,
+        1
+    );
+    let lines = "trees|level 252\ntree";
+    assert_eq!(rt;
+        count(rt.alloc(), 9, lines, Some(CertFault::BadLine(9)))?,
+        2
+    );
+    Ok(())
+}
+
+#[test]
+fn other_nodes(rt: HostRuntime) -> Result<(), Fail> {
+    let lines = "S 0|S 481|F 0 8";
+    assert_eq!(rt;
+        count(rt.alloc(), 10, lines, Some(CertFault::Number(10)))?,
+        3
+    );
+    let lines = "F 0|F 1024 x|O|W 1|A ";
+    assert_eq!(rt;
+        count(rt.alloc(), 10, lines, Some(CertFault::BadLine(10)))?,
+        5
+    );
+    assert_eq!(rt; count(rt.alloc(), 10, "A", Some(CertFault::Late(11)))?, 1);
+    assert_eq!(rt;
+        count(rt.alloc(), 12, "end", Some(CertFault::Early(12)))?,
+        1
+    );
+    let lines = "T 1024|T 04";
+    assert_eq!(rt;
+        count(rt.alloc(), 13, lines, Some(CertFault::Number(13)))?,
+        2
+    );
+    assert_eq!(rt;
+        changed(rt.alloc(), 18, 18, b"")?,
+        Some(CertFault::Early(18))
+    );
+    Ok(())
+}
+
+#[test]
+fn other_ends(rt: HostRuntime) -> Result<(), Fail> {
+    assert_eq!(rt;
+        changed(rt.alloc(), 19, 19, b"")?,
+        Some(CertFault::Early(19))
+    );
+    assert_eq!(rt;
+        changed(rt.alloc(), 19, 19, b"end")?,
+        Some(CertFault::Early(19))
+    );
+    assert_eq!(rt;
+        changed(rt.alloc(), 19, 19, b"end\nend")?,
+        Some(CertFault::Early(20))
+    );
+    assert_eq!(rt; count(rt.alloc(), 19, "T 0", Some(CertFault::Late(19)))?, 1);
+    let lines = "end\nend|end\n";
+    assert_eq!(rt; count(rt.alloc(), 19, lines, Some(CertFault::Late(20)))?, 2);
+    Ok(())
+}
+
+/// These texts are read: a checker and not the text says what is wrong.
+#[test]
+fn wrong_in_other_ways(rt: HostRuntime) -> Result<(), Fail> {
+    assert_eq!(rt; count(rt.alloc(), 5, "order 0 0", None)?, 1);
+    assert_eq!(rt; count(rt.alloc(), 6, "value 463", None)?, 1);
+    assert_eq!(rt; count(rt.alloc(), 7, "place 2 0", None)?, 1);
+    assert_eq!(rt; count(rt.alloc(), 12, "S 1\nT 0", None)?, 1);
+    assert_eq!(rt; count(rt.alloc(), 13, "T 0", None)?, 1);
+    assert_eq!(rt; changed(rt.alloc(), 11, 14, b"T 0\n")?, None);
+    assert_eq!(rt; changed(rt.alloc(), 11, 14, b"S 2\nT 0\nT 4\n")?, None);
     Ok(())
 }
 
@@ -279,24 +381,21 @@ fn nested_splits(rt: HostRuntime) -> Result<(), Fail> {
     );
     let text = nested(alloc, 48)?;
     let cert = read_cert(alloc, text.as_slice())?;
-    let mut sheet = Slow {
-        held: Vec::new(alloc),
-        calls: 1000,
-    };
-    let mut io = Io::new(&mut sheet);
-    assert_eq!(rt; write_cert(&cert, &mut io), Ok(()));
-    drop(io);
-    assert_eq!(rt; sheet.held.as_slice(), text.as_slice());
+    let (written, answer) = write(alloc, &cert, 1000);
+    assert_eq!(rt; answer, Ok(()));
+    assert_eq!(rt; written.as_slice(), text.as_slice());
     Ok(())
 }
 
+/// The greatest length is read, and its first line is no version line; one byte more is too large.
 #[test]
-fn too_large(rt: HostRuntime) -> Result<(), Fail> {
-    let spaces = vec![in rt.alloc(); b' '; 67_108_865]?;
-    assert_eq!(rt;
-        fault_of(rt.alloc(), spaces.as_slice()),
-        Some(CertFault::TooLarge)
-    );
+fn greatest_length(rt: HostRuntime) -> Result<(), Fail> {
+    let mut spaces = vec![in rt.alloc(); b' '; 67_108_864]?;
+    let most = fault_of(rt.alloc(), spaces.as_slice());
+    assert_eq!(rt; most, Some(CertFault::Version));
+    spaces.push(b' ')?;
+    let more = fault_of(rt.alloc(), spaces.as_slice());
+    assert_eq!(rt; more, Some(CertFault::TooLarge));
     Ok(())
 }
 
@@ -318,43 +417,51 @@ fn fails_at_a_call(rt: HostRuntime) -> Result<(), Fail> {
     let alloc = rt.alloc();
     let cert = read_cert(alloc, EXAMPLE)?;
     for calls in 0..40 {
-        let mut sheet = Slow {
-            held: Vec::new(alloc),
-            calls,
-        };
-        let mut io = Io::new(&mut sheet);
-        assert_eq!(rt; write_cert(&cert, &mut io), Err(WriteFault), "{calls}");
-        assert!(rt; io.failed());
-        drop(io);
-        assert!(rt; EXAMPLE.starts_with(sheet.held.as_slice()));
-        assert!(rt; sheet.held.len() < 128);
+        let (written, answer) = write(alloc, &cert, calls);
+        assert_eq!(rt; answer, Err(WriteFault), "{calls}");
+        assert!(rt; EXAMPLE.starts_with(written.as_slice()));
+        assert!(rt; written.len() < 128);
+    }
+    Ok(())
+}
+
+/// Whether a certificate with this tree is well formed.
+fn stands(alloc: Global, tree: Tree) -> Result<bool, AllocError> {
+    Ok(well_formed(&small(alloc, tree)?))
+}
+
+#[test]
+fn which_leaves_are_well_formed(rt: HostRuntime) -> Result<(), Fail> {
+    let alloc = rt.alloc();
+    assert!(rt; stands(alloc, Tree::FullLeaf(1023, 7))?);
+    assert!(rt; !stands(alloc, Tree::OpenLeaf)?);
+    assert!(rt; !stands(alloc, Tree::TickLeaf(1024))?);
+    assert!(rt; !stands(alloc, Tree::Split(Vec::new(alloc)))?);
+    Ok(())
+}
+
+#[test]
+fn which_depths_are_well_formed(rt: HostRuntime) -> Result<(), Fail> {
+    let alloc = rt.alloc();
+    let mut tree = Tree::FullLeaf(0, 0);
+    for splits in 1..50 {
+        let mut children = Vec::new(alloc);
+        children.push(tree)?;
+        let cert = small(alloc, Tree::Split(children))?;
+        assert_eq!(rt; well_formed(&cert), splits < 49, "{splits}");
+        tree = cert.tree;
     }
     Ok(())
 }
 
 #[test]
-fn which_are_well_formed(rt: HostRuntime) -> Result<(), Fail> {
-    let alloc = rt.alloc();
-    assert!(rt; well_formed(&small(alloc, Tree::FullLeaf(1023, 7))?));
-    assert!(rt; !well_formed(&small(alloc, Tree::OpenLeaf)?));
-    assert!(rt; !well_formed(&small(alloc, Tree::TickLeaf(1024))?));
-    assert!(rt; !well_formed(&small(alloc, Tree::Split(Vec::new(alloc)))?));
-    let mut tree = Tree::FullLeaf(0, 0);
-    for splits in 1..50 {
-        let mut children = Vec::new(alloc);
-        children.push(tree)?;
-        tree = Tree::Split(children);
-        let cert = small(alloc, tree)?;
-        assert_eq!(rt; well_formed(&cert), splits < 49, "{splits}");
-        tree = cert.tree;
-    }
-    let mut cert = small(alloc, Tree::Average)?;
-    cert.best = Some(Best {
-        busiest: 84,
-        plan: Plan {
-            places: Places::new(Vec::new(alloc)),
-        },
-    });
+fn a_plan_has_a_place_for_each_unit(rt: HostRuntime) -> Result<(), Fail> {
+    let mut cert = small(rt.alloc(), Tree::Average)?;
+    assert!(rt; well_formed(&cert));
+    let plan = Plan {
+        places: Places::new(Vec::new(rt.alloc())),
+    };
+    cert.best = Some(Best { busiest: 84, plan });
     assert!(rt; !well_formed(&cert));
     Ok(())
 }
