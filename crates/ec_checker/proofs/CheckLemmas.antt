@@ -66,7 +66,7 @@ claim_from law units n c v is said =
     let below : All (λ u. u < length loads) c.order = subst (λ k. All (λ u. u < k) c.order) (sym (length-map units load_of)) is.head.order.below in
     subst (IsClaim loads n c.best) (sym said) (claim_of loads n c.best (law loads n (value_of c.best) c.tree c.order (AreLoads-loads_of units) below is.tree) is.head.best)
 
-one_busiest : (xs : List Item) (n a b : ℕ) → IsBusiest xs n a → IsBusiest xs n b → a ≡ b
+pub one_busiest : (xs : List Item) (n a b : ℕ) → IsBusiest xs n a → IsBusiest xs n b → a ≡ b
 one_busiest xs n a b h k =
     let e = h.reached.1 in
     let f = k.reached.1 in
@@ -74,7 +74,7 @@ one_busiest xs n a b h k =
     let high = h.most k.reached.0 in
     omega (arith, e, f, low, high)
 
-plan_refutes : (loads : List Load) (n : ℕ) (best : Option Best) (e : CheckFault) → IsPlanFault loads n best e → ¬ (IsBestPlan loads n best)
+pub plan_refutes : (loads : List Load) (n : ℕ) (best : Option Best) (e : CheckFault) → IsPlanFault loads n best e → ¬ (IsBestPlan loads n best)
 plan_refutes loads n best fault.OutOfMemory h right = absurd h
 plan_refutes loads n best fault.OtherUnits h right = absurd h
 plan_refutes loads n best fault.Order h right = absurd h

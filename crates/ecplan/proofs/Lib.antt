@@ -1,5 +1,10 @@
+pub mod CertLemmas
+pub mod CheckedLemmas
 pub mod LineLemmas
+pub mod OneCheck
+pub mod OneIllegal
 pub mod OneOutput
 pub mod OutputLemmas
 pub mod PlaceLemmas
+pub mod SoundLemmas
 pub mod TellLemmas

@@ -1,4 +1,4 @@
--- The lines of a cost.
+-- The lines of a cost and of a check.
 use Rattle.std.specs.Prelude.{ℕ, ◌*◌, Bool, List, ◌++◌, codes, nat_le, if◌then◌else◌}
 use Rattle.std.specs.List.{flat_map, range_with_len}
 use Rattle.std.specs.Fmt.{decimal}
@@ -27,3 +27,10 @@ fits_line top tick_ns = codes "fits " ++ (yes_or_no (nat_le (80 * top) tick_ns) 
 -- the whole text, for h ticks of these costs with the busiest one
 abbrev pub cost_lines : (ℕ → ℕ) → ℕ → ℕ → ℕ → ℕ → List ℕ
 cost_lines cost h top at tick_ns = hyperperiod_line h ++ tick_lines cost h ++ busiest_line top at ++ fits_line top tick_ns
+
+-- the line of a certificate that shows a plan of this cost least, and of one that shows that there is none
+abbrev pub least_line : ℕ → List ℕ
+least_line b = codes "least " ++ (decimal b ++ codes "\n")
+
+abbrev pub no_plan_line : List ℕ
+no_plan_line = codes "no plan\n"

@@ -1,24 +1,34 @@
 -- What the program writes for what it reads.
-use Rattle.std.specs.Prelude.{◌≡◌, ℕ, ◌<◌, ◌≤◌, ◌⊎◌, is_none, List, length, Option, Result, Ok, Err, MatchOption, MatchResult, string_bytes, String}
-use Rattle.std.proofs.Common.{inl, inr, MutBor, Global, Some, None}
+use Rattle.std.specs.Prelude.{◌≡◌, ◌≢◌, ℕ, ◌<◌, ◌≤◌, ◌⊎◌, is_none, List, length, Option, Result, Ok, Err, MatchOption, MatchResult, string_bytes}
+use Rattle.std.proofs.Common.{inl, inr, MutBor, Some, None}
 use Rattle.std.specs.List.{position_from, filter_map}
 use Rattle.std.specs.Io.KnownBytes.{Appends}
 use Rattle.ec_hyper.specs.Lcm.{lcm_of}
 use Rattle.ec_wire.specs.Stream.{WritesFront}
 use Rattle.ec_units.specs.declared.slave.Place.{Place}
+use Rattle.ec_units.specs.declared.unit.Unit.{Unit as SyncUnit}
+use Rattle.ec_units.specs.declared.units.Units.{Units}
 use Rattle.ec_units.specs.Load.{periods_of}
 use Rattle.ec_units.specs.Reading.{reading}
-use Rattle.ec_units.specs.Views.{UnitView, UnitsView, view_loads}
+use Rattle.ec_units.specs.Views.{UnitView, UnitsView, units_view, view_loads}
 use Rattle.ec_loads.specs.declared.item.Item.{Item}
 use Rattle.ec_loads.specs.declared.plan.Illegal.{Illegal}
 use Rattle.ec_loads.specs.Cost.{plan_items, tick_cost, IsFirstBusiest}
 use Rattle.ec_loads.specs.Legal.{IsLegal, IsIllegalBy}
+use Rattle.ec_cert.specs.Reading.{reading as cert_reading}
+use Rattle.ec_cert.specs.Shapes.{CertView}
+use Rattle.ec_checker.specs.declared.fault.CheckFault.{CheckFault}
+use Rattle.ec_checker.specs.declared.fault.CheckFault.TheVariants as check
+use Rattle.ec_checker.specs.declared.fault.Verdict.{Verdict}
+use Rattle.ec_checker.specs.declared.fault.Verdict.TheVariants as verdict
+use Rattle.ec_checker.specs.Certified.{IsCertified, IsFaultOf, verdict_of}
+use Rattle.ecplan.specs.declared.answer.Answer.{Answer}
 use Rattle.ecplan.specs.declared.refusal.Refusal.{Refusal}
 use Rattle.ecplan.specs.declared.refusal.Refusal.TheVariants as refusal
 use Rattle.ecplan.specs.declared.words.Job.{Job}
 use Rattle.ecplan.specs.declared.words.Job.TheVariants as job
-use Rattle.ecplan.specs.Lines.{cost_lines}
-use Rattle.ecplan.specs.Refusals.{refusal_line, refusal_code, out_of_memory}
+use Rattle.ecplan.specs.Lines.{cost_lines, least_line, no_plan_line}
+use Rattle.ecplan.specs.Refusals.{refusal_line, refusal_code, out_of_memory, IsMemory}
 
 -- a text and the exit status
 pub record Written : Type 0 where
@@ -61,43 +71,76 @@ abbrev pub IsCostOutput : UnitsView → Written → Type 0
 IsCostOutput v w =
     MatchOption (first_unplaced v.units) (IsPlacedOutput v (places_of v.units) w) (λ n. w ≡ refused (refusal.NoPlace n))
 
--- what is written for a unit text of at most 1,048,576 bytes
-abbrev pub IsTextOutput : Job → List ℕ → Written → Type 0
-IsTextOutput job.Cost text w = MatchResult (reading text) (λ v. IsCostOutput v w) (λ f. w ≡ refused (refusal.Unit f))
+-- what is written for a verdict, which has the status 1 where no plan is legal
+abbrev pub verdict_output : Verdict → Written
+verdict_output (verdict.Least b) = done (least_line b)
+verdict_output verdict.NoPlan = record { text = no_plan_line; code = 1 }
 
--- what is written for the bytes of units that a reader has
-abbrev pub IsOutput : Job → List ℕ → Written → Type 0
-IsOutput j bytes w = ((length bytes ≤ 1048576) × IsTextOutput j bytes w) ⊎ ((1048576 < length bytes) × (w ≡ refused refusal.TooLarge))
+-- what is written for these units and a certificate: its verdict where it is certified, or its first fault
+abbrev pub IsCheckedOf : List SyncUnit → ℕ → CertView → Written → Type 0
+IsCheckedOf units n c w =
+    (IsCertified units n c × (w ≡ verdict_output (verdict_of c.best)))
+    ⊎ ((f : CheckFault) × (f ≢ check.OutOfMemory) × IsFaultOf units n c f × (w ≡ refused (refusal.Check f)))
+
+-- the same of units as plain data
+abbrev pub IsCheckedOutput : UnitsView → CertView → Written → Type 0
+IsCheckedOutput v c w = (us : Units) × (units_view us ≡ v) × IsCheckedOf us.units us.slots c w
+
+-- what is written for units and a certificate's text
+abbrev pub IsCheckOutput : UnitsView → List ℕ → Written → Type 0
+IsCheckOutput v text w = MatchResult (cert_reading text) (λ c. IsCheckedOutput v c w) (λ f. w ≡ refused (refusal.Cert f))
+
+-- what a job writes for units, and for the bytes of a certificate where it reads one
+abbrev pub IsUnitsOutput : Job → Option (List ℕ) → UnitsView → Written → Type 0
+IsUnitsOutput job.Cost cert v w = IsCostOutput v w
+IsUnitsOutput job.Check None v w = ⊥
+IsUnitsOutput job.Check (Some text) v w = IsCheckOutput v text w
+
+-- what is written for a unit text of at most 1,048,576 bytes
+abbrev pub IsTextOutput : Job → Option (List ℕ) → List ℕ → Written → Type 0
+IsTextOutput j cert text w = MatchResult (reading text) (λ v. IsUnitsOutput j cert v w) (λ f. w ≡ refused (refusal.Unit f))
+
+-- what is written for the bytes of units and of a certificate that readers have
+abbrev pub IsOutput : Job → List ℕ → Option (List ℕ) → Written → Type 0
+IsOutput j bytes cert w = ((length bytes ≤ 1048576) × IsTextOutput j cert bytes w) ⊎ ((1048576 < length bytes) × (w ≡ refused refusal.TooLarge))
+
+-- an answer is written as it stands
+abbrev pub shown : Answer → Written
+shown a = record { text = string_bytes a.text; code = a.code }
 
 -- an answer, which may be want of memory, is as a fact about what is written says
-abbrev pub Answers : Result (String Global) Refusal → (Written → Type 0) → Type 0
-Answers (Ok text) P = P (done (string_bytes text))
-Answers (Err r) P = (r ≡ out_of_memory) ⊎ P (refused r)
+abbrev pub Answers : Job → Result Answer Refusal → (Written → Type 0) → Type 0
+Answers j (Ok a) P = P (shown a)
+Answers j (Err r) P = IsMemory j r ⊎ P (refused r)
 
 -- what an answer makes the program write
-abbrev pub written_of : Result (String Global) Refusal → Written
-written_of (Ok text) = done (string_bytes text)
+abbrev pub written_of : Result Answer Refusal → Written
+written_of (Ok a) = shown a
 written_of (Err r) = refused r
 
 -- the writer gets what is written for an answer with its status, or the line that says that memory ran out
-abbrev pub Tells : Result (String Global) Refusal → Option (List ℕ) → Option (List ℕ) → ℕ → Type 0
+abbrev pub Tells : Result Answer Refusal → Option (List ℕ) → Option (List ℕ) → ℕ → Type 0
 Tells answer old new code = (w : Written) × ((w ≡ written_of answer) ⊎ (w ≡ refused out_of_memory)) × (code ≡ w.code) × Appends old new w.text
 
 -- the writer gets a front of it
-abbrev pub TellsFront : Result (String Global) Refusal → Option (List ℕ) → Option (List ℕ) → Type 0
+abbrev pub TellsFront : Result Answer Refusal → Option (List ℕ) → Option (List ℕ) → Type 0
 TellsFront answer old new = (w : Written) × ((w ≡ written_of answer) ⊎ (w ≡ refused out_of_memory)) × WritesFront old new w.text
 
 -- the writer gets this refusal with its status, or the line that says that memory ran out
 abbrev pub WritesRefusal : Refusal → Option (List ℕ) → Option (List ℕ) → ℕ → Type 0
 WritesRefusal r old new code = (w : Written) × ((w ≡ refused r) ⊎ (w ≡ refused out_of_memory)) × (code ≡ w.code) × Appends old new w.text
 
--- the writer gets what is written for these bytes with its status, or the line that says that memory ran out
-abbrev pub Writes : Job → List ℕ → Option (List ℕ) → Option (List ℕ) → ℕ → Type 0
-Writes j bytes old new code = (w : Written) × (IsOutput j bytes w ⊎ (w ≡ refused out_of_memory)) × (code ≡ w.code) × Appends old new w.text
+-- the line that says that memory ran out
+abbrev pub IsNoMemory : Job → Written → Type 0
+IsNoMemory j w = (r : Refusal) × IsMemory j r × (w ≡ refused r)
+
+-- the writer gets what is written for these bytes with its status, or a line that says that memory ran out
+abbrev pub Writes : Job → List ℕ → Option (List ℕ) → Option (List ℕ) → Option (List ℕ) → ℕ → Type 0
+Writes j bytes cert old new code = (w : Written) × (IsOutput j bytes cert w ⊎ IsNoMemory j w) × (code ≡ w.code) × Appends old new w.text
 
 -- the writer gets a front of it
-abbrev pub WritesFrontOf : Job → List ℕ → Option (List ℕ) → Option (List ℕ) → Type 0
-WritesFrontOf j bytes old new = (w : Written) × (IsOutput j bytes w ⊎ (w ≡ refused out_of_memory)) × WritesFront old new w.text
+abbrev pub WritesFrontOf : Job → List ℕ → Option (List ℕ) → Option (List ℕ) → Option (List ℕ) → Type 0
+WritesFrontOf j bytes cert old new = (w : Written) × (IsOutput j bytes cert w ⊎ IsNoMemory j w) × WritesFront old new w.text
 
 -- what an `Option<&mut X>` leaves
 abbrev pub left_behind : {X : Type 0} → (Unit {0} ⊎ ((MutBor X × Unit {0}) ⊎ ⊥)) → Option X
@@ -107,4 +150,4 @@ left_behind (inr (inr b)) = absurd b
 
 -- what is written is a function of the bytes that are read
 abbrev pub OneOutputEach : Type 0
-OneOutputEach = (j : Job) (bytes : List ℕ) (a b : Written) → IsOutput j bytes a → IsOutput j bytes b → a ≡ b
+OneOutputEach = (j : Job) (bytes : List ℕ) (cert : Option (List ℕ)) (a b : Written) → IsOutput j bytes cert a → IsOutput j bytes cert b → a ≡ b

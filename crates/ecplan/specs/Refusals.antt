@@ -6,8 +6,14 @@ use Rattle.ec_units.specs.declared.fault.UnitFault.TheVariants as fault
 use Rattle.ec_units.specs.FaultText.{key_text, spot_text}
 use Rattle.ec_loads.specs.declared.plan.Illegal.{Illegal}
 use Rattle.ec_loads.specs.declared.plan.Illegal.TheVariants as illegal
+use Rattle.ec_cert.specs.declared.fault.CertFault.{CertFault}
+use Rattle.ec_cert.specs.declared.fault.CertFault.TheVariants as cert
+use Rattle.ec_checker.specs.declared.fault.CheckFault.{CheckFault}
+use Rattle.ec_checker.specs.declared.fault.CheckFault.TheVariants as check
 use Rattle.ecplan.specs.declared.refusal.Refusal.{Refusal}
 use Rattle.ecplan.specs.declared.refusal.Refusal.TheVariants as refusal
+use Rattle.ecplan.specs.declared.words.Job.{Job}
+use Rattle.ecplan.specs.declared.words.Job.TheVariants as job
 
 -- a fault of a unit text: its code, its name and its fields
 abbrev pub fault_text : UnitFault → List ℕ
@@ -40,6 +46,29 @@ illegal_text (illegal.PhaseRange u) = codes "I2 PhaseRange " ++ decimal u
 illegal_text (illegal.SlotRange u) = codes "I3 SlotRange " ++ decimal u
 illegal_text (illegal.Full t s b) = codes "I4 Full " ++ (decimal t ++ (codes " " ++ (decimal s ++ (codes " " ++ decimal b))))
 
+-- a fault of a certificate's text, with the line that it is on
+abbrev pub cert_text : CertFault → List ℕ
+cert_text cert.OutOfMemory = codes "C1 OutOfMemory"
+cert_text cert.NotText = codes "C2 NotText"
+cert_text cert.Version = codes "C3 Version"
+cert_text (cert.BadLine n) = codes "C4 BadLine " ++ decimal n
+cert_text (cert.Number n) = codes "C5 Number " ++ decimal n
+cert_text (cert.Early n) = codes "C6 Early " ++ decimal n
+cert_text (cert.Late n) = codes "C7 Late " ++ decimal n
+cert_text (cert.TooDeep n) = codes "C8 TooDeep " ++ decimal n
+cert_text cert.TooLarge = codes "C9 TooLarge"
+
+-- why a certificate shows nothing of the units
+abbrev pub check_text : CheckFault → List ℕ
+check_text check.OutOfMemory = codes "K1 OutOfMemory"
+check_text check.OtherUnits = codes "K2 OtherUnits"
+check_text check.Order = codes "K3 Order"
+check_text (check.Plan e) = codes "K4 Plan " ++ illegal_text e
+check_text (check.Value stated found) = codes "K5 Value " ++ (decimal stated ++ (codes " " ++ decimal found))
+check_text (check.Children node want got) = codes "K6 Children " ++ (decimal node ++ (codes " " ++ (decimal want ++ (codes " " ++ decimal got))))
+check_text (check.Leaf node) = codes "K7 Leaf " ++ decimal node
+check_text (check.Depth node) = codes "K8 Depth " ++ decimal node
+
 -- what is refused
 abbrev pub reason_text : Refusal → List ℕ
 reason_text (refusal.Unit f) = fault_text f
@@ -47,6 +76,8 @@ reason_text (refusal.Illegal f) = illegal_text f
 reason_text refusal.TooLarge = codes "E1 TooLarge"
 reason_text (refusal.NoPlace n) = codes "E2 NoPlace " ++ decimal n
 reason_text refusal.Read = codes "E3 Read"
+reason_text (refusal.Cert f) = cert_text f
+reason_text (refusal.Check f) = check_text f
 
 -- the line that refuses
 abbrev pub refusal_line : Refusal → List ℕ
@@ -60,9 +91,18 @@ refusal_code (refusal.Illegal f) = 3
 refusal_code refusal.TooLarge = 3
 refusal_code (refusal.NoPlace n) = 3
 refusal_code refusal.Read = 4
+refusal_code (refusal.Cert cert.OutOfMemory) = 4
+refusal_code (refusal.Cert f) = 3
+refusal_code (refusal.Check check.OutOfMemory) = 4
+refusal_code (refusal.Check f) = 3
 
 abbrev pub out_of_memory : Refusal
 out_of_memory = refusal.Unit fault.OutOfMemory
+
+-- want of memory, which may be answered in place of anything else; a check says who met it
+abbrev pub IsMemory : Job → Refusal → Type 0
+IsMemory job.Cost r = r ≡ out_of_memory
+IsMemory job.Check r = (r ≡ out_of_memory) ⊎ ((r ≡ refusal.Cert cert.OutOfMemory) ⊎ (r ≡ refusal.Check check.OutOfMemory))
 
 -- what can be wrong with reading: memory, a read that failed, or too many bytes
 abbrev pub IsReadFault : Refusal → Type 0

@@ -3,19 +3,19 @@
 ghost use Rattle.std.specs.Prelude.{◌≡◌, ◌⊎◌, ℕ, ◌+◌, ◌*◌, ◌<◌, ◌≤◌, ◌++◌, length, map, string_bytes, None, Some, IfOk, IfErr, OnOk};
 ghost use Rattle.ec_hyper.specs.Lcm.{lcm_of};
 ghost use Rattle.ec_units.specs.Load.{loads_of, periods_of};
-ghost use Rattle.ec_units.specs.Reading.{reading};
 ghost use Rattle.ec_units.specs.Views.{unit_view, units_view};
 ghost use Rattle.ec_loads.specs.Cost.{plan_items, tick_cost};
 ghost use Rattle.ec_loads.specs.Held.{items_of};
 ghost use Rattle.ecplan.specs.Lines.{tick_line, tick_lines};
-ghost use Rattle.ecplan.specs.Output.{IsCostText, first_unplaced, places_of, IsCostOutput, IsTextOutput, Answers};
+ghost use Rattle.ecplan.specs.Output.{IsCostText, first_unplaced, places_of, IsCostOutput, Answers};
 ghost use Rattle.ecplan.specs.Refusals.{out_of_memory};
 ghost use Rattle.ecplan.specs.declared.refusal.Refusal.TheVariants.{NoPlace};
 ghost use Rattle.ecplan.specs.declared.words.Job.TheVariants.{Cost};
 
+use crate::answer::Answer;
 use crate::refusal::Refusal;
 use ec_loads::{Loads, Places, Plan, is_legal};
-use ec_units::{Units, read_units};
+use ec_units::Units;
 use ec_wire::{fits, ns_of};
 use std::alloc::{AllocError, Global};
 use std::fmt::Write;
@@ -92,21 +92,16 @@ fn cost_text(alloc: Global, units: &Units, plan: &Plan) -> Result<String, AllocE
     Ok(text)
 }
 
-/// The text for units, or why there is none.
-fn cost_of(alloc: Global, units: &Units) -> Result<String, Refusal>
-    ensures { Answers result (IsCostOutput (units_view units.now)) }
+/// What is answered for units: the text of their costs, or why there is none.
+pub(crate) fn cost_of(alloc: Global, units: &Units) -> Result<Answer, Refusal>
+    ensures { Answers Cost result (IsCostOutput (units_view units.now)) }
 {
     let plan = plan_of(alloc, units)?;
     match is_legal(units, &plan) {
-        Ok(()) => Ok(cost_text(alloc, units, &plan)?),
+        Ok(()) => Ok(Answer {
+            text: cost_text(alloc, units, &plan)?,
+            code: 0,
+        }),
         Err(illegal) => Err(Refusal::Illegal(illegal)),
     }
-}
-
-/// The text for a unit text, or why there is none.
-pub(crate) fn cost_answer(alloc: Global, text: &[u8]) -> Result<String, Refusal>
-    ensures { Answers result (IsTextOutput Cost text.now) }
-{
-    let units = read_units(alloc, text)?;
-    cost_of(alloc, &units)
 }

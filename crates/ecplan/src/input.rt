@@ -1,14 +1,21 @@
 //! Reading an input whole, up to a limit.
 
-ghost use Rattle.std.specs.Prelude.{◌≡◌, ◌≢◌, ℕ, ◌+◌, ◌-◌, ◌<◌, ◌^◌, ◌≤◌, min, true, length, IfOk, IfErr, IsErrOf, IsTrue, ◌↔◌};
+ghost use Rattle.std.specs.Prelude.{◌≡◌, ◌≢◌, ℕ, ◌+◌, ◌-◌, ◌<◌, ◌^◌, ◌≤◌, min, true, false, length, IfOk, IfErr, IfSome, IsErrOf, IsTrue, ◌↔◌, ◌⊎◌};
 ghost use Rattle.ec_wire.specs.Stream.{stream, has_failed, taken};
-ghost use Rattle.ecplan.specs.Input.{ReadsAll, ReadsTooMany, ConsumesAtMost};
-ghost use Rattle.ecplan.specs.Refusals.{IsReadFault};
+ghost use Rattle.ecplan.specs.Input.{ReadsAll, ReadsTooMany, ConsumesAtMost, AreUnits, AnswersUnits};
+ghost use Rattle.ecplan.specs.Refusals.{IsReadFault, out_of_memory};
+ghost use Rattle.ec_cert.specs.declared.fault.CertFault.TheVariants.{TooLarge};
+ghost use Rattle.ecplan.specs.declared.refusal.Refusal.TheVariants.{Cert};
 
 use crate::refusal::Refusal;
+use ec_cert::{CertFault, MOST_BYTES};
+use ec_units::{Units, read_units};
 use ec_wire::{Io, IoFault};
 use std::alloc::Global;
 use std::io::Read;
+
+/// The most bytes of a unit text.
+const MOST_UNIT_BYTES: usize = 1_048_576;
 
 const CHUNK: usize = 4096;
 
@@ -38,4 +45,33 @@ pub(crate) fn read_all<R: Read>(
         }
     }
     Err(Refusal::TooLarge)
+}
+
+/// The units that the reader has. At most 1,048,577 bytes are read.
+pub(crate) fn units_of<R: Read>(alloc: Global, input: &mut Io<R>) -> Result<Units, Refusal>
+    requires { has_failed input.old ≡ false }
+    ensures told { has_failed input.new ≡ false → IfSome (R.remaining (stream input.old)) (AnswersUnits result) }
+    ensures valid { IfOk result (λ _. IfSome (R.remaining (stream input.old)) AreUnits) }
+    ensures read { has_failed input.new ≡ true → result ≡ Err Refusal.Read }
+    ensures consumed { ConsumesAtMost (R.remaining (stream input.old)) (R.remaining (stream input.new)) 1048577 }
+    ensures taken { taken input.new ≤ taken input.old + 1048577 }
+{
+    let bytes = read_all(alloc, input, MOST_UNIT_BYTES)?;
+    Ok(read_units(alloc, &bytes)?)
+}
+
+/// The text of the certificate that the reader has. Of one that is too long 67,108,865 bytes are read.
+pub(crate) fn cert_text<C: Read>(alloc: Global, input: &mut Io<C>) -> Result<Vec<u8>, Refusal>
+    requires { has_failed input.old ≡ false }
+    ensures ok { IfOk result (λ v. IfSome (C.remaining (stream input.old)) (λ all. v.items ≡ all)) }
+    ensures err { has_failed input.new ≡ false → IfErr result (λ r.
+        (r ≡ out_of_memory) ⊎ ((r ≡ Cert TooLarge) × ReadsTooMany (C.remaining (stream input.old)) 67108864)) }
+    ensures read { has_failed input.new ≡ true → result ≡ Err Refusal.Read }
+    ensures consumed { ConsumesAtMost (C.remaining (stream input.old)) (C.remaining (stream input.new)) 67108865 }
+    ensures taken { taken input.new ≤ taken input.old + 67108865 }
+{
+    match read_all(alloc, input, MOST_BYTES) {
+        Err(Refusal::TooLarge) => Err(Refusal::Cert(CertFault::TooLarge)),
+        read => read,
+    }
 }

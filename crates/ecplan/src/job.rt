@@ -1,48 +1,63 @@
 //! A job: what is read, and what is written for it.
 
-ghost use Rattle.std.specs.Prelude.{◌≡◌, ◌≢◌, ℕ, ◌+◌, ◌<◌, ◌≤◌, ◌↔◌, true, false, length, string_bytes, IfOk, IfErr, IfSome, IsErrOf, IsTrue};
+ghost use Rattle.std.specs.Prelude.{◌≡◌, ◌≢◌, ℕ, ◌+◌, ◌<◌, ◌≤◌, ◌↔◌, true, false, None, Some, length, string_bytes, IfOk, IfErr, IfSome, IsErrOf, IsTrue};
 ghost use Rattle.std.specs.Io.KnownBytes.{Appends};
 ghost use Rattle.ec_wire.specs.Stream.{stream, has_failed, taken, WritesFront};
-ghost use Rattle.ecplan.specs.Input.{ConsumesAtMost};
-ghost use Rattle.ecplan.specs.Output.{IsTextOutput, IsOutput, Answers, Writes, WritesFrontOf, WritesRefusal, Tells, TellsFront};
+ghost use Rattle.ecplan.specs.Input.{ConsumesAtMost, AreUnits};
+ghost use Rattle.ecplan.specs.Output.{IsOutput, Answers, Writes, WritesFrontOf, WritesRefusal, Tells, TellsFront};
 ghost use Rattle.ecplan.specs.Refusals.{refusal_line, out_of_memory};
+ghost use Rattle.ecplan.specs.declared.words.Job.TheVariants.{Cost, Check};
 
-use crate::cost::cost_answer;
-use crate::input::read_all;
+use crate::answer::Answer;
+use crate::check::check_answer;
+use crate::cost::cost_of;
+use crate::input::{cert_text, units_of};
 use crate::refusal::Refusal;
-use crate::words::Job;
 use ec_wire::{Io, WriteFault};
 use std::alloc::{AllocError, Global};
 use std::io::{Read, Write};
 
-/// The exit status of a run: 0 done, 3 refused input, 4 reading, writing or memory failed.
+/// The exit status of a run: 0 done or least, 1 no plan, 3 refused input, 4 reading, writing or memory failed.
 #[derive(Clone, Copy, Debug, PartialEq, Eq)]
 pub struct Status {
     pub code: u8,
 }
 
-/// The most bytes of a unit text.
-pub const MOST_UNIT_BYTES: usize = 1_048_576;
-
-/// The text of a job for a unit text, or why there is none.
-fn text_answer(alloc: Global, job: &Job, text: &[u8]) -> Result<String, Refusal>
-    ensures { Answers result (IsTextOutput job.now text.now) }
+/// What a cost answers of the units that the reader has.
+fn cost_answer<R: Read>(alloc: Global, units: &mut Io<R>) -> Result<Answer, Refusal>
+    requires { has_failed units.old ≡ false }
+    ensures told { has_failed units.new ≡ false → IfSome (R.remaining (stream units.old)) (λ bytes. Answers Cost result (IsOutput Cost bytes None)) }
+    ensures read { has_failed units.new ≡ true → result ≡ Err Refusal.Read }
+    ensures consumed { ConsumesAtMost (R.remaining (stream units.old)) (R.remaining (stream units.new)) 1048577 }
+    ensures taken { taken units.new ≤ taken units.old + 1048577 }
 {
-    match job {
-        Job::Cost => cost_answer(alloc, text),
-    }
+    let line = units_of(alloc, units)?;
+    cost_of(alloc, &line)
 }
 
-/// The text of a job for what the reader has, or why there is none.
-fn whole_answer<R: Read>(alloc: Global, job: &Job, units: &mut Io<R>) -> Result<String, Refusal>
-    requires { has_failed units.old ≡ false }
-    ensures told { has_failed units.new ≡ false → IfSome (R.remaining (stream units.old)) (λ bytes. Answers result (IsOutput job.now bytes)) }
+/// What a check answers of the units and the certificate that the readers have. The certificate isn't read before
+/// the units are right.
+fn whole_answer<R: Read, C: Read>(
+    alloc: Global,
+    units: &mut Io<R>,
+    cert: &mut Io<C>,
+) -> Result<Answer, Refusal>
+    requires units { has_failed units.old ≡ false }
+    requires cert { has_failed cert.old ≡ false }
+    ensures told { has_failed units.new ≡ false → has_failed cert.new ≡ false → IfSome (R.remaining (stream units.old)) (λ bytes.
+        IfSome (C.remaining (stream cert.old)) (λ text. Answers Check result (IsOutput Check bytes (Some text)))) }
     ensures read { has_failed units.new ≡ true → result ≡ Err Refusal.Read }
-    ensures consumed { ConsumesAtMost (R.remaining (stream units.old)) (R.remaining (stream units.new)) (MOST_UNIT_BYTES + 1) }
-    ensures taken { taken units.new ≤ taken units.old + (MOST_UNIT_BYTES + 1) }
+    ensures cert_read { has_failed cert.new ≡ true → result ≡ Err Refusal.Read }
+    ensures kept { has_failed units.new ≡ true → cert.new ≡ cert.old }
+    ensures first { IfSome (R.remaining (stream units.old)) (λ bytes. ¬ (AreUnits bytes) → cert.new ≡ cert.old) }
+    ensures consumed { ConsumesAtMost (R.remaining (stream units.old)) (R.remaining (stream units.new)) 1048577 }
+    ensures taken { taken units.new ≤ taken units.old + 1048577 }
+    ensures cert_consumed { ConsumesAtMost (C.remaining (stream cert.old)) (C.remaining (stream cert.new)) 67108865 }
+    ensures cert_taken { taken cert.new ≤ taken cert.old + 67108865 }
 {
-    let bytes = read_all(alloc, units, MOST_UNIT_BYTES)?;
-    text_answer(alloc, job, &bytes)
+    let units = units_of(alloc, units)?;
+    let text = cert_text(alloc, cert)?;
+    check_answer(alloc, &units, &text)
 }
 
 /// The line that refuses.
@@ -69,14 +84,14 @@ fn write_status<W: Write>(text: &mut Io<W>, bytes: &[u8], code: u8) -> Status
 const NO_MEMORY: &str = "refused U1 OutOfMemory\n";
 
 /// Writes the text or the refusal whole, and says with which status the run ends.
-fn finish<W: Write>(alloc: Global, answer: Result<String, Refusal>, text: &mut Io<W>) -> Status
+fn finish<W: Write>(alloc: Global, answer: Result<Answer, Refusal>, text: &mut Io<W>) -> Status
     requires { has_failed text.old ≡ false }
     ensures told { has_failed text.new ≡ false → Tells answer (W.contents (stream text.old)) (W.contents (stream text.new)) result.code }
     ensures front { TellsFront answer (W.contents (stream text.old)) (W.contents (stream text.new)) }
     ensures failed { has_failed text.new ≡ true → result.code ≡ 4 }
 {
     match answer {
-        Ok(lines) => write_status(text, lines.as_bytes(), 0),
+        Ok(answer) => write_status(text, answer.text.as_bytes(), answer.code),
         Err(refusal) => match refusal_text(alloc, refusal) {
             Ok(line) => write_status(text, line.as_bytes(), refusal.code()),
             Err(AllocError) => write_status(text, NO_MEMORY.as_bytes(), 4),
@@ -84,25 +99,54 @@ fn finish<W: Write>(alloc: Global, answer: Result<String, Refusal>, text: &mut I
     }
 }
 
-/// Reads the units, makes the whole answer, and then writes it.
-pub(crate) fn run_job<R: Read, W: Write>(
+/// Reads the units, makes the whole text of their costs, and then writes it.
+pub(crate) fn run_cost<R: Read, W: Write>(
     alloc: Global,
-    job: &Job,
     units: &mut Io<R>,
     text: &mut Io<W>,
 ) -> Status
     requires units { has_failed units.old ≡ false }
     requires text { has_failed text.old ≡ false }
     ensures honest { has_failed units.new ≡ false → has_failed text.new ≡ false → IfSome (R.remaining (stream units.old)) (λ bytes.
-        Writes job.now bytes (W.contents (stream text.old)) (W.contents (stream text.new)) result.code) }
+        Writes Cost bytes None (W.contents (stream text.old)) (W.contents (stream text.new)) result.code) }
     ensures front { has_failed units.new ≡ false → IfSome (R.remaining (stream units.old)) (λ bytes.
-        WritesFrontOf job.now bytes (W.contents (stream text.old)) (W.contents (stream text.new))) }
+        WritesFrontOf Cost bytes None (W.contents (stream text.old)) (W.contents (stream text.new))) }
     ensures unread { has_failed units.new ≡ true → has_failed text.new ≡ false →
         WritesRefusal Refusal.Read (W.contents (stream text.old)) (W.contents (stream text.new)) result.code }
     ensures failed { has_failed text.new ≡ true → result.code ≡ 4 }
     ensures consumed { ConsumesAtMost (R.remaining (stream units.old)) (R.remaining (stream units.new)) 1048577 }
     ensures taken { taken units.new ≤ taken units.old + 1048577 }
 {
-    let answer = whole_answer(alloc, job, units);
+    let answer = cost_answer(alloc, units);
+    finish(alloc, answer, text)
+}
+
+/// Reads the units and then the certificate, makes the whole answer, and then writes it.
+pub(crate) fn run_check<R: Read, C: Read, W: Write>(
+    alloc: Global,
+    units: &mut Io<R>,
+    cert: &mut Io<C>,
+    text: &mut Io<W>,
+) -> Status
+    requires units { has_failed units.old ≡ false }
+    requires cert { has_failed cert.old ≡ false }
+    requires text { has_failed text.old ≡ false }
+    ensures honest { has_failed units.new ≡ false → has_failed cert.new ≡ false → has_failed text.new ≡ false → IfSome (R.remaining (stream units.old)) (λ bytes.
+        IfSome (C.remaining (stream cert.old)) (λ cert_bytes. Writes Check bytes (Some cert_bytes) (W.contents (stream text.old)) (W.contents (stream text.new)) result.code)) }
+    ensures front { has_failed units.new ≡ false → has_failed cert.new ≡ false → IfSome (R.remaining (stream units.old)) (λ bytes.
+        IfSome (C.remaining (stream cert.old)) (λ cert_bytes. WritesFrontOf Check bytes (Some cert_bytes) (W.contents (stream text.old)) (W.contents (stream text.new)))) }
+    ensures unread { has_failed units.new ≡ true → has_failed text.new ≡ false →
+        WritesRefusal Refusal.Read (W.contents (stream text.old)) (W.contents (stream text.new)) result.code }
+    ensures cert_unread { has_failed cert.new ≡ true → has_failed text.new ≡ false →
+        WritesRefusal Refusal.Read (W.contents (stream text.old)) (W.contents (stream text.new)) result.code }
+    ensures failed { has_failed text.new ≡ true → result.code ≡ 4 }
+    ensures kept { has_failed units.new ≡ true → cert.new ≡ cert.old }
+    ensures first { IfSome (R.remaining (stream units.old)) (λ bytes. ¬ (AreUnits bytes) → cert.new ≡ cert.old) }
+    ensures consumed { ConsumesAtMost (R.remaining (stream units.old)) (R.remaining (stream units.new)) 1048577 }
+    ensures taken { taken units.new ≤ taken units.old + 1048577 }
+    ensures cert_consumed { ConsumesAtMost (C.remaining (stream cert.old)) (C.remaining (stream cert.new)) 67108865 }
+    ensures cert_taken { taken cert.new ≤ taken cert.old + 67108865 }
+{
+    let answer = whole_answer(alloc, units, cert);
     finish(alloc, answer, text)
 }

@@ -2,6 +2,10 @@
 //! units come on standard input, and the text goes to standard output.
 #![tactic(auto)]
 
+ghost use Rattle.std.specs.Prelude.{◌≡◌};
+
+mod answer;
+mod check;
 mod cost;
 mod input;
 mod job;
@@ -14,8 +18,8 @@ mod words;
 use ec_wire::Io;
 use run::run;
 use std::process::ExitCode;
-use std::{env, io};
-use words::{LineFault, read_words};
+use std::{env, fs, io};
+use words::{Job, LineFault, read_words};
 
 /// The words after the program's name.
 fn words_of(rt: &HostRuntime) -> io::Result<Vec<String>> {
@@ -32,6 +36,43 @@ const FAILED: u8 = 4;
 /// The exit status of words that are no command.
 const REFUSED_WORDS: u8 = 5;
 
+/// Says that a path could not be opened.
+fn refuse_path(rt: &HostRuntime) -> u8 {
+    let _ = rt.print("refused E3 Read\n");
+    FAILED
+}
+
+/// Does a job on the standard streams that reads no certificate.
+fn run_alone(rt: &HostRuntime, job: &Job) -> u8
+    requires { job.now ≡ Job.Cost }
+{
+    let mut units = Io::new(rt.reader());
+    let mut text = Io::new(io::writer(rt));
+    let none: Option<&mut Io<io::Empty>> = None;
+    let nowhere: Option<&mut Io<io::Sink>> = None;
+    run(rt.alloc(), job, &mut units, none, &mut text, nowhere).code
+}
+
+/// Does a job on the standard streams with the certificate at this path, which is opened before anything is read.
+fn run_with_cert(rt: &HostRuntime, job: &Job, path: &str) -> u8 {
+    let Ok(file) = fs::open(rt, path) else {
+        return refuse_path(rt);
+    };
+    let mut cert = Io::new(file);
+    let mut units = Io::new(rt.reader());
+    let mut text = Io::new(io::writer(rt));
+    let nowhere: Option<&mut Io<io::Sink>> = None;
+    run(
+        rt.alloc(),
+        job,
+        &mut units,
+        Some(&mut cert),
+        &mut text,
+        nowhere,
+    )
+    .code
+}
+
 /// Reads the words, does the job on the standard streams, and ends with its status.
 fn main(rt: HostRuntime) -> ExitCode {
     let Ok(words) = words_of(&rt) else {
@@ -45,12 +86,11 @@ fn main(rt: HostRuntime) -> ExitCode {
             return ExitCode::from(if shown.is_ok() { REFUSED_WORDS } else { FAILED });
         }
     };
-    let mut units = Io::new(rt.reader());
-    let mut text = Io::new(io::writer(&rt));
-    let none: Option<&mut Io<io::Empty>> = None;
-    let nowhere: Option<&mut Io<io::Sink>> = None;
-    let status = run(rt.alloc(), &line.job, &mut units, none, &mut text, nowhere);
-    ExitCode::from(status.code)
+    let status = match &line.cert {
+        Some(path) => run_with_cert(&rt, &line.job, path.as_str()),
+        None => run_alone(&rt, &line.job),
+    };
+    ExitCode::from(status)
 }
 
 #[cfg(test)]

@@ -1,9 +1,11 @@
 //! What the program refuses, and the line that says so.
 
 ghost use Rattle.std.specs.Prelude.{◌≡◌, Some};
-ghost use Rattle.ecplan.specs.Refusals.{fault_text, illegal_text, reason_text, refusal_code, out_of_memory};
-ghost use Rattle.ecplan.specs.declared.refusal.Refusal.TheVariants.{Unit as UnitRefusal, Illegal as IllegalRefusal};
+ghost use Rattle.ecplan.specs.Refusals.{fault_text, illegal_text, cert_text, check_text, reason_text, refusal_code, out_of_memory};
+ghost use Rattle.ecplan.specs.declared.refusal.Refusal.TheVariants.{Unit as UnitRefusal, Illegal as IllegalRefusal, Cert as CertRefusal};
 
+use ec_cert::CertFault;
+use ec_checker::CheckFault;
 use ec_loads::Illegal;
 use ec_units::UnitFault;
 use std::alloc::{AllocError, AllocFailed};
@@ -22,6 +24,10 @@ pub enum Refusal {
     NoPlace(usize),
     /// A read failed.
     Read,
+    /// The certificate's text has this fault, or memory ran out while it was read.
+    Cert(CertFault),
+    /// The certificate shows nothing of the units, or memory ran out while it was checked.
+    Check(CheckFault),
 }
 
 impl Refusal {
@@ -30,8 +36,16 @@ impl Refusal {
         ensures { result ≡ refusal_code self.now }
     {
         match self {
-            Refusal::Unit(UnitFault::OutOfMemory) | Refusal::Read => 4,
-            Refusal::Unit(_) | Refusal::Illegal(_) | Refusal::TooLarge | Refusal::NoPlace(_) => 3,
+            Refusal::Unit(UnitFault::OutOfMemory)
+            | Refusal::Cert(CertFault::OutOfMemory)
+            | Refusal::Check(CheckFault::OutOfMemory)
+            | Refusal::Read => 4,
+            Refusal::Unit(_)
+            | Refusal::Illegal(_)
+            | Refusal::TooLarge
+            | Refusal::NoPlace(_)
+            | Refusal::Cert(_)
+            | Refusal::Check(_) => 3,
         }
     }
 }
@@ -57,6 +71,14 @@ impl From<UnitFault> for Refusal {
 
     fn from(fault: UnitFault) -> Refusal {
         Refusal::Unit(fault)
+    }
+}
+
+impl From<CertFault> for Refusal {
+    ghost from_gives = { λ f r. r ≡ CertRefusal f };
+
+    fn from(fault: CertFault) -> Refusal {
+        Refusal::Cert(fault)
     }
 }
 
@@ -119,6 +141,52 @@ impl fmt::Display for IllegalText {
     }
 }
 
+/// A fault of a certificate's text as it is printed: code, name and the line.
+#[derive(Clone, Copy, Debug)]
+struct CertText(CertFault);
+
+impl fmt::Display for CertText {
+    ghost output = { λ t. Some (cert_text t.0) };
+
+    fn fmt<W: fmt::Write>(&self, f: &mut fmt::Formatter<W>) -> fmt::Result {
+        match self.0 {
+            CertFault::OutOfMemory => write!(f, "C1 OutOfMemory"),
+            CertFault::NotText => write!(f, "C2 NotText"),
+            CertFault::Version => write!(f, "C3 Version"),
+            CertFault::BadLine(line) => write!(f, "C4 BadLine {line}"),
+            CertFault::Number(line) => write!(f, "C5 Number {line}"),
+            CertFault::Early(line) => write!(f, "C6 Early {line}"),
+            CertFault::Late(line) => write!(f, "C7 Late {line}"),
+            CertFault::TooDeep(line) => write!(f, "C8 TooDeep {line}"),
+            CertFault::TooLarge => write!(f, "C9 TooLarge"),
+        }
+    }
+}
+
+/// Why a certificate shows nothing as it is printed: code, name and fields.
+#[derive(Clone, Copy, Debug)]
+struct CheckText(CheckFault);
+
+impl fmt::Display for CheckText {
+    ghost output = { λ t. Some (check_text t.0) };
+
+    fn fmt<W: fmt::Write>(&self, f: &mut fmt::Formatter<W>) -> fmt::Result {
+        match self.0 {
+            CheckFault::OutOfMemory => write!(f, "K1 OutOfMemory"),
+            CheckFault::OtherUnits => write!(f, "K2 OtherUnits"),
+            CheckFault::Order => write!(f, "K3 Order"),
+            CheckFault::Plan(illegal) => {
+                let illegal = IllegalText(illegal);
+                write!(f, "K4 Plan {illegal}")
+            }
+            CheckFault::Value(stated, found) => write!(f, "K5 Value {stated} {found}"),
+            CheckFault::Children(node, want, got) => write!(f, "K6 Children {node} {want} {got}"),
+            CheckFault::Leaf(node) => write!(f, "K7 Leaf {node}"),
+            CheckFault::Depth(node) => write!(f, "K8 Depth {node}"),
+        }
+    }
+}
+
 impl fmt::Display for Refusal {
     ghost output = { λ r. Some (reason_text r) };
 
@@ -135,6 +203,14 @@ impl fmt::Display for Refusal {
             Refusal::TooLarge => write!(f, "E1 TooLarge"),
             Refusal::NoPlace(unit) => write!(f, "E2 NoPlace {unit}"),
             Refusal::Read => write!(f, "E3 Read"),
+            Refusal::Cert(fault) => {
+                let fault = CertText(*fault);
+                write!(f, "{fault}")
+            }
+            Refusal::Check(fault) => {
+                let fault = CheckText(*fault);
+                write!(f, "{fault}")
+            }
         }
     }
 }

@@ -12,6 +12,8 @@ use std::io;
 use std::io::{ErrorKind, Read, Write};
 use std::test::Fail;
 
+mod checks;
+
 /// A reader of these bytes that fails at a call.
 #[derive(Drop)]
 struct FailsAt<'a> {
@@ -454,6 +456,23 @@ fn words(rt: HostRuntime) -> Result<(), Fail> {
     assert!(rt; refuses(alloc, &["costs"])?);
     assert!(rt; refuses(alloc, &["cost", "cost"])?);
     assert!(rt; refuses(alloc, &[""])?);
+    Ok(())
+}
+
+#[test]
+fn words_of_a_check(rt: HostRuntime) -> Result<(), Fail> {
+    let alloc = rt.alloc();
+    let words = words_of(alloc, &["check", "--cert", "line.cert"])?;
+    let line = read_words(alloc, &words).ok().ok_or("a line")?;
+    assert_eq!(rt; line.job, Job::Check);
+    let path = line.cert.ok_or("a path")?;
+    assert_eq!(rt; path.as_str(), "line.cert");
+    assert!(rt; line.out.is_none());
+    assert!(rt; refuses(alloc, &["check"])?);
+    assert!(rt; refuses(alloc, &["check", "--cert"])?);
+    assert!(rt; refuses(alloc, &["check", "line.cert", "--cert"])?);
+    assert!(rt; refuses(alloc, &["cost", "--cert", "line.cert"])?);
+    assert!(rt; refuses(alloc, &["check", "--cert", "line.cert", "more"])?);
     Ok(())
 }
 

@@ -1,16 +1,16 @@
-use Rattle.std.proofs.Common.{inl, inr, refl, sym, ap, ◌∙◌, string_bytes}
-use Rattle.ecplan.specs.Output.{done, written_of, refused}
+use Rattle.std.proofs.Common.{inl, inr, refl, sym, ap, ◌∙◌}
+use Rattle.ecplan.specs.Output.{shown, written_of, refused}
 use Rattle.ecplan.specs.Refusals.{out_of_memory}
 use Rattle.ecplan.proofs.TellLemmas.{tells_by, front_by}
 use Rattle.ecplan.proofs.job.finish.Goals as goal
 
 pub returns-in-Ok-clause-told : goal.returns-in-Ok-clause-told
 returns-in-Ok-clause-told g c = λ ok.
-    tells_by c.args.answer (done (string_bytes c.in-Ok.lines)) _ _ _ 0 c.as_bytes.result.now (inl (sym (ap written_of c.in-Ok.is))) c.as_bytes.ensures.value refl (c.write_status.ensures.all ok)
+    tells_by c.args.answer (shown c.in-Ok.answer) _ _ _ c.in-Ok.answer.code c.as_bytes.result.now (inl (sym (ap written_of c.in-Ok.is))) c.as_bytes.ensures.value refl (c.write_status.ensures.all ok)
 
 pub returns-in-Ok-clause-front : goal.returns-in-Ok-clause-front
 returns-in-Ok-clause-front g c =
-    front_by c.args.answer (done (string_bytes c.in-Ok.lines)) _ _ c.as_bytes.result.now (inl (sym (ap written_of c.in-Ok.is))) c.as_bytes.ensures.value c.write_status.ensures.front
+    front_by c.args.answer (shown c.in-Ok.answer) _ _ c.as_bytes.result.now (inl (sym (ap written_of c.in-Ok.is))) c.as_bytes.ensures.value c.write_status.ensures.front
 
 pub returns-in-Ok-refusal_text-clause-told : goal.returns-in-Ok-refusal_text-clause-told
 returns-in-Ok-refusal_text-clause-told g c = λ ok.
