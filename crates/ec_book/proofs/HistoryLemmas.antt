@@ -1,0 +1,56 @@
+-- A history goes on by one step.
+use Rattle.std.proofs.Common.{◌≡◌, ℕ, zero, suc, ◌+◌, ◌≤◌, List, [], ◌∷◌, ◌++◌, length, set, slice_get, replicate, Option, Some, None, refl, sym, ap, ◌∙◌, subst, arith}
+use Rattle.ec_book.specs.declared.step.Step.{Step}
+use Rattle.ec_book.specs.declared.step.Step.TheVariants.{Took, Reported, Better, Back}
+use Rattle.ec_book.specs.declared.piece.Piece.{Piece}
+use Rattle.ec_book.specs.declared.piece.Piece.TheVariants.{Free, Taken, Ended}
+use Rattle.ec_book.specs.Steps.{PiecesState, PiecesStep, IsHistory, after, replay, granted, grant_of, taken_count, taken_one}
+
+pub history-push : (n : ℕ) (s : PiecesState) (es : List Step) (e : Step) (t u : PiecesState) → IsHistory n s es t → PiecesStep n t e u → IsHistory n s (es ++ e ∷ []) u
+history-push n s [] e t u h step = (u, subst (λ w. PiecesStep n w e u) h step, refl)
+history-push n s (x ∷ es) e t u h step = (h.0, h.1, history-push n h.0 es e t u h.2 step)
+
+step-after : (n : ℕ) (s : PiecesState) (e : Step) (t : PiecesState) → PiecesStep n s e t → t ≡ after s e
+step-after n s (Took w p g) t h = h.3
+step-after n s (Reported w p k first count) t h = h.5
+step-after n s (Better w v) t h = h.1
+step-after n s (Back w p) t h = h.2
+
+-- a legal history replays to its last state
+pub history-replays : (n : ℕ) (s : PiecesState) (es : List Step) (t : PiecesState) → IsHistory n s es t → replay s es ≡ t
+history-replays n s [] t h = sym h
+history-replays n s (e ∷ es) t h = ap (λ w. replay w es) (sym (step-after n s e h.0 h.1)) ∙ history-replays n h.0 es t h.2
+
+pub granted-set : (ps : List Piece) (i : ℕ) (old new : Piece) → slice_get ps i ≡ Some old → granted (set ps i new) + grant_of old ≡ granted ps + grant_of new
+granted-set [] i old new h = absurd (cc)
+granted-set (p ∷ ps) zero old new h = let same : p ≡ old = cc in let one = ap grant_of same in omega (arith, one)
+granted-set (p ∷ ps) (suc i) old new h = let rest = granted-set ps i old new h in omega (arith, rest)
+
+pub granted-free : (ps : List Piece) (k : ℕ) → granted (ps ++ replicate k Free) ≡ granted ps
+granted-free [] zero = refl
+granted-free [] (suc k) = let rest = granted-free [] k in omega (arith, rest)
+granted-free (p ∷ ps) k = ap (λ w. grant_of p + w) (granted-free ps k)
+
+-- a piece holds no more than all of them
+pub granted-le : (ps : List Piece) (i : ℕ) (old : Piece) → slice_get ps i ≡ Some old → grant_of old ≤ granted ps
+granted-le ps i old h = let one = granted-set ps i old Free h in omega (arith, one)
+
+pub taken-set : (ps : List Piece) (i : ℕ) (old new : Piece) → slice_get ps i ≡ Some old → taken_count (set ps i new) + taken_one old ≡ taken_count ps + taken_one new
+taken-set [] i old new h = absurd (cc)
+taken-set (p ∷ ps) zero old new h = let same : p ≡ old = cc in let one = ap taken_one same in omega (arith, one)
+taken-set (p ∷ ps) (suc i) old new h = let rest = taken-set ps i old new h in omega (arith, rest)
+
+pub taken-free : (ps : List Piece) (k : ℕ) → taken_count (ps ++ replicate k Free) ≡ taken_count ps
+taken-free [] zero = refl
+taken-free [] (suc k) = let rest = taken-free [] k in omega (arith, rest)
+taken-free (p ∷ ps) k = ap (λ w. taken_one p + w) (taken-free ps k)
+
+pub taken-le : (ps : List Piece) (i : ℕ) (old : Piece) → slice_get ps i ≡ Some old → taken_one old ≤ taken_count ps
+taken-le ps i old h = let one = taken-set ps i old Free h in omega (arith, one)
+
+-- where no piece is taken nothing is granted
+pub granted-none : (ps : List Piece) → taken_count ps ≡ 0 → granted ps ≡ 0
+granted-none [] h = refl
+granted-none (Free ∷ ps) h = let rest = granted-none ps (omega (arith, h)) in omega (arith, rest)
+granted-none (Ended ∷ ps) h = let rest = granted-none ps (omega (arith, h)) in omega (arith, rest)
+granted-none (Taken w g ∷ ps) h = absurd (omega (arith, h))

@@ -1,0 +1,13 @@
+pub mod PlugLemmas
+pub mod RowLemmas
+pub mod HistoryLemmas
+pub mod PieceLemmas
+pub mod OrderLemmas
+pub mod TreeLemmas
+pub mod DrawLemmas
+pub mod PartLemmas
+pub mod KeepLemmas
+pub mod PlanLemmas
+pub mod FinishLemmas
+pub mod OpenLemmas
+pub mod PartialLemmas

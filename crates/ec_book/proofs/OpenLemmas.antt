@@ -1,0 +1,78 @@
+-- The walk that collects the places of open leaves.
+use Rattle.std.proofs.Common.{◌≡◌, ℕ, zero, suc, ◌+◌, ◌-◌, ◌<◌, ◌≤◌, List, [], ◌∷◌, ◌++◌, length, set, take, drop, get_or, Some, None, Vec, Global, refl, ap, sym, subst, ◌∙◌, arith}
+use Rattle.std.proofs.lemmas.List.{drop_more, drop_all}
+use Rattle.ec_units.specs.declared.slave.Place.{Place}
+use Rattle.ec_units.specs.declared.unit.Load.{Load}
+use Rattle.ec_loads.specs.Search.{Prefix, children}
+use Rattle.ec_loads.specs.Shape.{Shape, Shapes, split, more}
+use Rattle.ec_cert.specs.declared.tree.Tree.{Tree, Split}
+use Rattle.ec_cert.specs.Shapes.{shape_of, shapes_of}
+use Rattle.ec_cert.proofs.TreeLemmas.{shape_of-Split, shapes_of-drop}
+use Rattle.ec_symmetry.specs.Orders.{prefix_of}
+use Rattle.ec_book.specs.Open.{leaf_places, all_leaf_places, open_places}
+use Rattle.ec_book.proofs.OrderLemmas.{leads-more}
+
+-- what these trees leave open, for these children of the unit
+abbrev pub opened_from : List Load → ℕ → List ℕ → List Tree → ℕ → List Place → List Place → List (List Place)
+opened_from loads n order ts u q kids = all_leaf_places loads n (shapes_of ts) (prefix_of loads order q) u (drop (length q + 1) order) q kids
+
+-- what all trees of a split leave open
+abbrev pub opened_all : List Load → ℕ → List ℕ → List Tree → ℕ → List Place → List (List Place)
+opened_all loads n order ts u q = opened_from loads n order ts u q (children loads n (prefix_of loads order q) u)
+
+pub leads-here : (loads : List Load) (order : List ℕ) (q : List Place) (u : ℕ) → length q < length order → u ≡ get_or order (length q) 0 → u ∷ drop (length q + 1) order ≡ drop (length q) order
+leads-here loads order q u h is = (λ j. is j ∷ drop (length q + 1) order) ∙ sym (drop_more order (length q) 0 h)
+
+pub split_opened : (loads : List Load) (n : ℕ) (order : List ℕ) (tree : Tree) (trees : Vec Tree Global) (u : ℕ) (q : List Place) → tree ≡ Split trees → length q < length order → u ≡ get_or order (length q) 0
+    → open_places loads n order (shape_of tree) q ≡ opened_all loads n order trees.items u q
+split_opened loads n order tree trees u q is h at =
+    let whole : shape_of tree ≡ split (shapes_of trees.items) = ap shape_of is ∙ shape_of-Split trees in
+    λ j. leaf_places loads n (whole j) (prefix_of loads order q) (sym (leads-here loads order q u h at) j) q
+
+pub split_deep : (loads : List Load) (n : ℕ) (order : List ℕ) (tree : Tree) (trees : Vec Tree Global) (q : List Place) → tree ≡ Split trees → length order ≤ length q → open_places loads n order (shape_of tree) q ≡ []
+split_deep loads n order tree trees q is h =
+    let whole : shape_of tree ≡ split (shapes_of trees.items) = ap shape_of is ∙ shape_of-Split trees in
+    λ j. leaf_places loads n (whole j) (prefix_of loads order q) (drop_all (length q) order h j) q
+
+pub child_opened : (loads : List Load) (n : ℕ) (order : List ℕ) (ts : List Tree) (u : ℕ) (q : List Place) (kids rest : List Place) (p : Place) (i : ℕ) (t : Tree)
+    → length q < length order → u ≡ get_or order (length q) 0 → i < length ts → t ≡ get_or ts i t → kids ≡ p ∷ rest
+    → opened_from loads n order (drop i ts) u q kids ≡ open_places loads n order (shape_of t) (q ++ p ∷ []) ++ opened_from loads n order (drop (i + 1) ts) u q rest
+child_opened loads n order ts u q kids rest p i t short at h is first =
+    let leads = leads-more loads order q (prefix_of loads order q) u (drop (length q + 1) order) p (refl, leads-here loads order q u short at) in
+    let shapes_are : shapes_of (drop i ts) ≡ more (shape_of t) (shapes_of (drop (i + 1) ts)) = shapes_of-drop ts i t h ∙ ap (λ x. more (shape_of x) (shapes_of (drop (i + 1) ts))) (sym is) in
+    (λ j. all_leaf_places loads n (shapes_are j) (prefix_of loads order q) u (drop (length q + 1) order) q (first j))
+    ∙ (λ j. leaf_places loads n (shape_of t) (leads.0 j) (leads.1 j) (q ++ p ∷ []) ++ opened_from loads n order (drop (i + 1) ts) u q rest)
+
+pub opened_end : (loads : List Load) (n : ℕ) (order : List ℕ) (ts : List Tree) (u : ℕ) (q : List Place) (kids : List Place) (i : ℕ) → length ts ≤ i → opened_from loads n order (drop i ts) u q kids ≡ []
+opened_end loads n order ts u q kids i h = ap (λ w. opened_from loads n order w u q kids) (drop_all i ts h)
+
+pub no_kids : (loads : List Load) (n : ℕ) (order : List ℕ) (ts : List Tree) (u : ℕ) (q : List Place) (kids : List Place) → kids ≡ [] → opened_from loads n order ts u q kids ≡ []
+no_kids loads n order [] u q kids e = refl
+no_kids loads n order (t ∷ ts) u q kids e = ap (λ w. opened_from loads n order (t ∷ ts) u q w) e
+
+assoc : (a b c : List (List Place)) → (a ++ b) ++ c ≡ a ++ (b ++ c)
+assoc [] b c = refl
+assoc (x ∷ a) b c = ap (λ w. x ∷ w) (assoc a b c)
+
+pub append_none : (xs : List (List Place)) → xs ++ [] ≡ xs
+append_none [] = refl
+append_none (x ∷ xs) = ap (λ w. x ∷ w) (append_none xs)
+
+-- one child more
+pub opened_step : (out mid : List (List Place)) (child rest all whole : List (List Place)) → mid ≡ out ++ child → all ≡ child ++ rest → out ++ all ≡ whole → mid ++ rest ≡ whole
+opened_step out mid child rest all whole e f g = ap (λ w. w ++ rest) e ∙ assoc out child rest ∙ ap (λ w. out ++ w) (sym f) ∙ g
+
+take-front : (q : List Place) (p : Place) → take (length q) (q ++ p ∷ []) ≡ q
+take-front [] p = refl
+take-front (x ∷ q) p = ap (λ w. x ∷ w) (take-front q p)
+
+length-last : (q : List Place) (p : Place) → length (q ++ p ∷ []) ≡ length q + 1
+length-last [] p = refl
+length-last (x ∷ q) p = let rest = length-last q p in omega (arith, rest)
+
+-- the path without its last place
+pub path_back : (q longer popped : List Place) (p : Place) (k : ℕ) → longer ≡ q ++ p ∷ [] → k ≡ length longer → popped ≡ take (k - 1) longer → popped ≡ q
+path_back q longer popped p k is count back =
+    let long = ap length is ∙ length-last q p in
+    let less : k - 1 ≡ length q = omega (arith, long, count) in
+    back ∙ (λ j. take (less j) (is j)) ∙ take-front q p

@@ -1,0 +1,96 @@
+-- Orders of units, and the prefixes that places make along them.
+use Rattle.std.proofs.Common.{◌≡◌, ℕ, zero, suc, ◌+◌, ◌<◌, ◌≤◌, ◌==◌, ◌||◌, Bool, true, false, All, List, [], ◌∷◌, ◌++◌, length, set, drop, slice_get, Option, Some, None, refl, ap, sym, subst, ◌∙◌, arith, length-append, append_assoc, length-set}
+use Rattle.std.specs.List.{list_any}
+use Rattle.std.proofs.lemmas.List.Elements.{All-head, All-tail}
+use Rattle.std.proofs.lemmas.Bool.{eqb-false, or_parts}
+use Rattle.ec_units.specs.declared.slave.Place.{Place}
+use Rattle.ec_units.specs.declared.unit.Load.{Load}
+use Rattle.ec_loads.specs.Held.{no_places}
+use Rattle.ec_loads.specs.Search.{Prefix, children}
+use Rattle.ec_symmetry.specs.Reached.{In}
+use Rattle.ec_symmetry.specs.Orders.{has_repeat, IsOrder, with_places, prefix_of, AreChildren, IsReachedPrefix}
+use Rattle.ec_symmetry.proofs.ReachLemmas.{SameSlots, SameSlots-none, SameSlots-more}
+use Rattle.ec_book.specs.Open.{LeadsTo}
+
+-- no unit of the list has a place
+abbrev pub AreFree : Prefix → List ℕ → Type 0
+AreFree ps [] = Unit {0}
+AreFree ps (u ∷ us) = (slice_get ps u ≡ Some None) × AreFree ps us
+
+other_place : (ps : Prefix) (u w : ℕ) (o : Option Place) → (u ≡ w → ⊥) → slice_get (set ps u o) w ≡ slice_get ps w
+other_place [] u w o h = refl
+other_place (p ∷ ps) zero zero o h = absurd (h refl)
+other_place (p ∷ ps) zero (suc w) o h = refl
+other_place (p ∷ ps) (suc u) zero o h = refl
+other_place (p ∷ ps) (suc u) (suc w) o h = other_place ps u w o (λ e. h (ap suc e))
+
+AreFree-set : (ps : Prefix) (u : ℕ) (o : Option Place) (us : List ℕ) → list_any (λ w. u == w) us ≡ false → AreFree ps us → AreFree (set ps u o) us
+AreFree-set ps u o [] none free = tt
+AreFree-set ps u o (w ∷ us) none free =
+    let parts = or_parts (u == w) (list_any (λ x. u == x) us) none in
+    (other_place ps u w o (eqb-false u w parts.0) ∙ free.0, AreFree-set ps u o us parts.1 free.1)
+
+free_at : (loads : List Load) (u : ℕ) → u < length loads → slice_get (no_places loads) u ≡ Some None
+free_at [] u h = absurd (omega arith)
+free_at (l ∷ ls) zero h = refl
+free_at (l ∷ ls) (suc u) h = free_at ls u (omega arith)
+
+AreFree-none : (loads : List Load) (us : List ℕ) → All (λ u. u < length loads) us → AreFree (no_places loads) us
+AreFree-none loads [] all = tt
+AreFree-none loads (u ∷ us) all = (free_at loads u (All-head (λ w. w < length loads) u us all), AreFree-none loads us (All-tail (λ w. w < length loads) u us all))
+
+-- the places of a prefix are in the slots of the prefix
+slots-along : (ps : Prefix) (us : List ℕ) (before q : List Place) → has_repeat us ≡ false → AreFree ps us → length q ≤ length us → SameSlots ps before → SameSlots (with_places ps us q) (before ++ q)
+slots-along ps us before [] once free short same = subst (λ w. SameSlots ps w) (sym (append-nil before)) same
+  where
+    append-nil : (xs : List Place) → xs ++ [] ≡ xs
+    append-nil [] = refl
+    append-nil (x ∷ xs) = ap (λ w. x ∷ w) (append-nil xs)
+slots-along ps [] before (p ∷ q) once free short same = absurd (omega arith)
+slots-along ps (u ∷ us) before (p ∷ q) once free short same =
+    let parts = or_parts (list_any (λ w. u == w) us) (has_repeat us) once in
+    let more = slots-along (set ps u (Some p)) us (before ++ p ∷ []) q parts.1 (AreFree-set ps u (Some p) us parts.0 free.1) (omega arith) (SameSlots-more ps before u p free.0 same) in
+    subst (λ w. SameSlots (with_places (set ps u (Some p)) us q) w) (assoc before p q) more
+  where
+    assoc : (a : List Place) (p : Place) (c : List Place) → (a ++ p ∷ []) ++ c ≡ a ++ (p ∷ c)
+    assoc [] p c = refl
+    assoc (x ∷ a) p c = ap (λ w. x ∷ w) (assoc a p c)
+
+pub slots-prefix : (loads : List Load) (order : List ℕ) (q : List Place) → IsOrder (length loads) order → length q ≤ length order → SameSlots (prefix_of loads order q) q
+slots-prefix loads order q is short = slots-along (no_places loads) order [] q is.once (AreFree-none loads order is.below) short (SameSlots-none loads)
+
+with-more : (ps : Prefix) (us : List ℕ) (q : List Place) (p : Place) (u : ℕ) (rest : List ℕ) → u ∷ rest ≡ drop (length q) us → with_places ps us (q ++ p ∷ []) ≡ set (with_places ps us q) u (Some p)
+with-more ps [] [] p u rest e = absurd (cc)
+with-more ps (w ∷ us) [] p u rest e = let same : u ≡ w = cc in ap (λ x. set ps x (Some p)) (sym same)
+with-more ps [] (r ∷ q) p u rest e = absurd (cc)
+with-more ps (w ∷ us) (r ∷ q) p u rest e = with-more (set ps w (Some r)) us q p u rest e
+
+drop-more : (us : List ℕ) (q : List Place) (p : Place) (u : ℕ) (rest : List ℕ) → u ∷ rest ≡ drop (length q) us → rest ≡ drop (length (q ++ p ∷ [])) us
+drop-more [] [] p u rest e = absurd (cc)
+drop-more (w ∷ us) [] p u rest e = cc
+drop-more [] (r ∷ q) p u rest e = absurd (cc)
+drop-more (w ∷ us) (r ∷ q) p u rest e = drop-more us q p u rest e
+
+-- one more unit gets its place
+pub leads-more : (loads : List Load) (order : List ℕ) (q : List Place) (ps : Prefix) (u : ℕ) (rest : List ℕ) (p : Place) → LeadsTo loads order q ps (u ∷ rest) → LeadsTo loads order (q ++ p ∷ []) (set ps u (Some p)) rest
+leads-more loads order q ps u rest p h =
+    (ap (λ w. set w u (Some p)) h.0 ∙ sym (with-more (no_places loads) order q p u rest h.1), drop-more order q p u rest h.1)
+
+children-along : (loads : List Load) (n : ℕ) (ps : Prefix) (us : List ℕ) (q : List Place) (p : Place) (u : ℕ) (rest : List ℕ) → u ∷ rest ≡ drop (length q) us → AreChildren loads n ps us q → In p (children loads n (with_places ps us q) u) → AreChildren loads n ps us (q ++ p ∷ [])
+children-along loads n ps [] [] p u rest e all is = absurd (cc)
+children-along loads n ps (w ∷ us) [] p u rest e all is = let same : u ≡ w = cc in (subst (λ x. In p (children loads n ps x)) same is, tt)
+children-along loads n ps [] (r ∷ q) p u rest e all is = absurd (cc)
+children-along loads n ps (w ∷ us) (r ∷ q) p u rest e all is = (all.0, children-along loads n (set ps w (Some r)) us q p u rest e all.1 is)
+
+-- and is reached, where its place is a child
+pub reached-more : (loads : List Load) (n : ℕ) (order : List ℕ) (q : List Place) (ps : Prefix) (u : ℕ) (rest : List ℕ) (p : Place) → LeadsTo loads order q ps (u ∷ rest) → IsReachedPrefix loads n order q → In p (children loads n ps u) → IsReachedPrefix loads n order (q ++ p ∷ [])
+reached-more loads n order q ps u rest p h all is = children-along loads n (no_places loads) order q p u rest h.1 all (subst (λ w. In p (children loads n w u)) h.0 is)
+
+along-short : (loads : List Load) (n : ℕ) (ps : Prefix) (us : List ℕ) (q : List Place) → AreChildren loads n ps us q → length q ≤ length us
+along-short loads n ps us [] all = omega arith
+along-short loads n ps [] (r ∷ q) all = absurd all
+along-short loads n ps (w ∷ us) (r ∷ q) all = let rest = along-short loads n (set ps w (Some r)) us q all.1 in omega arith
+
+-- a prefix that is reached isn't longer than the order
+pub reached-short : (loads : List Load) (n : ℕ) (order : List ℕ) (q : List Place) → IsReachedPrefix loads n order q → length q ≤ length order
+reached-short loads n order q all = along-short loads n (no_places loads) order q all

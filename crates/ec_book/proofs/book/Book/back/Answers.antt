@@ -1,0 +1,46 @@
+use Rattle.std.proofs.Common.{arith, refl, ap, ◌∙◌, vec_len, length}
+use Rattle.ec_book.specs.declared.piece.Piece.TheVariants.{Free, Taken}
+use Rattle.ec_book.specs.Views.{value_of}
+use Rattle.ec_book.proofs.HistoryLemmas.{granted-le, taken-le}
+use Rattle.ec_book.proofs.PieceLemmas.{within}
+use Rattle.ec_book.proofs.KeepLemmas.{counted-back, grown-set}
+use Rattle.ec_book.proofs.book.Book.back.Goals as goal
+
+pub push_reserved-requires : goal.push_reserved-requires
+push_reserved-requires c =
+    let b = c.self.inside in
+    let counted = c.self.invariant.counted in
+    let at = rw c.as_slice.ensures.value at c.in-Ok.ensures.ok in
+    let one = taken-le b.pieces.items c.args.piece (Taken c.args.worker c.in-Ok.grant) at in
+    omega (arith, counted.room_is, counted.taken_is, one, b.log.ok.0)
+
+pub index_mut-requires : goal.index_mut-requires
+index_mut-requires c =
+    let b = c.self.inside in
+    let at = rw c.as_slice.ensures.value at c.in-Ok.ensures.ok in
+    omega (arith, within b.pieces.items c.args.piece (Taken c.args.worker c.in-Ok.grant) at, b.pieces.ok.0)
+
+pub overflow_sub-self : goal.overflow_sub-self
+overflow_sub-self c =
+    let b = c.self.inside in
+    let at = rw c.as_slice.ensures.value at c.in-Ok.ensures.ok in
+    omega (arith, c.self.invariant.counted.held_is, granted-le b.pieces.items c.args.piece (Taken c.args.worker c.in-Ok.grant) at, c.from.ensures)
+
+pub overflow_sub-self-2 : goal.overflow_sub-self-2
+overflow_sub-self-2 c =
+    let b = c.self.inside in
+    let at = rw c.as_slice.ensures.value at c.in-Ok.ensures.ok in
+    omega (arith, c.self.invariant.counted.taken_is, taken-le b.pieces.items c.args.piece (Taken c.args.worker c.in-Ok.grant) at)
+
+pub invariant_of-self : goal.invariant_of-self
+invariant_of-self c =
+    let b = c.self.inside in
+    let inv = c.self.invariant in
+    let at = rw c.as_slice.ensures.value at c.in-Ok.ensures.ok in
+    rw (c.from.ensures, c.min-self-inside.ensures, c.push_reserved.ensures.capacity) (record {
+      for = inv.for;
+      counted =
+          counted-back b.nodes b.pieces.items (value_of b.best) b.spent b.held b.taken b.low b.log.items _ inv.counted c.args.worker c.args.piece c.in-Ok.grant
+          c.push_reserved.new.self.items at c.push_reserved.ensures.items;
+      grown = grown-set b.loads.loads b.loads.slots b.order.items b.pieces.items b.prefixes.items b.reports.items (value_of b.best) b.spent inv.grown c.args.piece (Taken c.args.worker c.in-Ok.grant) Free at refl;
+    })

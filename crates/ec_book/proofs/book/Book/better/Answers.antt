@@ -1,0 +1,39 @@
+use Rattle.std.proofs.Common.{◌≡◌, ◌++◌, ◌∷◌, [], arith, refl, ap, ◌∙◌, sym, subst, vec_len, vec_capacity, length, Some}
+use Rattle.ec_loads.specs.Held.{Held}
+use Rattle.ec_book.specs.Steps.{IsBelow}
+use Rattle.ec_book.specs.Faults.{IsPlanOf}
+use Rattle.ec_book.specs.Views.{value_of, book_view}
+use Rattle.ec_book.proofs.KeepLemmas.{counted-better, grown-better}
+use Rattle.ec_book.proofs.book.Book.better.Goals as goal
+
+pub invariant_of-self-2 : goal.invariant_of-self-2
+invariant_of-self-2 c =
+    let b = c.self.inside in
+    let inv = c.self.invariant in
+    let v = c.in-Ok.value in
+    let below : IsBelow v (value_of b.best) = rw c.value_in.ensures at c.in_default.ensures in
+    let log_is = rw c.in-Ok-reserve.ensures.items at c.push_reserved.ensures.items in
+    let plan : IsPlanOf b.loads.loads b.loads.slots c.args.plan.places v = rw c.as_slice.ensures at c.in-Ok.ensures.ok in
+    rw c.plan_cost.ensures.same (record {
+      for = record { order_is = inv.for.order_is; empty = inv.for.empty; best_is = plan };
+      counted =
+          counted-better b.nodes b.pieces.items (value_of b.best) b.spent b.held b.taken b.low b.log.items _ inv.counted c.args.worker v
+          (vec_capacity c.push_reserved.new.self) c.push_reserved.new.self.items below log_is
+          (omega (arith, c.in-Ok-reserve.ensures.ok, c.in-Some-checked_add.ensures.1, c.push_reserved.ensures.capacity, c.reserve.ensures.len, b.log.ok.0));
+      grown = grown-better b.loads.loads b.loads.slots b.order.items b.pieces.items b.prefixes.items b.reports.items (value_of b.best) b.spent inv.grown v below;
+    })
+
+pub returns-clause-ok : goal.returns-clause-ok
+returns-clause-ok c =
+    let b = c.self.inside in
+    let v = c.in-Ok.value in
+    let below : IsBelow v (value_of b.best) = rw c.value_in.ensures at c.in_default.ensures in
+    let log_is = rw c.in-Ok-reserve.ensures.items at c.push_reserved.ensures.items in
+    let plan : IsPlanOf b.loads.loads b.loads.slots c.args.plan.places v = rw c.as_slice.ensures at c.in-Ok.ensures.ok in
+    let same = c.plan_cost.ensures.same in
+    rw (← c.self.view_is) (
+      v,
+      plan,
+      below,
+      (λ j. book_view (same j).loads (same j).slots b.order.items b.nodes b.pieces.items b.prefixes.items (Some (record { busiest = v; plan = c.args.plan })) b.spent (log_is j)),
+    )

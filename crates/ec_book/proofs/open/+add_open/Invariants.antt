@@ -1,0 +1,18 @@
+use Rattle.std.proofs.Common.{◌≡◌, ℕ, ◌+◌, ◌<◌, ◌≤◌, ◌++◌, length, drop, ◌-◌}
+use Rattle.ec_cert.specs.Shapes.{shape_of}
+use Rattle.ec_loads.specs.Search.{children}
+use Rattle.ec_symmetry.specs.Orders.{prefix_of}
+use Rattle.ec_book.specs.Open.{open_places}
+use Rattle.ec_book.proofs.OpenLemmas.{opened_from, opened_all}
+use Rattle.ec_book.proofs.open.+add_open.Given as goal
+
+abbrev pub decreases-add_open : goal.decreases-add_open
+decreases-add_open l = length l.order.now - length l.path.now.items
+
+abbrev pub invariant-loop-i : goal.invariant-loop-i
+invariant-loop-i l =
+    record {
+      path : l.path.items ≡ l.initial.path.items;
+      out : l.out.items ++ opened_from l.loads.loads l.loads.slots l.order (drop l.i l.trees.items) l.unit l.initial.path.items l.places
+          ≡ l.initial.out.items ++ opened_all l.loads.loads l.loads.slots l.order l.trees.items l.unit l.initial.path.items;
+    }

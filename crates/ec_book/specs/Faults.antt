@@ -1,0 +1,96 @@
+-- When a call on a book is refused, and what a piece is taken with.
+use Rattle.std.specs.Prelude.{◌≡◌, ◌≢◌, ◌⊎◌, ℕ, ◌+◌, ◌-◌, ◌<◌, ◌≤◌, min, List, Option, Some, None, length, slice_get}
+use Rattle.ec_units.specs.declared.slave.Place.{Place}
+use Rattle.ec_units.specs.declared.unit.Load.{Load}
+use Rattle.ec_loads.specs.Cost.{plan_items, IsBusiest}
+use Rattle.ec_loads.specs.Legal.{IsLegal, IsIllegalBy, IsFirstFull}
+use Rattle.ec_loads.specs.declared.item.Item.{Item}
+use Rattle.ec_loads.specs.declared.plan.Illegal.{Illegal}
+use Rattle.ec_loads.specs.declared.plan.Illegal.TheVariants as illegal
+use Rattle.ec_loads.specs.Search.{IsAtMost, node_count}
+use Rattle.ec_loads.specs.Shape.{Shape}
+use Rattle.ec_symmetry.specs.Orders.{IsReachedPrefix}
+use Rattle.ec_book.specs.declared.piece.Piece.{Piece}
+use Rattle.ec_book.specs.declared.piece.Piece.TheVariants.{Free, Taken, Ended}
+use Rattle.ec_book.specs.declared.fault.BookFault.{BookFault}
+use Rattle.ec_book.specs.declared.fault.BookFault.TheVariants as fault
+use Rattle.ec_book.specs.declared.taken.Taken.{Taken as Handed}
+use Rattle.ec_book.specs.declared.taken.Taken.TheVariants as handed
+use Rattle.ec_book.specs.Steps.{granted, taken_count}
+use Rattle.ec_book.specs.Views.{BookView, value_of, after_took}
+use Rattle.ec_book.specs.Kept.{NoneFreeBelow}
+
+-- the lowest free piece
+abbrev pub IsLowestFree : List Piece → ℕ → Type 0
+IsLowestFree pieces p = (slice_get pieces p ≡ Some Free) × NoneFreeBelow pieces p
+
+-- the nodes that are neither spent nor granted
+abbrev pub left_of : BookView → ℕ
+left_of b = b.nodes - (b.spent + granted b.pieces)
+
+-- no piece can be handed out: none is free, or no node is left
+abbrev pub HasNothing : BookView → Type 0
+HasNothing b = NoneFreeBelow b.pieces (length b.pieces) ⊎ (left_of b ≡ 0)
+
+-- what a worker who asks for so many nodes is answered: the lowest free piece with its prefix, the value and the lesser of what it asked for and what is
+-- left; nothing yet, where a piece is taken; or that the search is done
+abbrev pub IsHandedOut : BookView → ℕ → ℕ → Handed → BookView → Type 0
+IsHandedOut old worker most (handed.Piece t) new =
+    IsLowestFree old.pieces t.piece × (slice_get old.prefixes t.piece ≡ Some t.prefix) × IsReachedPrefix old.loads old.slots old.order t.prefix × (t.value ≡ value_of old.best)
+    × (t.grant ≡ min most (left_of old)) × (1 ≤ t.grant) × (new ≡ after_took old worker t.piece t.grant)
+IsHandedOut old worker most handed.Later new = HasNothing old × (0 < taken_count old.pieces) × (new ≡ old)
+IsHandedOut old worker most handed.Done new = HasNothing old × (taken_count old.pieces ≡ 0) × (new ≡ old)
+
+-- the piece isn't taken by anyone
+abbrev pub IsNotTaken : List Piece → ℕ → Type 0
+IsNotTaken pieces p = (w g : ℕ) → slice_get pieces p ≢ Some (Taken w g)
+
+-- another worker has taken it
+abbrev pub IsOfOther : List Piece → ℕ → ℕ → Type 0
+IsOfOther pieces worker p = (w : ℕ) × (g : ℕ) × (slice_get pieces p ≡ Some (Taken w g)) × (w ≢ worker)
+
+-- this worker has taken it, with that grant
+abbrev pub IsTakenBy : List Piece → ℕ → ℕ → ℕ → Type 0
+IsTakenBy pieces worker p g = slice_get pieces p ≡ Some (Taken worker g)
+
+-- why a piece isn't this worker's
+abbrev pub IsHoldFault : List Piece → ℕ → ℕ → BookFault → Type 0
+IsHoldFault pieces worker p fault.NotTaken = IsNotTaken pieces p
+IsHoldFault pieces worker p fault.NotYours = IsOfOther pieces worker p
+IsHoldFault pieces worker p _ = ⊥
+
+-- what a reported subtree has to meet: the piece is this worker's with grant g, its prefix is the one handed in, the threshold isn't below the value,
+-- and the nodes are at most the grant
+pub record IsWelcome (pieces : List Piece) (prefixes : List (List Place)) (value : Option ℕ) (worker p : ℕ) (prefix : List Place) (threshold : Option ℕ) (nodes g : ℕ) : Type 0 where
+  pub held : IsTakenBy pieces worker p g
+  pub place : slice_get prefixes p ≡ Some prefix
+  pub ahead : IsAtMost value threshold
+  pub fits : nodes ≤ g
+
+-- why a reported subtree is refused; each fault is judged after those above it
+abbrev pub IsReportFault : List Piece → List (List Place) → Option ℕ → ℕ → ℕ → List Place → Option ℕ → ℕ → BookFault → Type 0
+IsReportFault pieces prefixes value worker p prefix threshold nodes fault.NotTaken = IsNotTaken pieces p
+IsReportFault pieces prefixes value worker p prefix threshold nodes fault.NotYours = IsOfOther pieces worker p
+IsReportFault pieces prefixes value worker p prefix threshold nodes fault.Stranger = (g : ℕ) × IsTakenBy pieces worker p g × (slice_get prefixes p ≢ Some prefix)
+IsReportFault pieces prefixes value worker p prefix threshold nodes (fault.AheadOfBook v) =
+    (g : ℕ) × IsTakenBy pieces worker p g × (slice_get prefixes p ≡ Some prefix) × (v ≡ value) × (¬ (IsAtMost value threshold))
+IsReportFault pieces prefixes value worker p prefix threshold nodes fault.OverGrant =
+    (g : ℕ) × IsTakenBy pieces worker p g × (slice_get prefixes p ≡ Some prefix) × IsAtMost value threshold × (g < nodes)
+IsReportFault pieces prefixes value worker p prefix threshold nodes fault.OutOfMemory = (g : ℕ) × IsWelcome pieces prefixes value worker p prefix threshold nodes g
+IsReportFault pieces prefixes value worker p prefix threshold nodes _ = ⊥
+
+-- the least tick, and in it the least slot, with too large a payload
+abbrev pub IsFullFault : List Item → ℕ → Illegal → Type 0
+IsFullFault xs n (illegal.Full t s b) = IsFirstFull xs n t s b
+IsFullFault xs n _ = ⊥
+
+-- the plan is legal, and its busiest tick costs v
+abbrev pub IsPlanOf : List Load → ℕ → List Place → ℕ → Type 0
+IsPlanOf loads n plan v = IsLegal loads n plan × IsBusiest (plan_items loads plan) n v
+
+-- why a plan is refused
+abbrev pub IsBetterFault : BookView → List Place → BookFault → Type 0
+IsBetterFault b plan (fault.Illegal i) = IsIllegalBy b.loads b.slots plan i
+IsBetterFault b plan (fault.NotBetter w) = (v : ℕ) × IsPlanOf b.loads b.slots plan v × (value_of b.best ≡ Some w) × (w ≤ v)
+IsBetterFault b plan fault.OutOfMemory = IsLegal b.loads b.slots plan
+IsBetterFault b plan _ = ⊥

@@ -1,0 +1,57 @@
+-- What is true of each book.
+use Rattle.std.specs.Prelude.{◌≡◌, ◌≢◌, ℕ, ◌+◌, ◌<◌, ◌≤◌, List, Option, Some, None, length, slice_get, All}
+use Rattle.ec_units.specs.declared.slave.Place.{Place}
+use Rattle.ec_units.specs.declared.unit.Load.{Load}
+use Rattle.ec_loads.specs.Cost.{plan_items, IsBusiest}
+use Rattle.ec_loads.specs.Legal.{IsLegal}
+use Rattle.ec_loads.specs.Held.{Held, no_places}
+use Rattle.ec_cert.specs.declared.cert.Best.{Best}
+use Rattle.ec_symmetry.specs.Orders.{IsOrder, IsReachedPrefix}
+use Rattle.ec_book.specs.declared.step.Step.{Step}
+use Rattle.ec_book.specs.declared.piece.Piece.{Piece}
+use Rattle.ec_book.specs.declared.piece.Piece.TheVariants.{Free}
+use Rattle.ec_book.specs.declared.report.Report.{Report}
+use Rattle.ec_book.specs.Steps.{PiecesState, start, granted, taken_count, IsHistory}
+use Rattle.ec_book.specs.Numbered.{gap, NumberedTree}
+use Rattle.ec_book.specs.Open.{StandsAt}
+use Rattle.ec_book.specs.Grown.{grown, Chain, HasPieces}
+use Rattle.ec_book.specs.Views.{value_of}
+
+-- the best plan is legal, and its busiest tick costs what is stated
+abbrev pub IsBestPlan : List Load → ℕ → Option Best → Type 0
+IsBestPlan loads n None = Unit {0}
+IsBestPlan loads n (Some b) = IsLegal loads n b.plan.places × IsBusiest (plan_items loads b.plan.places) n b.busiest
+
+-- no piece below a number is free
+abbrev pub NoneFreeBelow : List Piece → ℕ → Type 0
+NoneFreeBelow pieces k = (m : ℕ) → m < k → slice_get pieces m ≢ Some Free
+
+-- the units, their order and the best plan
+pub record IsFor (held : Held) (order : List ℕ) (best : Option Best) : Type 0 where
+  pub order_is : IsOrder (length held.loads) order
+  pub empty : held.places ≡ no_places held.loads
+  pub best_is : IsBestPlan held.loads held.slots best
+
+-- the pieces and what is counted of them; `low` is a number below which none is free, `room` how long the log can grow without memory
+pub record IsCounted (nodes : ℕ) (pieces : List Piece) (value : Option ℕ) (spent held taken low : ℕ) (log : List Step) (room : ℕ) : Type 0 where
+  pub history : IsHistory nodes start log (record { pieces = pieces; value = value; spent = spent })
+  pub held_is : held ≡ granted pieces
+  pub within : spent + held ≤ nodes
+  pub taken_is : taken ≡ taken_count pieces
+  pub room_is : length log + taken ≤ room
+  pub low_is : NoneFreeBelow pieces low
+  pub low_in : low ≤ length pieces
+
+-- the tree that the reports made, whose open leaves are the pieces that are free or taken
+pub record IsGrown (loads : List Load) (slots : ℕ) (order : List ℕ) (pieces : List Piece) (prefixes : List (List Place)) (reports : List Report) (value : Option ℕ) (spent : ℕ) : Type 0 where
+  pub chain : Chain 1 reports (length pieces)
+  pub each : length prefixes ≡ length pieces
+  pub reached : All (IsReachedPrefix loads slots order) prefixes
+  pub pieces_are : HasPieces (grown (gap 0) reports) pieces spent
+  pub tree : NumberedTree (StandsAt loads order prefixes) loads slots value (grown (gap 0) reports) (no_places loads) order
+
+pub record IsKept (held : Held) (order : List ℕ) (nodes : ℕ) (pieces : List Piece) (prefixes : List (List Place)) (reports : List Report) (best : Option Best)
+    (spent granted taken low : ℕ) (log : List Step) (room : ℕ) : Type 0 where
+  pub for : IsFor held order best
+  pub counted : IsCounted nodes pieces (value_of best) spent granted taken low log room
+  pub grown : IsGrown held.loads held.slots order pieces prefixes reports (value_of best) spent

@@ -1,0 +1,56 @@
+-- A book as contracts see it.
+use Rattle.std.specs.Prelude.{◌≡◌, ℕ, ◌+◌, List, [], ◌∷◌, ◌++◌, length, set, replicate, Option, Some, None}
+use Rattle.ec_units.specs.declared.slave.Place.{Place}
+use Rattle.ec_units.specs.declared.unit.Load.{Load}
+use Rattle.ec_cert.specs.declared.cert.Best.{Best}
+use Rattle.ec_book.specs.declared.step.Step.{Step}
+use Rattle.ec_book.specs.declared.step.Step.TheVariants.{Took, Reported, Better, Back}
+use Rattle.ec_book.specs.declared.piece.Piece.{Piece}
+use Rattle.ec_book.specs.declared.piece.Piece.TheVariants.{Free, Taken, Ended}
+use Rattle.ec_book.specs.Steps.{PiecesState}
+
+-- the units' loads and the slot count, the order of the units, the nodes that may be spent; the pieces by their numbers and the places that lead to each;
+-- the best plan; the nodes spent; what happened
+pub record BookView : Type 0 where
+  pub loads : List Load
+  pub slots : ℕ
+  pub order : List ℕ
+  pub nodes : ℕ
+  pub pieces : List Piece
+  pub prefixes : List (List Place)
+  pub best : Option Best
+  pub spent : ℕ
+  pub log : List Step
+
+abbrev pub book_view : List Load → ℕ → List ℕ → ℕ → List Piece → List (List Place) → Option Best → ℕ → List Step → BookView
+book_view loads slots order nodes pieces prefixes best spent log =
+    record { loads = loads; slots = slots; order = order; nodes = nodes; pieces = pieces; prefixes = prefixes; best = best; spent = spent; log = log }
+
+-- what the best plan costs, if there is one
+abbrev pub value_of : Option Best → Option ℕ
+value_of None = None
+value_of (Some b) = Some b.busiest
+
+abbrev pub state_of : BookView → PiecesState
+state_of b = record { pieces = b.pieces; value = value_of b.best; spent = b.spent }
+
+-- the piece is taken, and that is written down
+abbrev pub after_took : BookView → ℕ → ℕ → ℕ → BookView
+after_took b worker piece grant = record b { pieces = set b.pieces piece (Taken worker grant); log = b.log ++ (Took worker piece grant) ∷ [] }
+
+-- the piece has ended, the pieces that its tree left open are there with their prefixes, and that is written down
+abbrev pub after_report : BookView → ℕ → ℕ → ℕ → List (List Place) → BookView
+after_report b worker piece spent opened = record b {
+  pieces = set b.pieces piece Ended ++ replicate (length opened) Free;
+  prefixes = b.prefixes ++ opened;
+  spent = b.spent + spent;
+  log = b.log ++ (Reported worker piece spent (length b.pieces) (length opened)) ∷ [];
+}
+
+-- the plan is the best one, and that is written down
+abbrev pub after_better : BookView → ℕ → Best → BookView
+after_better b worker best = record b { best = Some best; log = b.log ++ (Better worker best.busiest) ∷ [] }
+
+-- the piece is free again, and that is written down
+abbrev pub after_back : BookView → ℕ → ℕ → BookView
+after_back b worker piece = record b { pieces = set b.pieces piece Free; log = b.log ++ (Back worker piece) ∷ [] }

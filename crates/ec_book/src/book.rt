@@ -1,0 +1,397 @@
+//! The book.
+
+ghost use Rattle.std.specs.Prelude.{◌≡◌, ◌≢◌, ℕ, ◌+◌, ◌<◌, ◌≤◌, ◌^◌, ◌++◌, ◌∷◌, [], IfOk, IfSome, IfErr, OnOk, OnErr, OnSome, IfNone, IsTrue, ◌↔◌, MatchOption, None, Some, length, slice_get, replicate, drop, vec_capacity, vec_len};
+ghost use Rattle.ec_units.specs.Load.{loads_of};
+ghost use Rattle.ec_loads.specs.Held.{no_places};
+ghost use Rattle.ec_loads.specs.Search.{IsTree, IsPartialTree, node_count as node_count_of, open_count};
+ghost use Rattle.ec_cert.specs.Shapes.{shape_of};
+ghost use Rattle.ec_symmetry.specs.Orders.{IsOrder, prefix_of};
+ghost use Rattle.ec_book.specs.declared.piece.Piece.TheVariants.{Free};
+ghost use Rattle.ec_book.specs.Steps.{start, live_one, live_count, IsHistory, replay};
+ghost use Rattle.ec_book.specs.Open.{open_places};
+ghost use Rattle.ec_book.specs.Views.{book_view, value_of, state_of, after_back, after_better, after_report};
+ghost use Rattle.ec_book.specs.Kept.{IsBestPlan, NoneFreeBelow};
+ghost use Rattle.ec_book.specs.Faults.{IsLowestFree, IsHandedOut, IsHoldFault, IsBetterFault, IsPlanOf, IsReportFault, IsTakenBy};
+ghost use Rattle.ec_book.specs.Steps.{IsBelow};
+ghost use Rattle.ec_book.specs.Finishing.{ShowsPieces};
+ghost use Rattle.ec_book.specs.declared.fault.BookFault.TheVariants.{OutOfMemory};
+
+use crate::fault::BookFault;
+use crate::finish::{assembled, open_leaves};
+#[cfg(test)]
+use crate::judge::node_count;
+use crate::judge::{grant_of, judged};
+use crate::open::opened_by;
+#[cfg(test)]
+use crate::partial::is_partial;
+use crate::piece::Piece;
+use crate::plans::{not_below, plan_cost};
+use crate::report::Report;
+use crate::step::{Step, Steps};
+use crate::taken::{Taken, Took};
+use ec_cert::{Best, Subtree, Tree};
+use ec_loads::{Loads, Places, Plan};
+use ec_units::{Place, Units};
+use std::alloc::{AllocError, Global};
+use std::marker::Model;
+
+/// The book of a search (own profile): its pieces by their numbers, the subtrees that were reported, the best plan
+/// so far, and a log of all that happened. Piece 0 is the empty prefix; the open leaves of a reported subtree
+/// become pieces with the next numbers, in preorder.
+///
+/// It keeps the allocator that it was made with.
+#[derive(Drop)]
+pub struct Book {
+    loads: Loads,
+    order: Vec<u8>,
+    nodes: u64,
+    pieces: Vec<Piece>,
+    prefixes: Vec<Places>,
+    reports: Vec<Report>,
+    best: Option<Best>,
+    spent: u64,
+    held: u64,
+    taken: usize,
+    low: usize,
+    log: Vec<Step>,
+}
+
+impl Model for Book {
+    ghost use Rattle.std.specs.Prelude.{vec_capacity};
+    ghost use Rattle.ec_book.specs.Views.{BookView, book_view};
+    ghost use Rattle.ec_book.specs.Kept.{IsKept};
+
+    ghost Value = { BookView };
+
+    ghost view = { λ b. book_view b.loads.loads b.loads.slots b.order.items b.nodes b.pieces.items b.prefixes.items b.best b.spent b.log.items };
+
+    ghost invariant = { λ b. IsKept b.loads b.order.items b.nodes b.pieces.items b.prefixes.items b.reports.items b.best b.spent b.held b.taken b.low b.log.items (vec_capacity b.log) };
+}
+
+/// A finished search: the best plan, if one is known, the tree that its reports make, where free and taken pieces
+/// are open leaves, its nodes, and what happened.
+#[derive(Drop)]
+pub struct Finished {
+    pub best: Option<Best>,
+    pub tree: Tree,
+    pub spent: u64,
+    pub log: Steps,
+}
+
+/// The lowest free piece, where none below `low` is free.
+fn lowest_free(pieces: &[Piece], low: usize) -> Option<usize>
+    requires { NoneFreeBelow pieces.now low }
+    ensures { MatchOption result (NoneFreeBelow pieces.now (length pieces.now)) (IsLowestFree pieces.now) }
+{
+    for i in low..pieces.len() {
+        if pieces[i] == Piece::Free {
+            return Some(i);
+        }
+    }
+    None
+}
+
+/// 1 for a piece that is free or taken, else 0.
+fn one_if_live(piece: Piece) -> usize
+    ensures value { result ≡ live_one (Some piece) }
+    ensures bound { result ≤ 1 }
+{
+    match piece {
+        Piece::Free | Piece::Taken { .. } => 1,
+        Piece::Ended => 0,
+    }
+}
+
+/// How many pieces are free or taken.
+fn count_live(pieces: &[Piece]) -> usize
+    ensures { result ≡ live_count pieces.now }
+{
+    let mut count = 0usize;
+    for i in 0..pieces.len() {
+        count += one_if_live(pieces[i]);
+    }
+    count
+}
+
+/// The value of the best plan, if there is one.
+fn value_in(best: &Option<Best>) -> Option<u64>
+    ensures { result ≡ value_of best.now }
+{
+    match best {
+        None => None,
+        Some(best) => Some(best.busiest),
+    }
+}
+
+/// New pieces, for which there is room.
+fn add_free(pieces: &mut Vec<Piece>, count: usize)
+    requires { vec_len pieces.old + count ≤ vec_capacity pieces.old }
+    ensures { pieces.new.items ≡ pieces.old.items ++ replicate count Free }
+{
+    for i in 0..count {
+        let _ = i;
+        pieces.push_reserved(Piece::Free);
+    }
+}
+
+impl Book {
+    /// A book for these units and this order of them, where at most so many nodes may be split or closed. Piece 0,
+    /// the empty prefix, is free.
+    pub fn new(alloc: Global, units: &Units, order: &[u8], nodes: u64) -> Result<Book, AllocError>
+        requires { IsOrder (length units.now.units) order.now }
+        ensures { IfOk result (λ b. b ≡ book_view (loads_of units.now.units) units.now.slots order.now nodes (Free ∷ []) ([] ∷ []) None 0 []) }
+    {
+        let loads = Loads::new(alloc, units)?;
+        let order = Vec::from_slice(alloc, order)?;
+        let mut pieces = Vec::new(alloc);
+        pieces.push(Piece::Free)?;
+        let mut prefixes = Vec::new(alloc);
+        prefixes.push(Places::new(Vec::new(alloc)))?;
+        Ok(Book {
+            loads,
+            order,
+            nodes,
+            pieces,
+            prefixes,
+            reports: Vec::new(alloc),
+            best: None,
+            spent: 0,
+            held: 0,
+            taken: 0,
+            low: 0,
+            log: Vec::new(alloc),
+        })
+    }
+
+    /// Hands out the lowest free piece, for at most `most` nodes.
+    pub fn take(&mut self, worker: usize, most: u32) -> Result<Taken, BookFault>
+        requires { 1 ≤ most }
+        ensures ok { IfOk result (λ t. IsHandedOut self.old worker most t self.new) }
+        ensures err { IfErr result (λ e. (e ≡ OutOfMemory) × (self.new ≡ self.old)) }
+    {
+        let left = self.nodes - self.spent - self.held;
+        let Some(at) = lowest_free(self.pieces.as_slice(), self.low) else {
+            return Ok(if self.taken == 0 {
+                Taken::Done
+            } else {
+                Taken::Later
+            });
+        };
+        if left == 0 {
+            return Ok(if self.taken == 0 {
+                Taken::Done
+            } else {
+                Taken::Later
+            });
+        }
+        let grant = left.min(u64::from(most)) as u32;
+        let alloc = *self.log.allocator();
+        let Ok(prefix) = Vec::from_slice(alloc, self.prefixes[at].as_slice()) else {
+            return Err(BookFault::OutOfMemory);
+        };
+        let Some(more) = self.taken.checked_add(2) else {
+            return Err(BookFault::OutOfMemory);
+        };
+        let Ok(()) = self.log.reserve(more) else {
+            return Err(BookFault::OutOfMemory);
+        };
+        let piece = at as u64;
+        self.log.push_reserved(Step::Took {
+            worker,
+            piece,
+            grant,
+        });
+        self.pieces[at] = Piece::Taken { worker, grant };
+        self.held += u64::from(grant);
+        self.taken += 1;
+        self.low = at;
+        Ok(Taken::Piece(Took {
+            piece,
+            prefix: Places::new(prefix),
+            value: value_in(&self.best),
+            grant,
+        }))
+    }
+
+    /// Gives a piece back that this worker has taken; it is free again, and its grant can be granted again. Takes no
+    /// memory.
+    pub fn back(&mut self, worker: usize, piece: u64) -> Result<(), BookFault>
+        ensures ok { OnOk result (self.new ≡ after_back self.old worker piece) }
+        ensures held { OnOk result ((g : ℕ) × IsTakenBy self.old.pieces worker piece g) }
+        ensures err { IfErr result (λ e. IsHoldFault self.old.pieces worker piece e × (self.new ≡ self.old)) }
+    {
+        let grant = match grant_of(self.pieces.as_slice(), worker, piece) {
+            Ok(grant) => grant,
+            Err(fault) => return Err(fault),
+        };
+        self.log.push_reserved(Step::Back { worker, piece });
+        let at = piece as usize;
+        self.pieces[at] = Piece::Free;
+        self.held -= u64::from(grant);
+        self.taken -= 1;
+        self.low = self.low.min(at);
+        Ok(())
+    }
+
+    /// Offers a plan, which becomes the best one where it is legal and its busiest tick costs less than the value.
+    pub fn better(&mut self, worker: usize, plan: Plan) -> Result<(), (BookFault, Plan)>
+        ensures ok { OnOk result ((v : ℕ) × IsPlanOf self.old.loads self.old.slots plan.places v × IsBelow v (value_of self.old.best)
+            × (self.new ≡ after_better self.old worker (record { busiest = v; plan = plan }))) }
+        ensures err { IfErr result (λ e. IsBetterFault self.old plan.places e.0 × (e.1 ≡ plan) × (self.new ≡ self.old)) }
+    {
+        let value = match plan_cost(&mut self.loads, plan.places.as_slice()) {
+            Ok(value) => value,
+            Err(illegal) => return Err((BookFault::Illegal(illegal), plan)),
+        };
+        if let Some(old) = not_below(value, value_in(&self.best)) {
+            return Err((BookFault::NotBetter(old), plan));
+        }
+        let Some(more) = self.taken.checked_add(1) else {
+            return Err((BookFault::OutOfMemory, plan));
+        };
+        let Ok(()) = self.log.reserve(more) else {
+            return Err((BookFault::OutOfMemory, plan));
+        };
+        self.log.push_reserved(Step::Better { worker, value });
+        self.best = Some(Best {
+            busiest: value,
+            plan,
+        });
+        Ok(())
+    }
+
+    /// Reports the subtree of a piece that this worker has taken, with the prefix that it got. Its open leaves become
+    /// pieces. Its time is in proportion to the subtree.
+    pub fn report(
+        &mut self,
+        worker: usize,
+        piece: u64,
+        prefix: &[Place],
+        sub: Subtree,
+    ) -> Result<(), (BookFault, Subtree)>
+        requires tree { IsPartialTree self.old.loads self.old.slots sub.threshold (shape_of sub.tree) (prefix_of self.old.loads self.old.order prefix.now) (drop (length prefix.now) self.old.order) }
+        requires some { 0 < node_count_of (shape_of sub.tree) }
+        ensures ok { OnOk result (self.new ≡ after_report self.old worker piece (node_count_of (shape_of sub.tree)) (open_places self.old.loads self.old.slots self.old.order (shape_of sub.tree) prefix.now)) }
+        ensures err { IfErr result (λ e. IsReportFault self.old.pieces self.old.prefixes (value_of self.old.best) worker piece prefix.now sub.threshold (node_count_of (shape_of sub.tree)) e.0
+            × (e.1 ≡ sub) × (self.new ≡ self.old)) }
+    {
+        let value = value_in(&self.best);
+        let (grant, spent) = match judged(
+            self.pieces.as_slice(),
+            self.prefixes.as_slice(),
+            value,
+            worker,
+            piece,
+            prefix,
+            &sub,
+        ) {
+            Ok(found) => found,
+            Err(fault) => return Err((fault, sub)),
+        };
+        let alloc = *self.log.allocator();
+        let Ok(mut opened) = opened_by(alloc, &self.loads, self.order.as_slice(), prefix, &sub.tree)
+        else {
+            return Err((BookFault::OutOfMemory, sub));
+        };
+        let count = opened.len();
+        let first = self.pieces.len();
+        let Ok(()) = self.pieces.reserve(count) else {
+            return Err((BookFault::OutOfMemory, sub));
+        };
+        let Ok(()) = self.reports.reserve(1) else {
+            return Err((BookFault::OutOfMemory, sub));
+        };
+        let Ok(()) = self.prefixes.append(&mut opened) else {
+            return Err((BookFault::OutOfMemory, sub));
+        };
+        self.log.push_reserved(Step::Reported {
+            worker,
+            piece,
+            spent,
+            first: first as u64,
+            count: count as u64,
+        });
+        let at = piece as usize;
+        self.pieces[at] = Piece::Ended;
+        add_free(&mut self.pieces, count);
+        self.reports.push_reserved(Report {
+            piece: at,
+            first,
+            tree: sub.tree,
+        });
+        self.held -= u64::from(grant);
+        self.taken -= 1;
+        self.spent += spent;
+        Ok(())
+    }
+
+    /// The log: every step so far.
+    pub fn log(&self) -> &[Step]
+        ensures { result.now ≡ self.now.log }
+    {
+        self.log.as_slice()
+    }
+
+    /// How many nodes the reports have split and closed.
+    pub fn spent(&self) -> u64
+        ensures { result ≡ self.now.spent }
+    {
+        self.spent
+    }
+
+    /// How many pieces are free or taken.
+    pub fn open_pieces(&self) -> usize
+        ensures { result ≡ live_count self.now.pieces }
+    {
+        count_live(self.pieces.as_slice())
+    }
+
+    /// What came of the search; it takes time and memory in proportion to the whole. Where memory runs out the book is
+    /// handed back.
+    pub fn finish(self) -> Result<Finished, (Book, AllocError)>
+        ensures best { IfOk result (λ f. (f.best ≡ self.best) × IsBestPlan self.loads self.slots f.best) }
+        ensures tree { IfOk result (λ f. IsPartialTree self.loads self.slots (value_of self.best) (shape_of f.tree) (no_places self.loads) self.order) }
+        ensures closed { IfOk result (λ f. live_count self.pieces ≡ 0 → IsTree self.loads self.slots (value_of self.best) (shape_of f.tree) (no_places self.loads) self.order) }
+        ensures pieces { IfOk result (λ f. ShowsPieces self (shape_of f.tree)) }
+        ensures nodes { IfOk result (λ f. (f.spent ≡ self.spent) × (node_count_of (shape_of f.tree) ≡ self.spent)) }
+        ensures open { IfOk result (λ f. open_count (shape_of f.tree) ≡ live_count self.pieces) }
+        ensures log { IfOk result (λ f. f.log ≡ self.log) }
+        ensures history { IfOk result (λ f. IsHistory self.nodes start f.log (state_of self) × (replay start f.log ≡ state_of self)) }
+        ensures err { IfErr result (λ e. e.0 ≡ self) }
+    {
+        let alloc = *self.log.allocator();
+        let built = match open_leaves(alloc, self.pieces.len()) {
+            Ok(built) => built,
+            Err(error) => return Err((self, error)),
+        };
+        let tree = assembled(self.reports, built);
+        Ok(Finished {
+            best: self.best,
+            tree,
+            spent: self.spent,
+            log: Steps::new(self.log),
+        })
+    }
+}
+
+#[cfg(test)]
+impl Book {
+    /// Whether a subtree without average leaves may be reported for this prefix.
+    pub(crate) fn may_report(&mut self, prefix: &[Place], sub: &Subtree) -> Result<bool, AllocError>
+        ensures same { self.new ≡ self.old }
+        ensures tree { IfOk result (λ b. IsTrue b → IsPartialTree self.old.loads self.old.slots sub.now.threshold (shape_of sub.now.tree) (prefix_of self.old.loads self.old.order prefix.now) (drop (length prefix.now) self.old.order)) }
+        ensures some { IfOk result (λ b. IsTrue b → 0 < node_count_of (shape_of sub.now.tree)) }
+    {
+        if prefix.len() > self.order.len() || node_count(&sub.tree) == 0 {
+            return Ok(false);
+        }
+        let mut path = Vec::from_slice(*self.log.allocator(), prefix)?;
+        is_partial(
+            &mut self.loads,
+            self.order.as_slice(),
+            sub.threshold,
+            &sub.tree,
+            &mut path,
+        )
+    }
+}

@@ -1,0 +1,109 @@
+//! Whether a reported subtree is welcome.
+
+ghost use Rattle.std.specs.Prelude.{◌≡◌, ◌≢◌, ℕ, ◌+◌, ◌<◌, ◌≤◌, ◌^◌, min, length, slice_get, Some, IfOk, IfErr, IsTrue, ◌↔◌};
+ghost use Rattle.ec_loads.specs.Search.{IsAtMost, node_count as node_count_of};
+ghost use Rattle.ec_cert.specs.Shapes.{shape_of};
+ghost use Rattle.ec_book.specs.Faults.{IsTakenBy, IsHoldFault, IsWelcome, IsReportFault};
+
+use crate::fault::BookFault;
+use crate::piece::Piece;
+use ec_cert::{Subtree, Tree};
+use ec_loads::Places;
+use ec_units::Place;
+
+/// The number of splits and closed leaves, or the greatest number where it is smaller.
+pub(crate) fn node_count(tree: &Tree) -> u64
+    ensures { result ≡ min (node_count_of (shape_of tree.now)) 18446744073709551615 }
+{
+    match tree {
+        Tree::Split(trees) => {
+            let mut count = 1u64;
+            for i in 0..trees.len() {
+                count = count.saturating_add(node_count(&trees[i]));
+            }
+            count
+        }
+        Tree::OpenLeaf => 0,
+        _ => 1,
+    }
+}
+
+/// Whether two lists of places are one.
+fn are_same(these: &[Place], those: &[Place]) -> bool
+    ensures { IsTrue result ↔ (these.now ≡ those.now) }
+{
+    if these.len() != those.len() {
+        return false;
+    }
+    for i in 0..these.len() {
+        if these[i] != those[i] {
+            return false;
+        }
+    }
+    true
+}
+
+/// Whether one value is at most another; none is above every number.
+fn is_at_most(value: Option<u64>, other: Option<u64>) -> bool
+    ensures { IsTrue result ↔ IsAtMost value other }
+{
+    match (value, other) {
+        (_, None) => true,
+        (Some(value), Some(other)) => value <= other,
+        (None, Some(_)) => false,
+    }
+}
+
+/// What the worker may spend on the piece.
+pub(crate) fn grant_of(pieces: &[Piece], worker: usize, piece: u64) -> Result<u32, BookFault>
+    ensures ok { IfOk result (IsTakenBy pieces.now worker piece) }
+    ensures err { IfErr result (IsHoldFault pieces.now worker piece) }
+{
+    let at = piece as usize;
+    if at >= pieces.len() {
+        return Err(BookFault::NotTaken);
+    }
+    let Piece::Taken {
+        worker: owner,
+        grant,
+    } = pieces[at]
+    else {
+        return Err(BookFault::NotTaken);
+    };
+    if owner != worker {
+        return Err(BookFault::NotYours);
+    }
+    Ok(grant)
+}
+
+/// The grant of the piece and the nodes of the subtree, where it is welcome.
+pub(crate) fn judged(
+    pieces: &[Piece],
+    prefixes: &[Places],
+    value: Option<u64>,
+    worker: usize,
+    piece: u64,
+    prefix: &[Place],
+    sub: &Subtree,
+) -> Result<(u32, u64), BookFault>
+    requires each { length prefixes.now ≡ length pieces.now }
+    ensures ok { IfOk result (λ r. IsWelcome pieces.now prefixes.now value worker piece prefix.now sub.now.threshold (node_count_of (shape_of sub.now.tree)) r.0) }
+    ensures nodes { IfOk result (λ r. r.1 ≡ node_count_of (shape_of sub.now.tree)) }
+    ensures err { IfErr result (IsReportFault pieces.now prefixes.now value worker piece prefix.now sub.now.threshold (node_count_of (shape_of sub.now.tree))) }
+{
+    let grant = match grant_of(pieces, worker, piece) {
+        Ok(grant) => grant,
+        Err(fault) => return Err(fault),
+    };
+    if !are_same(prefixes[piece as usize].as_slice(), prefix) {
+        return Err(BookFault::Stranger);
+    }
+    if !is_at_most(value, sub.threshold) {
+        return Err(BookFault::AheadOfBook(value));
+    }
+    let nodes = node_count(&sub.tree);
+    if nodes > u64::from(grant) {
+        return Err(BookFault::OverGrant);
+    }
+    Ok((grant, nodes))
+}

@@ -1,0 +1,25 @@
+//! The book of a search: the pieces of its tree, what became of them, and the tree that they make.
+#![tactic(auto)]
+
+mod book;
+mod fault;
+mod finish;
+mod judge;
+mod open;
+#[cfg(test)]
+mod partial;
+mod piece;
+mod plans;
+mod report;
+mod step;
+mod taken;
+mod tree;
+
+pub use book::{Book, Finished};
+pub use fault::BookFault;
+pub use piece::Piece;
+pub use step::{Step, Steps};
+pub use taken::{Taken, Took};
+
+#[cfg(test)]
+mod tests;

@@ -1,0 +1,86 @@
+//! The prefixes of a tree's open leaves.
+
+ghost use Rattle.std.specs.Prelude.{◌≡◌, ℕ, ◌+◌, ◌<◌, ◌≤◌, ◌++◌, length, OnOk, IfOk};
+ghost use Rattle.ec_cert.specs.Shapes.{shape_of};
+ghost use Rattle.ec_symmetry.specs.Orders.{IsOrder, prefix_of};
+ghost use Rattle.ec_loads.specs.Search.{children};
+ghost use Rattle.ec_book.specs.Open.{open_places};
+
+use ec_cert::Tree;
+use ec_loads::{Loads, Places};
+use ec_symmetry::{Children, choices, used_slots};
+use ec_units::Place;
+use std::alloc::{AllocError, Global};
+
+/// The places that a unit can take after these places of the units before it in the order.
+pub(crate) fn children_of(loads: &Loads, order: &[u8], unit: usize, path: &[Place]) -> Children
+    requires order { IsOrder (length loads.now.loads) order.now }
+    requires inside { unit < length loads.now.loads }
+    requires long { length path.now ≤ length order.now }
+    ensures { result ≡ children loads.now.loads loads.now.slots (prefix_of loads.now.loads order.now path.now) unit }
+{
+    choices(
+        loads.loads()[unit].period,
+        loads.slots(),
+        used_slots(path),
+        false,
+    )
+}
+
+/// Adds the places that lead to each open leaf of a tree, in preorder, where `path` leads to the tree. The path is
+/// as before afterwards. Each node is visited once, and no recursion is deeper than the order is long.
+pub(crate) fn add_open(
+    loads: &Loads,
+    order: &[u8],
+    tree: &Tree,
+    path: &mut Vec<Place>,
+    out: &mut Vec<Places>,
+) -> Result<(), AllocError>
+    requires order { IsOrder (length loads.now.loads) order.now }
+    requires long { length path.old.items ≤ length order.now }
+    ensures path { OnOk result (path.new.items ≡ path.old.items) }
+    ensures out { OnOk result (out.new.items ≡ out.old.items ++ open_places loads.now.loads loads.now.slots order.now (shape_of tree.now) path.old.items) }
+{
+    match tree {
+        Tree::Split(trees) => {
+            if path.len() >= order.len() {
+                return Ok(());
+            }
+            let unit = usize::from(order[path.len()]);
+            let mut places = children_of(loads, order, unit, path.as_slice());
+            for i in 0..trees.len() {
+                let Some(place) = places.next() else {
+                    return Ok(());
+                };
+                path.push(place)?;
+                add_open(loads, order, &trees[i], path, out)?;
+                path.pop();
+            }
+            Ok(())
+        }
+        Tree::OpenLeaf => {
+            let copy = Vec::from_slice(*path.allocator(), path.as_slice())?;
+            out.push(Places::new(copy))?;
+            Ok(())
+        }
+        _ => Ok(()),
+    }
+}
+
+/// The places that lead to each open leaf of a tree, in preorder, where `prefix` leads to the tree.
+pub(crate) fn opened_by(
+    alloc: Global,
+    loads: &Loads,
+    order: &[u8],
+    prefix: &[Place],
+    tree: &Tree,
+) -> Result<Vec<Places>, AllocError>
+    requires order { IsOrder (length loads.now.loads) order.now }
+    requires long { length prefix.now ≤ length order.now }
+    ensures { IfOk result (λ v. v.items ≡ open_places loads.now.loads loads.now.slots order.now (shape_of tree.now) prefix.now) }
+{
+    let mut path = Vec::from_slice(alloc, prefix)?;
+    let mut out = Vec::new(alloc);
+    add_open(loads, order, tree, &mut path, &mut out)?;
+    Ok(out)
+}

@@ -1,0 +1,34 @@
+//! Trees whose open leaves are filled.
+
+ghost use Rattle.std.specs.Prelude.{◌≡◌, ◌+◌, ◌-◌, ◌<◌, ◌≤◌, ◌^◌, ◌++◌, length, take};
+ghost use Rattle.ec_cert.specs.Shapes.{shape_of};
+ghost use Rattle.ec_loads.specs.Search.{open_count};
+ghost use Rattle.ec_book.specs.Numbered.{numbered, draw};
+ghost use Rattle.ec_book.specs.Grown.{shape_at};
+
+use ec_cert::Tree;
+use std::mem;
+
+/// The last trees take the places of the open leaves.
+pub(crate) fn filled(tree: Tree, built: &mut Vec<Tree>) -> Tree
+    requires { open_count (shape_of tree) ≤ length built.old.items }
+    ensures left { built.new.items ≡ take (length built.old.items - open_count (shape_of tree)) built.old.items }
+    ensures tree { shape_of result ≡ draw (shape_at built.old.items) (numbered (length built.old.items - open_count (shape_of tree)) (shape_of tree)) }
+{
+    match tree {
+        Tree::Split(mut trees) => {
+            let mut i = trees.len();
+            while i > 0 {
+                i -= 1;
+                let child = mem::replace(&mut trees[i], Tree::OpenLeaf);
+                trees[i] = filled(child, built);
+            }
+            Tree::Split(trees)
+        }
+        Tree::OpenLeaf => match built.pop() {
+            Some(tree) => tree,
+            None => unreachable!(),
+        },
+        closed => closed,
+    }
+}

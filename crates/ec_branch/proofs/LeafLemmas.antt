@@ -1,0 +1,116 @@
+-- Leaves that close a prefix at a value, and at each value below it.
+use Rattle.std.proofs.Common.{◌≡◌, ℕ, ◌*◌, ◌%◌, ◌<◌, ◌≤◌, inl, inr, List, Option, Some, None, MatchOption, refl, sym, ◌∙◌, subst, arith, le_trans, rules}
+use Rattle.std.proofs.lemmas.Bool.{cases_lt}
+use Rattle.std.proofs.lemmas.Nat.{mod_below}
+use Rattle.std.proofs.Math.Nat.{mul-le-mul_right}
+use Rattle.ec_hyper.specs.Lcm.{lcm_of}
+use Rattle.ec_units.specs.declared.unit.Load.{Load}
+use Rattle.ec_units.specs.Load.{periods_of}
+use Rattle.ec_loads.specs.Cost.{items, payload, tick_cost, IsFirstBusiest}
+use Rattle.ec_loads.specs.Held.{Held, AreLoads, items_of}
+use Rattle.ec_loads.specs.Legal.{Fits}
+use Rattle.ec_loads.specs.Search.{Prefix, TickHolds, FullHolds, AverageHolds, IsAtMost}
+use Rattle.ec_loads.specs.Shape.{tick, full, average, open_leaf}
+use Rattle.ec_loads.proofs.CostLemmas.{tick_cost-mod, payload-mod}
+use Rattle.ec_loads.proofs.ItemLemmas.{DivideAll-loads}
+use Rattle.ec_bounds.specs.Laws.{IsFirstFullLeaf}
+use Rattle.ec_cert.specs.Shapes.{shape_of}
+use Rattle.ec_cert.specs.declared.tree.Tree.{TickLeaf, Average, OpenLeaf, the_lemmas}
+use Rattle.ec_branch.specs.Walks.{IsClosing}
+
+-- what an answer says, said otherwise
+pub match_map : {A : Type 0} {P Q : Type 0} {F G : A → Type 0} (r : Option A) → (P → Q) → ((a : A) → F a → G a) → MatchOption r P F → MatchOption r Q G
+match_map None none some h = none h
+match_map (Some a) none some h = some a h
+
+-- the first tick of what repeats is below the hyperperiod
+first_below : (P : ℕ → Type 0) (h t : ℕ) → 0 < h → ((i : ℕ) → P i → P (i % h)) → P t → ((i : ℕ) → i < t → ¬ (P i)) → t < h
+first_below P h t pos again at first =
+    elim (cases_lt t h) [
+      | inl less ↦ less
+      | inr more ↦ absurd (first (t % h) (let low = mod_below t h pos in omega arith) (again t at))
+    ]
+
+tick_again : (loads : List Load) (n : ℕ) (v : Option ℕ) (ps : Prefix) (h t : ℕ) → AreLoads loads → h ≡ lcm_of (periods_of loads) → TickHolds loads n v ps t → TickHolds loads n v ps (t % h)
+tick_again loads n v ps h t all is (b, some, low) =
+    (b, some, subst (λ w. b ≤ w) (sym (tick_cost-mod (items loads ps) n h t (DivideAll-loads loads ps h all is))) low)
+
+full_again : (loads : List Load) (n : ℕ) (ps : Prefix) (h t s : ℕ) → AreLoads loads → h ≡ lcm_of (periods_of loads) → FullHolds loads n ps t s → FullHolds loads n ps (t % h) s
+full_again loads n ps h t s all is (slot, above) =
+    (slot, subst (λ w. 1498 < w) (sym (payload-mod (items loads ps) h t s (DivideAll-loads loads ps h all is))) above)
+
+pub short_tick : (held : Held) (v : Option ℕ) (h t : ℕ) → AreLoads held.loads → h ≡ lcm_of (periods_of held.loads) → (1 ≤ h) × (h ≤ 1024)
+    → TickHolds held.loads held.slots v held.places t × ((i : ℕ) → i < t → ¬ (TickHolds held.loads held.slots v held.places i))
+    → TickHolds held.loads held.slots v held.places t × (t ≤ 1023)
+short_tick held v h t all is range at =
+    let below = first_below (TickHolds held.loads held.slots v held.places) h t range.0 (λ i k. tick_again held.loads held.slots v held.places h i all is k) at.0 at.1 in
+    (at.0, omega (arith, below, range.1))
+
+pub short_full : (held : Held) (h t s : ℕ) → AreLoads held.loads → h ≡ lcm_of (periods_of held.loads) → (1 ≤ h) × (h ≤ 1024) → IsFirstFullLeaf held t s
+    → FullHolds held.loads held.slots held.places t s × (t ≤ 1023)
+short_full held h t s all is range at =
+    let below = first_below (λ i. FullHolds held.loads held.slots held.places i s) h t range.0 (λ i k. full_again held.loads held.slots held.places h i s all is k) at.0 (λ i k. at.1 i s k) in
+    (at.0, omega (arith, below, range.1))
+
+pub short_top : (held : Held) (h b t : ℕ) → AreLoads held.loads → h ≡ lcm_of (periods_of held.loads) → (1 ≤ h) × (h ≤ 1024) → IsFirstBusiest (items_of held) held.slots b t → t ≤ 1023
+short_top held h b t all is range at =
+    let cost : ℕ → ℕ = tick_cost (items_of held) held.slots in
+    let again : (i : ℕ) → cost i ≡ b → cost (i % h) ≡ b = λ i e. tick_cost-mod (items_of held) held.slots h i (DivideAll-loads held.loads held.places h all is) ∙ e in
+    let below = first_below (λ i. cost i ≡ b) h t range.0 again at.reached (λ i k e. let less = at.first i k in omega (arith, less, e)) in
+    omega (arith, below, range.1)
+
+-- no payload is too large
+pub fits_from : (held : Held) → ((t s : ℕ) → ¬ (FullHolds held.loads held.slots held.places t s)) → Fits (items_of held) held.slots
+fits_from held none t s within =
+    elim (cases_lt 1498 (payload (items_of held) t s)) [
+      | inl above ↦ absurd (none t s (within, above))
+      | inr low ↦ low
+    ]
+
+-- a value that is at most a number is one
+below_some : (v w : Option ℕ) (b : ℕ) → v ≡ Some b → IsAtMost w v → (a : ℕ) × (w ≡ Some a) × (a ≤ b)
+below_some v w b is low = at w (subst (IsAtMost w) is low)
+  where
+    at : (w : Option ℕ) → IsAtMost w (Some b) → (a : ℕ) × (w ≡ Some a) × (a ≤ b)
+    at (Some a) h = (a, refl, h)
+    at None h = absurd h
+
+pub closing_tick : (loads : List Load) (n : ℕ) (v : Option ℕ) (ps : Prefix) (t : ℕ) → TickHolds loads n v ps t × (t ≤ 1023) → IsClosing loads n v ps (tick t)
+closing_tick loads n v ps t h =
+    record {
+      one = refl;
+      whole = refl;
+      short = h.1;
+      holds = λ w low order.
+          let (b, some, under) = h.0 in
+          let (a, is, less) = below_some v w b some low in
+          (a, is, le_trans less under);
+    }
+
+pub closing_full : (loads : List Load) (n : ℕ) (v : Option ℕ) (ps : Prefix) (t s : ℕ) → FullHolds loads n ps t s × (t ≤ 1023) → IsClosing loads n v ps (full t s)
+closing_full loads n v ps t s h = record { one = refl; whole = refl; short = h.1; holds = λ w low order. h.0 }
+
+pub closing_average : (loads : List Load) (n : ℕ) (v : Option ℕ) (ps : Prefix) → AverageHolds loads n v ps → IsClosing loads n v ps average
+closing_average loads n v ps (b, some, under) =
+    record {
+      one = refl;
+      whole = refl;
+      short = tt;
+      holds = λ w low order.
+          let (a, is, less) = below_some v w b some low in
+          let times : a * lcm_of (periods_of loads) ≤ b * lcm_of (periods_of loads) = mul-le-mul_right (lcm_of (periods_of loads)) less in
+          (a, is, omega (arith, times, under));
+    }
+
+pub shape_of-Average : shape_of Average ≡ average
+shape_of-Average = search (rules, the_lemmas)
+
+pub shape_of-TickLeaf : (t : ℕ) → shape_of (TickLeaf t) ≡ tick t
+shape_of-TickLeaf t = search (rules, the_lemmas)
+
+pub shape_of-OpenLeaf : shape_of OpenLeaf ≡ open_leaf
+shape_of-OpenLeaf = search (rules, the_lemmas)
+
+-- the average as a leaf in memory
+pub average_leaf : (loads : List Load) (n : ℕ) (v : Option ℕ) (ps : Prefix) → AverageHolds loads n v ps → IsClosing loads n v ps (shape_of Average)
+average_leaf loads n v ps h = subst (IsClosing loads n v ps) (sym shape_of-Average) (closing_average loads n v ps h)

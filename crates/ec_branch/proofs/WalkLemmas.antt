@@ -1,0 +1,287 @@
+-- The walk over the prefixes: a value that falls, nodes that are counted, leaves that hold.
+use Rattle.std.proofs.Common.{◌≡◌, ℕ, zero, suc, ◌+◌, ◌<◌, ◌≤◌, ◌⊎◌, ◌++◌, min, inl, inr, Bool, true, List, [], ◌∷◌, map, length, set, get_or, Option, Some, None, Vec, Global, refl, sym, ap, ◌∙◌, subst, arith, le_trans, append-nil}
+use Rattle.std.specs.Option.{ForSome}
+use Rattle.std.proofs.lemmas.Bool.{cases_lt}
+use Rattle.std.proofs.lemmas.List.{append_assoc}
+use Rattle.ec_units.specs.declared.slave.Place.{Place}
+use Rattle.ec_units.specs.declared.unit.Load.{Load}
+use Rattle.ec_loads.specs.Cost.{items, plan_items, tick_cost, IsBusiest, IsFirstBusiest}
+use Rattle.ec_loads.specs.Held.{Held, items_of}
+use Rattle.ec_loads.specs.Legal.{IsLegal, Fits}
+use Rattle.ec_loads.specs.Shape.{Shape, Shapes, tick}
+use Rattle.ec_loads.specs.Search.{Prefix, children, TickHolds, TreesWith, HaveShortTicks, HasShortTicks, IsAtMost, open_count, open_counts, node_count, node_counts}
+use Rattle.ec_symmetry.specs.Reached.{In, here, there, IsInRange}
+use Rattle.ec_symmetry.proofs.InLemmas.{children-In}
+use Rattle.ec_cert.specs.declared.tree.Tree.{Tree, Split, OpenLeaf, TickLeaf}
+use Rattle.ec_cert.specs.Shapes.{shape_of, shapes_of}
+use Rattle.ec_cert.proofs.TreeLemmas.{shape_of-Split}
+use Rattle.ec_branch.specs.Frames.{Frame, IsFair}
+use Rattle.ec_branch.specs.Walks.{HoldsAt, IsReadyFor, IsClosing, HasCause, IsWalked}
+use Rattle.ec_branch.proofs.HeldLemmas.{with_place}
+use Rattle.ec_branch.proofs.LeafLemmas.{closing_tick, shape_of-TickLeaf, shape_of-OpenLeaf}
+
+pub IsAtMost-refl : (a : Option ℕ) → IsAtMost a a
+IsAtMost-refl (Some a) = omega arith
+IsAtMost-refl None = tt
+
+pub IsAtMost-trans : (a b c : Option ℕ) → IsAtMost a b → IsAtMost b c → IsAtMost a c
+IsAtMost-trans (Some a) (Some b) (Some c) h k = le_trans h k
+IsAtMost-trans (Some a) (Some b) None h k = tt
+IsAtMost-trans (Some a) None (Some c) h k = absurd k
+IsAtMost-trans (Some a) None None h k = tt
+IsAtMost-trans None (Some b) c h k = absurd h
+IsAtMost-trans None None c h k = k
+
+-- trees for some of the children of a prefix
+abbrev pub RowHolds : List Load → ℕ → Option ℕ → Shapes → Prefix → ℕ → List ℕ → List Place → Type 0
+RowHolds loads n v trees ps u order kids = TreesWith (λ _ _. Unit {0}) loads n v trees ps u order kids
+
+-- one child more
+nodes-push : (ts : List Tree) (t : Tree) → node_counts (shapes_of (ts ++ t ∷ [])) ≡ node_counts (shapes_of ts) + node_count (shape_of t)
+nodes-push [] t = omega arith
+nodes-push (x ∷ ts) t = let rest = nodes-push ts t in omega arith
+
+opens-push : (ts : List Tree) (t : Tree) → open_counts (shapes_of (ts ++ t ∷ [])) ≡ open_counts (shapes_of ts) + open_count (shape_of t)
+opens-push [] t = omega arith
+opens-push (x ∷ ts) t = let rest = opens-push ts t in omega arith
+
+short-push : (ts : List Tree) (t : Tree) → HaveShortTicks (shapes_of ts) → HasShortTicks (shape_of t) → HaveShortTicks (shapes_of (ts ++ t ∷ []))
+short-push [] t so_far next = (next, tt)
+short-push (x ∷ ts) t so_far next = (so_far.0, short-push ts t so_far.1 next)
+
+row-push : (loads : List Load) (n : ℕ) (w : Option ℕ) (ps : Prefix) (u : ℕ) (order : List ℕ) (ts : List Tree) (t : Tree) (kids : List Place) (p : Place)
+    → RowHolds loads n w (shapes_of ts) ps u order kids → HoldsAt loads n w (shape_of t) (set ps u (Some p)) order → RowHolds loads n w (shapes_of (ts ++ t ∷ [])) ps u order (kids ++ p ∷ [])
+row-push loads n w ps u order [] t [] p so_far next = (next, tt)
+row-push loads n w ps u order [] t (k ∷ kids) p so_far next = absurd so_far
+row-push loads n w ps u order (x ∷ ts) t [] p so_far next = absurd so_far
+row-push loads n w ps u order (x ∷ ts) t (k ∷ kids) p so_far next = (so_far.0, row-push loads n w ps u order ts t kids p so_far.1 next)
+
+-- after some of a split's children
+pub record IsWalking (loads : List Load) (n floor : ℕ) (ps : Prefix) (u : ℕ) (order : List ℕ) (kids : List Place) (was : Option ℕ) (had : ℕ) (now : Option ℕ) (left : ℕ) (halted : Bool) (ts : List Tree) : Type 0 where
+  pub holds : (w : Option ℕ) → IsAtMost w now → RowHolds loads n w (shapes_of ts) ps u order kids
+  pub short : HaveShortTicks (shapes_of ts)
+  pub lower : IsAtMost now was
+  pub fair : IsFair floor loads n was → IsFair floor loads n now
+  pub count : node_counts (shapes_of ts) + left ≡ had
+  pub cause : HasCause (open_counts (shapes_of ts)) left halted
+
+cause-push : (a b left left2 k : ℕ) (halted halted2 : Bool) → k + left2 ≡ left → (halted ≡ true → halted2 ≡ true) → HasCause a left halted → HasCause b left2 halted2 → HasCause (a + b) left2 halted2
+cause-push a b left left2 k halted halted2 count stays (inl none) (inl closed) = inl (omega arith)
+cause-push a b left left2 k halted halted2 count stays (inl none) (inr why) = inr why
+cause-push a b left left2 k halted halted2 count stays (inr (inl out)) other = inr (inl (omega arith))
+cause-push a b left left2 k halted halted2 count stays (inr (inr stopped)) other = inr (inr (stays stopped))
+
+walking_more :
+    (loads : List Load) (n floor : ℕ) (ps : Prefix) (u : ℕ) (order : List ℕ) (kids : List Place) (p : Place)
+    (was now now2 : Option ℕ) (had left left2 : ℕ) (halted halted2 : Bool) (ts : List Tree) (t : Tree) →
+    IsWalking loads n floor ps u order kids was had now left halted ts →
+    IsWalked loads n floor (set ps u (Some p)) order now left now2 left2 halted2 (shape_of t) →
+    (halted ≡ true → halted2 ≡ true) →
+    IsWalking loads n floor ps u order (kids ++ p ∷ []) was had now2 left2 halted2 (ts ++ t ∷ [])
+walking_more loads n floor ps u order kids p was now now2 had left left2 halted halted2 ts t so_far step stays =
+    let count = so_far.count in
+    let counted = step.count in
+    let more_nodes = nodes-push ts t in
+    record {
+      holds = λ w low. row-push loads n w ps u order ts t kids p (so_far.holds w (IsAtMost-trans w now2 now low step.lower)) (step.holds w low);
+      short = short-push ts t so_far.short step.short;
+      lower = IsAtMost-trans now2 now was step.lower so_far.lower;
+      fair = λ f. step.fair (so_far.fair f);
+      count = omega (arith, count, counted, more_nodes);
+      cause = subst (λ k. HasCause k left2 halted2) (sym (opens-push ts t)) (cause-push _ _ left left2 _ halted halted2 counted stays so_far.cause step.cause);
+    }
+
+-- before the first child
+pub walking_none : (loads : List Load) (n floor : ℕ) (ps : Prefix) (u : ℕ) (order : List ℕ) (kids : List Place) (v : Option ℕ) (had : ℕ) (halted : Bool) (ts : List Tree) → kids ≡ [] → ts ≡ [] → IsWalking loads n floor ps u order kids v had v had halted ts
+walking_none loads n floor ps u order kids v had halted ts no_kids none =
+    subst (λ k. IsWalking loads n floor ps u order k v had v had halted ts) (sym no_kids)
+    (subst (IsWalking loads n floor ps u order [] v had v had halted) (sym none)
+    (record { holds = λ w low. tt; short = tt; lower = IsAtMost-refl v; fair = λ f. f; count = omega arith; cause = inl refl }))
+
+-- a split after all its children
+pub walked_split :
+    (loads : List Load) (n floor : ℕ) (ps : Prefix) (u : ℕ) (order later : List ℕ) (kids : List Place)
+    (was first now : Option ℕ) (had had1 left : ℕ) (halted : Bool) (trees : Vec Tree Global) →
+    order ≡ u ∷ later → kids ≡ children loads n ps u → had1 + 1 ≡ had →
+    IsAtMost first was → (IsFair floor loads n was → IsFair floor loads n first) →
+    IsWalking loads n floor ps u later kids first had1 now left halted trees.items →
+    IsWalked loads n floor ps order was had now left halted (shape_of (Split trees))
+walked_split loads n floor ps u order later kids was first now had had1 left halted trees from all spent low keeps so_far =
+    let counted = so_far.count in
+    subst (λ o. IsWalked loads n floor ps o was had now left halted (shape_of (Split trees))) (sym from)
+    (subst (λ s. IsWalked loads n floor ps (u ∷ later) was had now left halted s) (sym (shape_of-Split trees))
+    (record {
+      holds = λ w k. subst (λ q. RowHolds loads n w (shapes_of trees.items) ps u later q) all (so_far.holds w k);
+      short = so_far.short;
+      lower = IsAtMost-trans now first was so_far.lower low;
+      fair = λ f. so_far.fair (keeps f);
+      count = omega (arith, counted, spent);
+      cause = so_far.cause;
+    }))
+
+-- what a guide's bound keeps
+pub fair_bound : (floor : ℕ) (loads : List Load) (n : ℕ) (was got now : Option ℕ) → (now ≡ was) ⊎ (now ≡ got) → ForSome got (λ b. floor ≤ b) → IsFair floor loads n was → IsFair floor loads n now
+fair_bound floor loads n was got now (inl same) h f = subst (IsFair floor loads n) (sym same) f
+fair_bound floor loads n was (Some b) now (inr same) h f = subst (IsFair floor loads n) (sym same) (λ x low bounds. le_trans low (h b refl))
+fair_bound floor loads n was None now (inr same) h f = subst (IsFair floor loads n) (sym same) (λ x low bounds. tt)
+
+-- what a found plan keeps
+fair_found : (floor : ℕ) (loads : List Load) (n : ℕ) (plan : List Place) (c b : ℕ) → IsLegal loads n plan → IsBusiest (plan_items loads plan) n c → min c floor ≤ b → IsFair floor loads n (Some b)
+fair_found floor loads n plan c b legal busiest least x low bounds =
+    let at = bounds plan legal in
+    let same : x ≡ at.0 = let e = at.1 in cc in
+    let top = busiest.most at.2 in
+    let under = at.3 in
+    omega (arith, same, top, under, least, low)
+
+-- a leaf that closes its prefix
+pub closed_walked :
+    (loads : List Load) (n floor : ℕ) (ps : Prefix) (order : List ℕ) (was now : Option ℕ) (had left : ℕ) (halted : Bool) (tree : Shape) →
+    IsClosing loads n now ps tree → left + 1 ≡ had → IsAtMost now was → (IsFair floor loads n was → IsFair floor loads n now) →
+    IsWalked loads n floor ps order was had now left halted tree
+closed_walked loads n floor ps order was now had left halted tree closing spent low keeps =
+    let one = closing.one in
+    record { holds = λ w k. closing.holds w k order; short = closing.short; lower = low; fair = keeps; count = omega (arith, one, spent); cause = inl closing.whole }
+
+-- a leaf that stays open
+pub open_walked :
+    (loads : List Load) (n floor : ℕ) (ps : Prefix) (order : List ℕ) (was now : Option ℕ) (had : ℕ) (halted : Bool) →
+    (had ≡ 0) ⊎ (halted ≡ true) → IsAtMost now was → (IsFair floor loads n was → IsFair floor loads n now) →
+    IsWalked loads n floor ps order was had now had halted (shape_of OpenLeaf)
+open_walked loads n floor ps order was now had halted why low keeps =
+    subst (IsWalked loads n floor ps order was had now had halted) (sym shape_of-OpenLeaf)
+    (record { holds = λ w k. tt; short = tt; lower = low; fair = keeps; count = omega arith; cause = inr why })
+
+-- the next unit of a ready order
+pub ready_at : (loads : List Load) (n : ℕ) (ps : Prefix) (order later : List ℕ) (k u : ℕ) → IsReadyFor loads n ps order → order ≡ k ∷ later → u ≡ k → IsReadyFor loads n ps (u ∷ later)
+ready_at loads n ps order later k u ready from is = subst (λ w. IsReadyFor loads n ps (w ∷ later)) (sym is) (subst (IsReadyFor loads n ps) from ready)
+
+pub In-mid : {A : Type 0} (xs : List A) (x : A) (ys : List A) → In x (xs ++ x ∷ ys)
+In-mid [] x ys = here
+In-mid (y ∷ xs) x ys = there (In-mid xs x ys)
+
+-- the next child is in range, and the places below it are ready too
+pub ready_child :
+    (args cur placed : Held) (later : List ℕ) (u : ℕ) (p : Place) (before after : List Place) →
+    IsReadyFor args.loads args.slots args.places (u ∷ later) → cur ≡ args → placed ≡ with_place cur u (Some p) →
+    before ++ p ∷ after ≡ children args.loads args.slots args.places u →
+    IsReadyFor placed.loads placed.slots placed.places later
+ready_child args cur placed later u p before after ready same made kids =
+    let whole : placed ≡ with_place args u (Some p) = made ∙ ap (λ (w : Held). with_place w u (Some p)) same in
+    let is : In p (children args.loads args.slots args.places u) = subst (In p) kids (In-mid before p after) in
+    let range = children-In args.loads args.slots args.places u p is in
+    subst (λ (w : Held). IsReadyFor w.loads w.slots w.places later) (sym whole) (ready.1 p range.0 range.2)
+
+-- the places that there are
+abbrev strip : Prefix → List Place
+strip [] = []
+strip (None ∷ ps) = strip ps
+strip (Some p ∷ ps) = p ∷ strip ps
+
+strip-map : (plan : List Place) → strip (map Some plan) ≡ plan
+strip-map [] = refl
+strip-map (p ∷ ps) = ap (λ w. p ∷ w) (strip-map ps)
+
+pub all_some : (plan : List Place) (ps : Prefix) (i : ℕ) → ps ≡ map Some plan → i < length ps → get_or ps i None ≡ None → ⊥
+all_some plan ps i e h k = some_at plan i (subst (λ w. i < length w) e h) (subst (λ w. get_or w i None ≡ None) e k)
+  where
+    some_at : (plan : List Place) (i : ℕ) → i < length (map Some plan) → get_or (map Some plan) i None ≡ None → ⊥
+    some_at [] i h k = omega arith
+    some_at (p ∷ ps) zero h k = cc
+    some_at (p ∷ ps) (suc i) h k = some_at ps i (omega arith) k
+
+-- a whole prefix that fits is a legal plan
+pub legal_found :
+    (loads : List Load) (n : ℕ) (ps : Prefix) (order : List ℕ) (found : List Place) →
+    IsReadyFor loads n ps order → order ≡ [] → map Some found ≡ ps → Fits (items loads ps) n →
+    IsLegal loads n found
+legal_found loads n ps order found ready none same fits =
+    let whole : IsReadyFor loads n ps [] = subst (IsReadyFor loads n ps) none ready in
+    let is : whole.0 ≡ found = sym (strip-map whole.0) ∙ ap strip (sym whole.1 ∙ sym same) ∙ strip-map found in
+    let range = subst (IsInRange loads n) is whole.2 in
+    record {
+      whole = range.whole;
+      phases = range.phases;
+      slots = range.slots;
+      fits = subst (λ q. Fits (items loads q) n) (sym same) fits;
+    }
+
+-- a plan that the guide may be told
+pub told : (f : Frame) (h : Held) (order : List ℕ) (plan : List Place) → f.loads ≡ h.loads → f.slots ≡ h.slots → IsReadyFor h.loads h.slots h.places order → order ≡ [] → map Some plan ≡ h.places → Fits (items_of h) h.slots → IsLegal f.loads f.slots plan
+told f h order plan loads_are slots_are ready none same fits =
+    subst (λ n. IsLegal f.loads n plan) (sym slots_are)
+    (subst (λ ls. IsLegal ls h.slots plan) (sym loads_are) (legal_found h.loads h.slots h.places order plan ready none same fits))
+
+-- its busiest tick
+pub told_busiest : (f : Frame) (h : Held) (plan : List Place) (c t : ℕ) → f.loads ≡ h.loads → f.slots ≡ h.slots → map Some plan ≡ h.places → IsFirstBusiest (items_of h) h.slots c t → IsBusiest (plan_items f.loads plan) f.slots c
+told_busiest f h plan c t loads_are slots_are same first =
+    subst (λ n. IsBusiest (plan_items f.loads plan) n c) (sym slots_are)
+    (subst (λ ls. IsBusiest (plan_items ls plan) h.slots c) (sym loads_are)
+    (subst (λ q. IsBusiest (items h.loads q) h.slots c) (sym same) first.busiest))
+
+-- a cost that no tick of the value reaches is below it
+below_value : (loads : List Load) (n : ℕ) (v : Option ℕ) (ps : Prefix) (c t : ℕ) → tick_cost (items loads ps) n t ≡ c → ((i : ℕ) → ¬ (TickHolds loads n v ps i)) → IsAtMost (Some c) v
+below_value loads n (Some b) ps c t at none =
+    elim (cases_lt c b) [
+      | inl less ↦ omega (arith, less)
+      | inr above ↦ absurd (none t (b, refl, omega (arith, at, above)))
+    ]
+below_value loads n None ps c t at none = tt
+
+-- a whole plan that was found and told
+pub found_walked :
+    (f : Frame) (h : Held) (floor : ℕ) (order : List ℕ) (plan : List Place) (was first : Option ℕ) (had left : ℕ) (halted : Bool) (c b t : ℕ) →
+    f.loads ≡ h.loads → f.slots ≡ h.slots → f.floor ≡ floor → IsReadyFor h.loads h.slots h.places order → order ≡ [] → map Some plan ≡ h.places →
+    Fits (items_of h) h.slots → IsFirstBusiest (items_of h) h.slots c t → t ≤ 1023 → ((i : ℕ) → ¬ (TickHolds h.loads h.slots first h.places i)) →
+    left + 1 ≡ had → IsAtMost first was → (b ≤ c) × (min c f.floor ≤ b) →
+    IsWalked h.loads h.slots floor h.places order was had (Some b) left halted (shape_of (TickLeaf t))
+found_walked f h floor order plan was first had left halted c b t loads_are slots_are floor_is ready none same fits busiest short unreached spent low value =
+    let legal = legal_found h.loads h.slots h.places order plan ready none same fits in
+    let top : IsBusiest (plan_items h.loads plan) h.slots c = subst (λ q. IsBusiest (items h.loads q) h.slots c) (sym same) busiest.busiest in
+    let reached = busiest.reached in
+    let under : IsAtMost (Some b) (Some c) = value.0 in
+    let above = below_value h.loads h.slots first h.places c t reached unreached in
+    subst (IsWalked h.loads h.slots floor h.places order was had (Some b) left halted) (sym (shape_of-TickLeaf t))
+    (closed_walked h.loads h.slots floor h.places order was (Some b) had left halted (tick t)
+    (closing_tick h.loads h.slots (Some b) h.places t ((b, refl, omega (arith, reached, value.0)), short))
+    spent
+    (IsAtMost-trans (Some b) first was (IsAtMost-trans (Some b) (Some c) first under above) low)
+    (λ g. fair_found floor h.loads h.slots plan c b legal top (subst (λ k. min c k ≤ b) floor_is value.1)))
+
+-- one child more, after the walk below it
+pub loop_more :
+    (args cur placed : Held) (floor : ℕ) (later : List ℕ) (u : ℕ) (p : Place) (before : List Place)
+    (was now now2 : Option ℕ) (had left left2 : ℕ) (halted halted2 : Bool) (ts ts2 : List Tree) (t : Tree) →
+    cur ≡ args → placed ≡ with_place cur u (Some p) →
+    IsWalking args.loads args.slots floor args.places u later before was had now left halted ts →
+    IsWalked placed.loads placed.slots floor placed.places later now left now2 left2 halted2 (shape_of t) →
+    (halted ≡ true → halted2 ≡ true) → ts2 ≡ ts ++ t ∷ [] →
+    IsWalking args.loads args.slots floor args.places u later (before ++ p ∷ []) was had now2 left2 halted2 ts2
+loop_more args cur placed floor later u p before was now now2 had left left2 halted halted2 ts ts2 t same made so_far step stays pushed =
+    let whole : placed ≡ with_place args u (Some p) = made ∙ ap (λ (w : Held). with_place w u (Some p)) same in
+    let one = subst (λ (w : Held). IsWalked w.loads w.slots floor w.places later now left now2 left2 halted2 (shape_of t)) whole step in
+    subst (IsWalking args.loads args.slots floor args.places u later (before ++ p ∷ []) was had now2 left2 halted2) (sym pushed)
+    (walking_more args.loads args.slots floor args.places u later before p was now now2 had left left2 halted halted2 ts t so_far one stays)
+
+pub none_left : (xs : List ℕ) → length xs ≡ 0 → xs ≡ []
+none_left [] h = refl
+none_left (x ∷ xs) h = absurd (omega arith)
+
+-- one more child is taken
+pub kids_more : (done rest before kids : List Place) (p : Place) → before ≡ p ∷ rest → done ++ before ≡ kids → (done ++ p ∷ []) ++ rest ≡ kids
+kids_more done rest before kids p is so_far = append_assoc done (p ∷ []) rest ∙ ap (λ w. done ++ w) (sym is) ∙ so_far
+
+-- the next child and those behind it
+pub next_kids : (done rest before kids : List Place) (p : Place) → before ≡ p ∷ rest → done ++ before ≡ kids → done ++ p ∷ rest ≡ kids
+next_kids done rest before kids p is so_far = ap (λ w. done ++ w) (sym is) ∙ so_far
+
+-- a guide is for the same units where one more has its place
+pub frame_units : (first now : Frame) (held cur placed : Held) (u : ℕ) (o : Option Place) → now ≡ first → first.loads ≡ held.loads → cur ≡ held → placed ≡ with_place cur u o → now.loads ≡ placed.loads
+frame_units first now held cur placed u o same units at made = ap (λ (f : Frame). f.loads) same ∙ units ∙ sym (ap (λ (w : Held). w.loads) at) ∙ sym (ap (λ (w : Held). w.loads) made)
+
+pub frame_slots : (first now : Frame) (held cur placed : Held) (u : ℕ) (o : Option Place) → now ≡ first → first.slots ≡ held.slots → cur ≡ held → placed ≡ with_place cur u o → now.slots ≡ placed.slots
+frame_slots first now held cur placed u o same slots at made = ap (λ (f : Frame). f.slots) same ∙ slots ∙ sym (ap (λ (w : Held). w.slots) at) ∙ sym (ap (λ (w : Held). w.slots) made)
+
+-- no child is left
+pub kids_end : (done rest kids : List Place) → rest ≡ [] → done ++ rest ≡ kids → done ≡ kids
+kids_end done rest kids none so_far = sym (append-nil done) ∙ ap (λ w. done ++ w) (sym none) ∙ so_far

@@ -1,0 +1,4 @@
+pub mod Frames
+pub mod Greedy
+pub mod Walks
+pub mod Weights

@@ -1,0 +1,20 @@
+//! The search below a prefix: the order of the units, a first plan, and trees whose leaves hold.
+#![tactic(auto)]
+
+mod children;
+mod exploring;
+mod first_plan;
+mod guide;
+mod leaf;
+mod order;
+mod plan;
+mod value;
+mod walk;
+
+pub use exploring::explore;
+pub use first_plan::greedy;
+pub use guide::Guide;
+pub use order::search_order;
+
+#[cfg(test)]
+mod tests;

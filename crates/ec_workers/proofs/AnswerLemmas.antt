@@ -1,0 +1,101 @@
+-- What a finished search says.
+use Rattle.std.proofs.Common.{◌≡◌, ◌≢◌, ℕ, ◌≤◌, List, [], ◌∷◌, length, set, Option, Some, None, refl, ap, sym, subst, ◌∙◌, arith}
+use Rattle.std.proofs.lemmas.List.{length-map}
+use Rattle.ec_units.specs.declared.slave.Place.{Place}
+use Rattle.ec_units.specs.declared.unit.Unit.{Unit as SyncUnit}
+use Rattle.ec_units.specs.declared.units.Units.{Units}
+use Rattle.ec_units.specs.declared.unit.Load.{Load}
+use Rattle.ec_units.specs.Load.{load_of, loads_of}
+use Rattle.ec_loads.specs.Legal.{IsLegal}
+use Rattle.ec_loads.specs.Held.{no_places}
+use Rattle.ec_loads.specs.Shape.{Shape, Shapes, split, tick, full, average, open_leaf, no_shapes, more}
+use Rattle.ec_loads.specs.Search.{Prefix, children, TreeWith, TreesWith, IsTree, IsPartialTree, BoundsAll, HasNoPlan}
+use Rattle.ec_symmetry.specs.Orders.{IsOrder}
+use Rattle.ec_branch.specs.Weights.{IsSearchOrder}
+use Rattle.ec_book.specs.Kept.{IsBestPlan as BookBest}
+use Rattle.ec_cert.specs.declared.lists.UnitLine.{UnitLine}
+use Rattle.ec_cert.specs.declared.cert.Best.{Best}
+use Rattle.ec_cert.specs.Shapes.{CertView}
+use Rattle.ec_tree.specs.Trees.{TreesBound}
+use Rattle.ec_checker.specs.Certified.{lines_of, value_of, IsBestPlan}
+use Rattle.ec_checker.specs.Laws.{FaultsRefute}
+use Rattle.ec_workers.specs.declared.outcome.Cut.TheVariants as cut
+use Rattle.ec_workers.specs.Answers.{IsUnproved}
+use Rattle.ec_workers.specs.Outcomes.{cert_for, IsFound, IsOptimal, IsWithoutPlan}
+use Rattle.ec_workers.proofs.ShowLemmas.{AreFew, shows, bounds}
+
+few_of : (us : Units) → AreFew us.units us.slots
+few_of us = record { least_slots = us.slot_range.0; most_slots = us.slot_range.1; least_units = us.unit_count.0; most_units = us.unit_count.1 }
+
+-- a tree without open leaves is a partial tree
+mutual
+  tree-partial : (loads : List Load) (n : ℕ) (v : Option ℕ) (t : Shape) (ps : Prefix) (order : List ℕ) → TreeWith (λ _ _. ⊥) loads n v t ps order → TreeWith (λ _ _. Unit {0}) loads n v t ps order
+  tree-partial loads n v (split ts) ps [] h = absurd h
+  tree-partial loads n v (split ts) ps (u ∷ order) h = trees-partial loads n v ts ps u order (children loads n ps u) h
+  tree-partial loads n v (tick t) ps order h = h
+  tree-partial loads n v (full t s) ps order h = h
+  tree-partial loads n v average ps order h = h
+  tree-partial loads n v open_leaf ps order h = tt
+
+  trees-partial : (loads : List Load) (n : ℕ) (v : Option ℕ) (ts : Shapes) (ps : Prefix) (u : ℕ) (order : List ℕ) (places : List Place) → TreesWith (λ _ _. ⊥) loads n v ts ps u order places → TreesWith (λ _ _. Unit {0}) loads n v ts ps u order places
+  trees-partial loads n v no_shapes ps u order [] h = tt
+  trees-partial loads n v no_shapes ps u order (p ∷ rest) h = absurd h
+  trees-partial loads n v (more t ts) ps u order [] h = absurd h
+  trees-partial loads n v (more t ts) ps u order (p ∷ rest) h = (tree-partial loads n v t (set ps u (Some p)) order h.0, trees-partial loads n v ts ps u order rest h.1)
+
+-- a book's best plan is a certificate's
+best_as : (loads : List Load) (n : ℕ) (best : Option Best) → BookBest loads n best → IsBestPlan loads n best
+best_as loads n None h = tt
+best_as loads n (Some b) h = h
+
+no_legal : (loads : List Load) (n : ℕ) → BoundsAll loads n None → HasNoPlan loads n
+no_legal loads n all plan legal = let has = all plan legal in absurd (none_some has.1)
+  where
+    none_some : {b : ℕ} → None ≡ Some b → ⊥
+    none_some e = absurd cc
+
+with_lines : (us : List SyncUnit) (n : ℕ) (order : List ℕ) (best : Option Best) (tree : Shape) (lines : List UnitLine) (c : CertView) → lines ≡ lines_of us
+    → c ≡ record { version = 1; slots = n; units = lines; order = order; best = best; tree = tree } → c ≡ cert_for us n order best tree
+with_lines us n order best tree lines c is made = made ∙ (λ i. record { version = 1; slots = n; units = is i; order = order; best = best; tree = tree })
+
+pub without : FaultsRefute → TreesBound → (us : Units) (order : List ℕ) (best : Option Best) (tree : Shape) (lines : List UnitLine) (c : CertView) → IsFound us.units us.slots order best tree → best ≡ None → lines ≡ lines_of us.units
+    → c ≡ record { version = 1; slots = us.slots; units = lines; order = order; best = None; tree = tree } → IsWithoutPlan us.units us.slots c
+without refute law us order best tree lines c found is said made =
+    let none : IsFound us.units us.slots order None tree = subst (λ b. IsFound us.units us.slots order b tree) is found in
+    let whole = with_lines us.units us.slots order None tree lines c said made in
+    subst (IsWithoutPlan us.units us.slots) (sym whole)
+    (record {
+      none = no_legal (loads_of us.units) us.slots (bounds law us.units us.slots order None tree none);
+      held = refl;
+      shows = shows refute us.units us.slots order None tree (few_of us) none;
+    })
+
+pub optimal : FaultsRefute → TreesBound → (us : Units) (order : List ℕ) (best : Option Best) (tree : Shape) (lines : List UnitLine) (c : CertView) (b : Best) (plan : List Place) → IsFound us.units us.slots order best tree → best ≡ Some b
+    → lines ≡ lines_of us.units → plan ≡ b.plan.places → c ≡ record { version = 1; slots = us.slots; units = lines; order = order; best = Some b; tree = tree } → IsOptimal us.units us.slots plan b.busiest c
+optimal refute law us order best tree lines c b plan found is said copied made =
+    let some : IsFound us.units us.slots order (Some b) tree = subst (λ x. IsFound us.units us.slots order x tree) is found in
+    let whole = with_lines us.units us.slots order (Some b) tree lines c said made in
+    subst (λ w. IsOptimal us.units us.slots w b.busiest c) (sym copied)
+    (subst (IsOptimal us.units us.slots b.plan.places b.busiest) (sym whole)
+    (record {
+      legal = some.best_is.0;
+      busiest = some.best_is.1;
+      bounds = bounds law us.units us.slots order (Some b) tree some;
+      held = (b, refl, refl, refl);
+      shows = shows refute us.units us.slots order (Some b) tree (few_of us) some;
+    }))
+
+-- where not even the certificate's plan could be copied
+pub uncopied : (us : List SyncUnit) (n nodes : ℕ) (order : List ℕ) (best given : Option Best) (tree : Shape) → IsFound us n order best tree → best ≡ given → IsUnproved us n nodes given order tree cut.Memory
+uncopied us n nodes order best given tree found is =
+    let now : IsFound us n order given tree = subst (λ b. IsFound us n order b tree) is found in
+    record { order_is = now.order_is; best_is = now.best_is; tree_is = (tree-partial (loads_of us) n (value_of given) tree (no_places (loads_of us)) order now.tree_is, now.short); cut_is = tt }
+
+-- an order of the loads is one of the units
+pub order_of : (us : List SyncUnit) (order : List ℕ) → IsSearchOrder (loads_of us) order → IsOrder (length us) order
+order_of us order is = subst (λ k. IsOrder k order) (length-map us load_of) is.each
+
+-- what the book's end gives where no piece is left
+pub found_in : (us : List SyncUnit) (n pieces : ℕ) (order : List ℕ) (best : Option Best) (tree : Shape) → IsSearchOrder (loads_of us) order → BookBest (loads_of us) n best → IsPartialTree (loads_of us) n (value_of best) tree (no_places (loads_of us)) order
+    → (pieces ≡ 0 → IsTree (loads_of us) n (value_of best) tree (no_places (loads_of us)) order) → pieces ≡ 0 → IsFound us n order best tree
+found_in us n pieces order best tree sorted right part closed none = record { order_is = order_of us order sorted; best_is = best_as (loads_of us) n best right; short = part.1; tree_is = closed none }

@@ -1,0 +1,4 @@
+pub mod AnswerLemmas
+pub mod LevelLemmas
+pub mod RangeLemmas
+pub mod ShowLemmas

@@ -1,0 +1,132 @@
+-- The certificate of a search has a text, and the checker says yes to it.
+use Rattle.std.proofs.Common.{◌≡◌, ◌≢◌, ◌⊎◌, ℕ, zero, suc, ◌+◌, ◌<◌, ◌≤◌, All, List, [], ◌∷◌, map, length, Option, Some, None, Result, Ok, Err, refl, ap, sym, subst, ◌∙◌, arith, inl, inr}
+use Rattle.std.proofs.lemmas.List.{length-map}
+use Rattle.std.proofs.lemmas.List.Sums.{sum_by-cons}
+use Rattle.std.proofs.lemmas.List.Elements.{All-nil, All-cons, All-head, All-tail}
+use Rattle.ec_units.specs.declared.slave.Slave.{Slave}
+use Rattle.ec_units.specs.declared.slave.Place.{Place}
+use Rattle.ec_units.specs.declared.unit.Unit.{Unit as SyncUnit}
+use Rattle.ec_units.specs.declared.unit.Load.{Load}
+use Rattle.ec_units.specs.Bytes.{bytes_of_slaves}
+use Rattle.ec_units.specs.Load.{load_of, loads_of}
+use Rattle.ec_loads.specs.declared.item.Item.{Item}
+use Rattle.ec_loads.specs.Cost.{item, plan_items}
+use Rattle.ec_loads.specs.Held.{AreLoads, no_places}
+use Rattle.ec_loads.specs.Legal.{IsLegal}
+use Rattle.ec_loads.specs.Shape.{Shape}
+use Rattle.ec_loads.specs.Search.{IsTree, HasShortTicks, BoundsAll}
+use Rattle.ec_loads.proofs.ItemLemmas.{AreLoads-loads_of}
+use Rattle.ec_cert.specs.declared.cert.Best.{Best}
+use Rattle.ec_cert.specs.Shapes.{CertView}
+use Rattle.ec_cert.specs.Text.{IsUnitLine, IsPlaceLine, IsBestOrNone, IsWellFormed}
+use Rattle.ec_symmetry.specs.Orders.{IsOrder}
+use Rattle.ec_tree.specs.Trees.{TreesBound}
+use Rattle.ec_checker.specs.Certified.{line_of, lines_of, value_of, IsBestPlan, IsCertified, IsAnswer, verdict_of}
+use Rattle.ec_checker.specs.Laws.{FaultsRefute}
+use Rattle.ec_checker.specs.declared.fault.CheckFault.{CheckFault}
+use Rattle.ec_checker.specs.declared.fault.CheckFault.TheVariants as fault
+use Rattle.ec_checker.specs.declared.fault.Verdict.{Verdict}
+use Rattle.ec_workers.specs.Outcomes.{Shows, cert_for, IsFound}
+use Rattle.ec_workers.proofs.RangeLemmas.{busiest-range}
+use Rattle.ec_workers.proofs.LevelLemmas.{tree-levels}
+
+abbrev slave_bytes : Slave → ℕ
+slave_bytes s = s.out_bytes + s.in_bytes
+
+slaves-least : (ss : List Slave) → 1 ≤ length ss → 1 ≤ bytes_of_slaves ss
+slaves-least [] some = absurd (omega arith)
+slaves-least (s ∷ ss) some = let one = s.carries in omega (arith, one, sum_by-cons slave_bytes s ss)
+
+line-formed : (u : SyncUnit) → IsUnitLine (line_of u)
+line-formed u = record {
+  name = u.named;
+  least_bytes = slaves-least u.slaves u.slave_count.0;
+  most_bytes = u.size;
+  least_period = u.period_range.0;
+  most_period = u.period_range.1;
+}
+
+lines-formed : (us : List SyncUnit) → All IsUnitLine (lines_of us)
+lines-formed [] = All-nil _
+lines-formed (u ∷ us) = All-cons IsUnitLine (line_of u) (lines_of us) (line-formed u) (lines-formed us)
+
+places-formed : (loads : List Load) (n : ℕ) (plan : List Place) → n ≤ 8 → AreLoads loads → length plan ≡ length loads → All (λ x. x.phase < x.period) (plan_items loads plan) → All (λ x. x.slot < n) (plan_items loads plan) → All IsPlaceLine plan
+places-formed [] n [] few within same phases slots = All-nil _
+places-formed [] n (p ∷ ps) few within same phases slots = absurd (omega arith)
+places-formed (l ∷ ls) n [] few within same phases slots = All-nil _
+places-formed (l ∷ ls) n (p ∷ ps) few within same phases slots =
+    let phase : p.phase < l.period = All-head (λ (x : Item). x.phase < x.period) (item l p) (plan_items ls ps) phases in
+    let slot : p.slot < n = All-head (λ (x : Item). x.slot < n) (item l p) (plan_items ls ps) slots in
+    let is = All-head (λ (x : Load). (1 ≤ x.period) × (x.period ≤ 60) × (x.bytes ≤ 1486)) l ls within in
+    let period : l.period ≤ 60 = is.1 in
+    All-cons IsPlaceLine p ps (omega (arith, phase, period), omega (arith, slot, few))
+    (places-formed ls n ps few (All-tail (λ (x : Load). (1 ≤ x.period) × (x.period ≤ 60) × (x.bytes ≤ 1486)) l ls within) (omega arith)
+    (All-tail (λ (x : Item). x.phase < x.period) (item l p) (plan_items ls ps) phases)
+    (All-tail (λ (x : Item). x.slot < n) (item l p) (plan_items ls ps) slots))
+
+best-formed : (us : List SyncUnit) (n k : ℕ) (best : Option Best) → k ≡ length us → 1 ≤ length us → n ≤ 8 → IsBestPlan (loads_of us) n best → IsBestOrNone k best
+best-formed us n k None is some few h = tt
+best-formed us n k (Some b) is some few h =
+    let count : length (loads_of us) ≡ length us = length-map us load_of in
+    let range = busiest-range (loads_of us) n b.busiest b.plan.places (omega (arith, count, some)) few h.0 h.1 in
+    record {
+      least = range.0;
+      most = range.1;
+      count = h.0.whole ∙ count ∙ sym is;
+      places = places-formed (loads_of us) n b.plan.places few (AreLoads-loads_of us) h.0.whole h.0.phases h.0.slots;
+    }
+
+-- what is known of the units
+pub record AreFew (us : List SyncUnit) (n : ℕ) : Type 0 where
+  pub least_slots : 1 ≤ n
+  pub most_slots : n ≤ 8
+  pub least_units : 1 ≤ length us
+  pub most_units : length us ≤ 48
+
+pub certified : (us : List SyncUnit) (n : ℕ) (order : List ℕ) (best : Option Best) (tree : Shape) → IsFound us n order best tree → IsCertified us n (cert_for us n order best tree)
+certified us n order best tree found = record {
+  head = record { same = record { slots = refl; lines = refl }; order = found.order_is; best = found.best_is };
+  tree = found.tree_is;
+}
+
+pub formed : (us : List SyncUnit) (n : ℕ) (order : List ℕ) (best : Option Best) (tree : Shape) → AreFew us n → IsFound us n order best tree → IsWellFormed (cert_for us n order best tree)
+formed us n order best tree few found =
+    let count : length (lines_of us) ≡ length us = length-map us line_of in
+    let loads : length (loads_of us) ≡ length us = length-map us load_of in
+    record {
+      version = refl;
+      least_slots = few.least_slots;
+      most_slots = few.most_slots;
+      least_units = omega (arith, count, few.least_units);
+      most_units = omega (arith, count, few.most_units);
+      units = lines-formed us;
+      order_count = found.order_is.count ∙ sym count;
+      order = subst (λ k. All (λ u. u < k) order) (sym count) found.order_is.below;
+      best = best-formed us n (length (lines_of us)) best count few.least_units few.most_slots found.best_is;
+      tree =
+          tree-levels (loads_of us) n (value_of best) tree (no_places (loads_of us)) order 48 (AreLoads-loads_of us) few.least_slots few.most_slots
+          (subst (λ k. All (λ u. u < k) order) (sym loads) found.order_is.below) (omega (arith, found.order_is.count, few.most_units)) found.short found.tree_is;
+    }
+
+checked : FaultsRefute → (us : List SyncUnit) (n : ℕ) (c : CertView) → IsCertified us n c → (r : Result Verdict CheckFault) → IsAnswer us n c r → (r ≡ Ok (verdict_of c.best)) ⊎ (r ≡ Err fault.OutOfMemory)
+checked refute us n c right (Ok w) a = inl (ap Ok a.1)
+checked refute us n c right (Err fault.OutOfMemory) a = inr refl
+checked refute us n c right (Err fault.OtherUnits) a = absurd (refute us n c fault.OtherUnits (λ e. absurd cc) a right)
+checked refute us n c right (Err fault.Order) a = absurd (refute us n c fault.Order (λ e. absurd cc) a right)
+checked refute us n c right (Err (fault.Plan i)) a = absurd (refute us n c (fault.Plan i) (λ e. absurd cc) a right)
+checked refute us n c right (Err (fault.Value s f)) a = absurd (refute us n c (fault.Value s f) (λ e. absurd cc) a right)
+checked refute us n c right (Err (fault.Children k w g)) a = absurd (refute us n c (fault.Children k w g) (λ e. absurd cc) a right)
+checked refute us n c right (Err (fault.Leaf k)) a = absurd (refute us n c (fault.Leaf k) (λ e. absurd cc) a right)
+checked refute us n c right (Err (fault.Depth k)) a = absurd (refute us n c (fault.Depth k) (λ e. absurd cc) a right)
+
+pub shows : FaultsRefute → (us : List SyncUnit) (n : ℕ) (order : List ℕ) (best : Option Best) (tree : Shape) → AreFew us n → IsFound us n order best tree → Shows us n (cert_for us n order best tree) (verdict_of best)
+shows refute us n order best tree few found = record {
+  formed = formed us n order best tree few found;
+  certified = certified us n order best tree found;
+  checked = checked refute us n (cert_for us n order best tree) (certified us n order best tree found);
+}
+
+pub bounds : TreesBound → (us : List SyncUnit) (n : ℕ) (order : List ℕ) (best : Option Best) (tree : Shape) → IsFound us n order best tree → BoundsAll (loads_of us) n (value_of best)
+bounds law us n order best tree found =
+    law (loads_of us) n (value_of best) tree order (AreLoads-loads_of us)
+    (subst (λ k. All (λ u. u < k) order) (sym (length-map us load_of)) found.order_is.below) found.tree_is

@@ -1,0 +1,6 @@
+use Rattle.std.proofs.Common.{◌≡◌}
+use Rattle.ec_workers.specs.Books.{IsBookOf}
+use Rattle.ec_workers.proofs.alone.work.Given as goal
+
+abbrev pub invariant-loop : goal.invariant-loop
+invariant-loop g l = IsBookOf l.units.units l.units.slots l.order l.book × (goal.iterator-loop g).can_next l.iterator' × (goal.iterator-loop g).is_finite l.iterator'

@@ -1,0 +1,67 @@
+//! A worker that works alone, on a book without a lock.
+
+ghost use Rattle.std.specs.Prelude.{◌≡◌, ℕ, ◌≤◌, length};
+ghost use Rattle.ec_units.specs.Load.{loads_of};
+ghost use Rattle.ec_symmetry.specs.Orders.{IsOrder, IsReachedPrefix};
+ghost use Rattle.ec_workers.specs.Books.{IsBookOf};
+
+use crate::gate::Gate;
+use crate::turn::{ALONE, Turn, take_turn};
+use ec_book::{Book, Taken, Took};
+use ec_units::Units;
+use std::alloc::Global;
+use std::sync::Wait;
+
+/// The most nodes of one grant.
+const MOST_GRANT: u32 = 4096;
+
+/// Explores a piece until its subtree is reported; no where the worker stops.
+fn worked_off<R: Wait, G: Gate>(
+    rt: &R,
+    alloc: Global,
+    units: &Units,
+    order: &[u8],
+    book: &mut Book,
+    took: Took,
+    gate: &G,
+) -> bool
+    requires order { IsOrder (length units.now.units) order.now }
+    requires book { IsBookOf units.now.units units.now.slots order.now book.old }
+    requires reached { IsReachedPrefix (loads_of units.now.units) units.now.slots order.now took.prefix }
+    requires some { 1 ≤ took.grant }
+    ensures book { IsBookOf units.now.units units.now.slots order.now book.new }
+{
+    let mut value = took.value;
+    for _ in rt.forever() {
+        match take_turn(alloc, units, order, book, &took, value, gate) {
+            Turn::Reported => return true,
+            Turn::Again(now) => value = now,
+            Turn::Stopped => return false,
+        }
+    }
+    unreachable!()
+}
+
+/// Takes pieces, the lowest first, until none can be handed out or memory is refused.
+pub(crate) fn work<R: Wait, G: Gate>(
+    rt: &R,
+    alloc: Global,
+    units: &Units,
+    order: &[u8],
+    book: &mut Book,
+    gate: &G,
+)
+    requires order { IsOrder (length units.now.units) order.now }
+    requires book { IsBookOf units.now.units units.now.slots order.now book.old }
+    ensures book { IsBookOf units.now.units units.now.slots order.now book.new }
+{
+    for _ in rt.forever() {
+        let Ok(Taken::Piece(took)) = book.take(ALONE, MOST_GRANT) else {
+            return;
+        };
+        if !worked_off(rt, alloc, units, order, book, took, gate) {
+            return;
+        }
+    }
+    unreachable!()
+}

@@ -1,0 +1,53 @@
+//! The certificate of a search.
+
+ghost use Rattle.std.specs.Prelude.{◌≡◌, ℕ, IfOk};
+ghost use Rattle.ec_cert.specs.Shapes.{cert_view};
+ghost use Rattle.ec_checker.specs.Certified.{line_of as line_spec, lines_of as lines_spec};
+ghost use Rattle.ec_cert.specs.Shapes.{shape_of};
+
+use ec_cert::{Best, Cert, Order, Tree, UnitLine, UnitLines};
+use ec_units::{Name, Unit, Units, bytes_of};
+use std::alloc::{AllocError, Global};
+
+/// What a certificate says of a unit.
+fn line_of(alloc: Global, unit: &Unit) -> Result<UnitLine, AllocError>
+    ensures { IfOk result (λ line. line ≡ line_spec unit.now) }
+{
+    Ok(UnitLine {
+        name: Name::new(String::from_str(alloc, unit.name.as_str())?),
+        bytes: bytes_of(unit),
+        period: unit.period,
+    })
+}
+
+/// What a certificate says of the units, in file order.
+pub(crate) fn lines_of(alloc: Global, units: &Units) -> Result<UnitLines, AllocError>
+    ensures { IfOk result (λ lines. lines ≡ lines_spec units.now.units) }
+{
+    let all = units.units.as_slice();
+    let mut lines = Vec::new(alloc);
+    for unit in all {
+        lines.push(line_of(alloc, unit)?)?;
+    }
+    Ok(UnitLines::new(lines))
+}
+
+/// The certificate of a tree without open leaves; takes no memory.
+pub(crate) fn certificate(
+    slots: u8,
+    units: UnitLines,
+    order: Order,
+    best: Option<Best>,
+    tree: Tree,
+) -> Cert
+    ensures { cert_view result ≡ record { version = 1; slots = slots; units = units; order = order; best = best; tree = shape_of tree } }
+{
+    Cert {
+        version: 1,
+        slots,
+        units,
+        order,
+        best,
+        tree,
+    }
+}

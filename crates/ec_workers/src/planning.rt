@@ -1,0 +1,144 @@
+//! The planner.
+
+ghost use Rattle.std.specs.Prelude.{◌≡◌, ◌≢◌, ℕ, ◌≤◌, IfOk, IfErr, List, length};
+ghost use Rattle.ec_units.specs.declared.unit.Unit.{Unit as SyncUnit};
+ghost use Rattle.ec_symmetry.specs.Orders.{IsOrder};
+ghost use Rattle.ec_cert.specs.Shapes.{shape_of};
+ghost use Rattle.ec_checker.specs.Certified.{lines_of as lines_spec};
+ghost use Rattle.ec_workers.specs.Answers.{IsOutcome};
+ghost use Rattle.ec_workers.specs.Books.{IsSameSearch};
+ghost use Rattle.ec_workers.specs.Outcomes.{IsFound};
+ghost use Rattle.ec_workers.specs.declared.outcome.Cut.TheVariants.{Budget, Journal};
+ghost use Rattle.ec_workers.specs.declared.outcome.SolveFault.TheVariants.{OutOfMemory};
+
+use crate::alone::work;
+use crate::certify::{certificate, lines_of};
+use crate::gate::Gate;
+use crate::outcome::{Cut, Outcome, SolveFault};
+use crate::turn::offer;
+use crate::watch::copy_of;
+use ec_book::{Book, Finished};
+use ec_branch::{greedy, search_order};
+use ec_cert::{Best, Order, Tree, UnitLines};
+use ec_checker::faults_refute;
+use ec_tree::trees_bound;
+use ec_units::Units;
+use std::alloc::Global;
+use std::sync::Wait;
+
+/// Offers the greedy plan, if there is one; no where memory was refused.
+fn offered_greedy(alloc: Global, units: &Units, book: &mut Book) -> bool
+    ensures { IsSameSearch book.old book.new }
+{
+    match greedy(alloc, units) {
+        Ok(plan) => offer(book, plan),
+        Err(_) => false,
+    }
+}
+
+/// Why a search that left a leaf open ended.
+fn cut_of(spent: u64, nodes: u32) -> Cut
+    ensures budget { result ≡ Budget → spent ≡ nodes }
+    ensures agrees { result ≢ Journal }
+{
+    if spent == u64::from(nodes) {
+        Cut::Budget
+    } else {
+        Cut::Memory
+    }
+}
+
+/// What comes of a finished search in which no leaf is open.
+fn proved(
+    alloc: Global,
+    units: &Units,
+    lines: UnitLines,
+    order: Order,
+    best: Option<Best>,
+    tree: Tree,
+) -> Outcome
+    requires lines { lines ≡ lines_spec units.now.units }
+    requires found { IsFound units.now.units units.now.slots order best (shape_of tree) }
+    ensures { (nodes : ℕ) → IsOutcome units.now.units units.now.slots nodes result }
+{
+    faults_refute();
+    trees_bound();
+    let Some(best) = best else {
+        let cert = certificate(units.slots, lines, order, None, tree);
+        return Outcome::NoPlan { cert };
+    };
+    match copy_of(alloc, &best.plan) {
+        Ok(plan) => {
+            let busiest = best.busiest;
+            let cert = certificate(units.slots, lines, order, Some(best), tree);
+            Outcome::Optimal {
+                plan,
+                busiest,
+                cert,
+            }
+        }
+        Err(_) => Outcome::Unproved {
+            best: Some(best),
+            order,
+            tree,
+            cut: Cut::Memory,
+        },
+    }
+}
+
+/// What comes of a search without its book.
+fn nothing(order: Order) -> Outcome
+    ensures { (units : List SyncUnit) (n nodes : ℕ) → IsOrder (length units) order → IsOutcome units n nodes result }
+{
+    Outcome::Unproved {
+        best: None,
+        order,
+        tree: Tree::OpenLeaf,
+        cut: Cut::Memory,
+    }
+}
+
+/// Searches for a plan whose busiest tick costs least, with one worker, which runs in the calling thread and splits
+/// and closes at most `nodes` nodes of the tree (1 to 10,000,000); the greedy plan counts none. With these units and
+/// this budget the answer is always the same, as long as memory is given. `gate` is told before each node.
+pub fn solve<R: Wait, G: Gate + Sync>(
+    rt: &R,
+    alloc: Global,
+    units: &Units,
+    workers: usize,
+    nodes: u32,
+    gate: &G,
+) -> Result<Outcome, SolveFault>
+    requires workers { workers ≡ 1 }
+    requires nodes { (1 ≤ nodes) × (nodes ≤ 10000000) }
+    ensures outcome { IfOk result (IsOutcome units.now.units units.now.slots nodes) }
+    ensures fault { IfErr result (λ e. e ≡ OutOfMemory) }
+{
+    let _ = workers;
+    let lines = lines_of(alloc, units)?;
+    let order = search_order(alloc, units)?;
+    let mut book = Book::new(alloc, units, order.as_slice(), u64::from(nodes))?;
+    if offered_greedy(alloc, units, &mut book) {
+        work(rt, alloc, units, order.as_slice(), &mut book, gate);
+    }
+    let open = book.open_pieces();
+    let order_of = Order::new(order);
+    let Ok(finished) = book.finish() else {
+        return Ok(nothing(order_of));
+    };
+    let Finished {
+        best,
+        tree,
+        spent,
+        ..
+    } = finished;
+    if open == 0 {
+        return Ok(proved(alloc, units, lines, order_of, best, tree));
+    }
+    Ok(Outcome::Unproved {
+        best,
+        order: order_of,
+        tree,
+        cut: cut_of(spent, nodes),
+    })
+}

@@ -1,0 +1,113 @@
+//! A turn of a worker that works alone: one piece, explored and reported.
+
+ghost use Rattle.std.specs.Prelude.{◌≡◌, ℕ, ◌<◌, ◌≤◌, ◌↔◌, IsTrue, length, drop};
+ghost use Rattle.ec_units.specs.Load.{loads_of};
+ghost use Rattle.ec_loads.specs.Search.{IsPartialTree, node_count};
+ghost use Rattle.ec_symmetry.specs.Orders.{IsOrder, IsReachedPrefix, prefix_of};
+ghost use Rattle.ec_cert.specs.Shapes.{shape_of};
+ghost use Rattle.ec_workers.specs.Books.{IsBookOf, IsSameSearch};
+
+use crate::gate::Gate;
+use crate::watch::Watch;
+use ec_book::{Book, BookFault, Took};
+use ec_branch::explore;
+use ec_cert::{Subtree, Tree};
+use ec_loads::Plan;
+use ec_units::Units;
+use std::alloc::Global;
+
+/// The number of the only worker.
+pub(crate) const ALONE: usize = 0;
+
+/// What became of a piece.
+pub(crate) enum Turn {
+    /// Its subtree was reported.
+    Reported,
+    /// It is to be explored again, at this value of the book.
+    Again(Option<u64>),
+    /// Memory was refused; the worker stops.
+    Stopped,
+}
+
+/// Whether a tree splits or closes a node.
+fn has_nodes(tree: &Tree) -> bool
+    ensures { IsTrue result ↔ (0 < node_count (shape_of tree.now)) }
+{
+    match tree {
+        Tree::OpenLeaf => false,
+        _ => true,
+    }
+}
+
+/// Offers a plan that was kept; no where memory was refused to it.
+pub(crate) fn offer(book: &mut Book, kept: Option<Plan>) -> bool
+    ensures { IsSameSearch book.old book.new }
+{
+    let Some(plan) = kept else {
+        return true;
+    };
+    match book.better(ALONE, plan) {
+        Ok(()) => true,
+        Err((fault, _)) => fault != BookFault::OutOfMemory,
+    }
+}
+
+/// Gives a piece back; the worker stops.
+fn given_back(book: &mut Book, piece: u64) -> Turn
+    ensures { IsSameSearch book.old book.new }
+{
+    match book.back(ALONE, piece) {
+        Ok(()) => Turn::Stopped,
+        Err(_) => Turn::Stopped,
+    }
+}
+
+/// Reports a subtree of the piece; it stops where memory was refused.
+fn reported(book: &mut Book, took: &Took, sub: Subtree, stopped: bool) -> Turn
+    requires tree { IsPartialTree book.old.loads book.old.slots sub.threshold (shape_of sub.tree) (prefix_of book.old.loads book.old.order took.now.prefix) (drop (length took.now.prefix) book.old.order) }
+    requires some { 0 < node_count (shape_of sub.tree) }
+    ensures { IsSameSearch book.old book.new }
+{
+    match book.report(ALONE, took.piece, took.prefix.as_slice(), sub) {
+        Ok(()) if stopped => Turn::Stopped,
+        Ok(()) => Turn::Reported,
+        Err((BookFault::AheadOfBook(value), _)) => Turn::Again(value),
+        Err(_) => given_back(book, took.piece),
+    }
+}
+
+/// Explores a piece at a value, offers the plan that was found, and reports the subtree.
+pub(crate) fn take_turn<G: Gate>(
+    alloc: Global,
+    units: &Units,
+    order: &[u8],
+    book: &mut Book,
+    took: &Took,
+    value: Option<u64>,
+    gate: &G,
+) -> Turn
+    requires order { IsOrder (length units.now.units) order.now }
+    requires book { IsBookOf units.now.units units.now.slots order.now book.old }
+    requires reached { IsReachedPrefix (loads_of units.now.units) units.now.slots order.now took.now.prefix }
+    requires some { 1 ≤ took.now.grant }
+    ensures book { IsBookOf units.now.units units.now.slots order.now book.new }
+{
+    let mut watch = Watch {
+        alloc,
+        units,
+        gate,
+        worker: ALONE,
+        piece: took.piece,
+        value,
+        kept: None,
+        stopped: false,
+    };
+    let prefix = took.prefix.as_slice();
+    let explored = explore(alloc, units, order, prefix, &mut watch, took.grant);
+    let Watch { kept, stopped, .. } = watch;
+    let offered = offer(book, kept);
+    match explored {
+        Ok(sub) if offered && has_nodes(&sub.tree) => reported(book, took, sub, stopped),
+        _ => given_back(book, took.piece),
+    }
+}

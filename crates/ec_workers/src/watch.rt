@@ -1,0 +1,65 @@
+//! The guide of a worker that works alone.
+
+ghost use Rattle.std.specs.Prelude.{◌≡◌, IfOk};
+ghost use Rattle.std.specs.Option.{ForSome};
+ghost use Rattle.ec_units.specs.Load.{loads_of};
+ghost use Rattle.ec_loads.specs.Legal.{IsLegal};
+
+use crate::gate::Gate;
+use ec_branch::Guide;
+use ec_loads::{Places, Plan};
+use ec_units::Units;
+use std::alloc::{AllocError, Global};
+
+/// What a worker watches while it explores a piece: the value that came with the piece, in wire bytes, and the last
+/// plan that it was told.
+#[derive(Drop)]
+pub(crate) struct Watch<'a, G: Gate> {
+    pub alloc: Global,
+    pub units: &'a Units,
+    pub gate: &'a G,
+    pub worker: usize,
+    pub piece: u64,
+    pub value: Option<u64>,
+    pub kept: Option<Plan>,
+    pub stopped: bool,
+    pub ghost legal: { ForSome kept (λ plan. IsLegal (loads_of units.now.units) units.now.slots plan.places) },
+}
+
+/// The same plan again.
+pub(crate) fn copy_of(alloc: Global, plan: &Plan) -> Result<Plan, AllocError>
+    ensures { IfOk result (λ copy. copy.places ≡ plan.now.places) }
+{
+    Ok(Plan {
+        places: Places::new(Vec::from_slice(alloc, plan.places.as_slice())?),
+    })
+}
+
+impl<'a, G: Gate> Guide for Watch<'a, G> {
+    ghost frame = { λ s. record { loads = loads_of s.units.now.units; slots = s.units.now.slots; floor = 0 } };
+
+    ghost halted = { λ s. s.stopped };
+
+    fn bound(&mut self) -> Option<u64> {
+        self.gate.before(self.worker, self.piece);
+        self.value
+    }
+
+    fn found(&mut self, plan: &Plan, cost: u64) -> Option<u64> {
+        match copy_of(self.alloc, plan) {
+            Ok(copy) => {
+                self.kept = Some(copy);
+                self.stopped = false;
+                Some(cost)
+            }
+            Err(_) => {
+                self.stopped = true;
+                None
+            }
+        }
+    }
+
+    fn stopped(&self) -> bool {
+        self.stopped
+    }
+}
