@@ -1,9 +1,8 @@
 -- The last trees in place of the open leaves, from the last report to the first.
-use Rattle.std.proofs.Common.{◌≡◌, ◌≢◌, ℕ, zero, suc, ◌+◌, ◌-◌, ◌<◌, ◌≤◌, ◌==◌, Bool, true, false, eqb, ltb, if◌then◌else◌, List, [], ◌∷◌, ◌++◌, length, set, get_or, slice_get, take, drop, replicate, Vec, Global, Option, Some, None, refl, sym, ap, ◌∙◌, subst, arith, not-suc-le-zero, le_of_suc-le-suc, add-one, rules, take_all}
-use Rattle.std.proofs.lemmas.Grind.{common_steps}
-use Rattle.ec_loads.specs.Shape.{Shape, Shapes, split, tick, full, average, open_leaf, no_shapes, more}
+use Rattle.std.proofs.Common.{◌≡◌, ◌≢◌, ℕ, zero, suc, ◌+◌, ◌<◌, ◌≤◌, ◌==◌, Bool, true, false, eqb, if◌then◌else◌, List, [], ◌∷◌, ◌++◌, length, set, get_or, slice_get, take, drop, replicate, Some, refl, sym, ap, ◌∙◌, subst, arith, not-suc-le-zero, le_of_suc-le-suc, add-one, rules}
+use Rattle.ec_loads.specs.Shape.{Shape, split, open_leaf, more}
 use Rattle.ec_loads.specs.Search.{open_count, open_counts, node_count, node_counts}
-use Rattle.ec_cert.specs.declared.tree.Tree.{Tree, Split, OpenLeaf, the_lemmas}
+use Rattle.ec_cert.specs.declared.tree.Tree.{Tree, OpenLeaf, the_lemmas}
 use Rattle.ec_cert.specs.Shapes.{shape_of, shapes_of}
 use Rattle.ec_book.specs.declared.report.Report.{Report}
 use Rattle.ec_book.specs.Numbered.{Numbered, Numbereds, branch, closed, gap, last, next, numbered, all_numbered, fill, fills, plug, draw, draws}

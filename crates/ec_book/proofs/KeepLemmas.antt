@@ -5,24 +5,22 @@ use Rattle.std.proofs.lemmas.Option.{get_or_from_slice_get, slice_get_within}
 use Rattle.std.proofs.lemmas.List.Elements.{All-append}
 use Rattle.ec_units.specs.declared.slave.Place.{Place}
 use Rattle.ec_units.specs.declared.unit.Load.{Load}
-use Rattle.ec_loads.specs.Held.{Held, no_places}
+use Rattle.ec_loads.specs.Held.{no_places}
 use Rattle.ec_loads.specs.Search.{IsAtMost, IsPartialTree, open_count, node_count}
 use Rattle.ec_cert.specs.Shapes.{shape_of}
 use Rattle.ec_cert.specs.declared.tree.Tree.{Tree}
-use Rattle.ec_cert.specs.declared.cert.Best.{Best}
-use Rattle.ec_symmetry.specs.Orders.{IsOrder, IsReachedPrefix, prefix_of}
+use Rattle.ec_symmetry.specs.Orders.{IsReachedPrefix, prefix_of}
 use Rattle.ec_book.specs.declared.step.Step.{Step}
 use Rattle.ec_book.specs.declared.step.Step.TheVariants.{Took, Reported, Better, Back}
 use Rattle.ec_book.specs.declared.piece.Piece.{Piece}
 use Rattle.ec_book.specs.declared.piece.Piece.TheVariants.{Free, Taken, Ended}
 use Rattle.ec_book.specs.declared.report.Report.{Report}
-use Rattle.ec_book.specs.Steps.{PiecesState, start, granted, grant_of, taken_count, taken_one, live_one, IsHistory, IsBelow}
-use Rattle.ec_book.specs.Numbered.{Numbered, gap, numbered, plug, NumberedTree}
-use Rattle.ec_book.specs.Open.{open_places, leaf_places, StandsAt}
-use Rattle.ec_book.specs.Grown.{grown, Chain, HasPieces}
-use Rattle.ec_book.specs.Views.{value_of}
-use Rattle.ec_book.specs.Kept.{NoneFreeBelow, IsFor, IsCounted, IsGrown, IsKept, IsBestPlan}
-use Rattle.ec_book.proofs.HistoryLemmas.{history-push, granted-set, granted-le, granted-free, taken-set, taken-le, taken-free}
+use Rattle.ec_book.specs.Steps.{PiecesState, start, live_one, IsBelow}
+use Rattle.ec_book.specs.Numbered.{gap, numbered, plug, NumberedTree}
+use Rattle.ec_book.specs.Open.{open_places, StandsAt}
+use Rattle.ec_book.specs.Grown.{grown, Chain}
+use Rattle.ec_book.specs.Kept.{NoneFreeBelow, IsCounted, IsGrown}
+use Rattle.ec_book.proofs.HistoryLemmas.{history-push, granted-set, granted-le, granted-free, taken-set, taken-free}
 use Rattle.ec_book.proofs.PieceLemmas.{is-tree-set, is-tree-report, length-set', grown-push, chain-push, within}
 use Rattle.ec_book.proofs.TreeLemmas.{numbered-lower, tree-lower, numbered-report, length-leaves, reached-leaves}
 

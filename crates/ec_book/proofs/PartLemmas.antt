@@ -1,7 +1,7 @@
 -- A split whose last children were filled.
-use Rattle.std.proofs.Common.{◌≡◌, ◌≢◌, ℕ, zero, suc, ◌+◌, ◌-◌, ◌<◌, ◌≤◌, List, [], ◌∷◌, length, set, get_or, slice_get, take, drop, Vec, Global, Option, Some, None, refl, sym, ap, ◌∙◌, subst, arith}
-use Rattle.std.proofs.lemmas.Option.{slice_get_read, get_or_from_slice_get, slice_get_within}
-use Rattle.ec_loads.specs.Shape.{Shape, split}
+use Rattle.std.proofs.Common.{◌≡◌, ℕ, zero, suc, ◌+◌, ◌-◌, ◌<◌, ◌≤◌, List, [], ◌∷◌, length, set, get_or, slice_get, take, drop, Vec, Global, Some, refl, sym, ap, ◌∙◌, subst, arith}
+use Rattle.std.proofs.lemmas.Option.{slice_get_read, get_or_from_slice_get}
+use Rattle.ec_loads.specs.Shape.{split}
 use Rattle.ec_loads.specs.Search.{open_count, open_counts}
 use Rattle.ec_cert.specs.declared.tree.Tree.{Tree, Split}
 use Rattle.ec_cert.specs.Shapes.{shape_of, shapes_of}

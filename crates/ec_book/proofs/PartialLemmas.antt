@@ -1,11 +1,11 @@
 -- The walk that sees whether a tree is a partial tree for a prefix.
-use Rattle.std.proofs.Common.{◌≡◌, ℕ, zero, suc, ◌+◌, ◌-◌, ◌<◌, ◌≤◌, All, List, [], ◌∷◌, ◌++◌, length, set, take, drop, get_or, Option, Some, None, Vec, Global, refl, ap, sym, subst, ◌∙◌, arith, length-set}
-use Rattle.std.proofs.lemmas.List.{drop_more, drop_all, take_more}
+use Rattle.std.proofs.Common.{◌≡◌, ℕ, zero, suc, ◌+◌, ◌<◌, ◌≤◌, List, [], ◌∷◌, ◌++◌, length, set, take, drop, get_or, Option, Some, Vec, Global, refl, ap, sym, subst, ◌∙◌, arith, length-set}
+use Rattle.std.proofs.lemmas.List.{drop_all, take_more}
 use Rattle.ec_units.specs.declared.slave.Place.{Place}
 use Rattle.ec_units.specs.declared.unit.Load.{Load}
 use Rattle.ec_loads.specs.Held.{Held, no_places}
-use Rattle.ec_loads.specs.Search.{Prefix, children, IsPartialTree, TreeWith, TreesWith, HasShortTicks, HaveShortTicks, nowhere}
-use Rattle.ec_loads.specs.Shape.{Shape, Shapes, split, more, no_shapes}
+use Rattle.ec_loads.specs.Search.{Prefix, children, IsPartialTree, TreeWith, TreesWith, HaveShortTicks, nowhere}
+use Rattle.ec_loads.specs.Shape.{split, more}
 use Rattle.ec_cert.specs.declared.tree.Tree.{Tree, Split}
 use Rattle.ec_cert.specs.Shapes.{shape_of, shapes_of}
 use Rattle.ec_cert.proofs.TreeLemmas.{shape_of-Split, shapes_of-drop}

@@ -1,17 +1,17 @@
 -- The pieces that are free or taken, and the tree's open leaves.
-use Rattle.std.proofs.Common.{◌≡◌, ◌≢◌, ℕ, zero, suc, ◌+◌, ◌*◌, ◌<◌, ◌≤◌, ◌==◌, Bool, true, false, ltb, eqb, List, [], ◌∷◌, ◌++◌, length, set, take, get_or, add-one, slice_get, replicate, Option, Some, None, refl, sym, ap, ◌∙◌, subst, arith, le_of_suc-le-suc, not-suc-le-zero}
+use Rattle.std.proofs.Common.{◌≡◌, ◌≢◌, ℕ, zero, suc, ◌+◌, ◌*◌, ◌<◌, ◌≤◌, true, false, ltb, eqb, List, [], ◌∷◌, ◌++◌, length, set, take, get_or, add-one, slice_get, replicate, Some, refl, sym, ap, ◌∙◌, arith, le_of_suc-le-suc, not-suc-le-zero}
 use Rattle.std.proofs.lemmas.Bool.{ltb-true, ltb-false}
 use Rattle.ec_book.specs.declared.piece.Piece.{Piece}
-use Rattle.ec_book.specs.declared.piece.Piece.TheVariants.{Free, Taken, Ended}
+use Rattle.ec_book.specs.declared.piece.Piece.TheVariants.{Free, Ended}
 use Rattle.ec_loads.specs.Shape.{Shape}
 use Rattle.ec_loads.specs.Search.{open_count, node_count}
 use Rattle.ec_cert.specs.Shapes.{shape_of}
 use Rattle.ec_book.specs.declared.report.Report.{Report}
-use Rattle.ec_book.specs.Numbered.{Numbered, gap, numbered, plug, size, gaps, times, fill}
+use Rattle.ec_book.specs.Numbered.{Numbered, numbered, plug, gaps, times}
 use Rattle.ec_book.specs.Steps.{live, live_one, live_count}
 use Rattle.ec_book.specs.Grown.{HasPieces, grown, Chain}
-use Rattle.ec_book.proofs.PlugLemmas.{size-plug, gaps-plug, times-plug-other, times-plug-same, Below, Below-fill}
-use Rattle.ec_book.proofs.RowLemmas.{size-numbered, gaps-numbered, times-low, times-mid, times-high, Below-numbered}
+use Rattle.ec_book.proofs.PlugLemmas.{size-plug, gaps-plug, times-plug-other, times-plug-same}
+use Rattle.ec_book.proofs.RowLemmas.{size-numbered, gaps-numbered, times-low, times-mid, times-high}
 
 live-set : (ps : List Piece) (i : ℕ) (old new : Piece) (m : ℕ) → slice_get ps i ≡ Some old → live_one (Some old) ≡ live_one (Some new) → live (set ps i new) m ≡ live ps m
 live-set [] i old new m h e = refl

@@ -1,11 +1,11 @@
 -- A tree's shape.
-use Rattle.std.proofs.Common.{◌≡◌, ℕ, zero, suc, ◌+◌, ◌<◌, ◌≤◌, ◌==◌, List, [], ◌∷◌, refl, sym, ap, ◌∙◌, subst, arith}
+use Rattle.std.proofs.Common.{◌≡◌, ℕ, ◌+◌, ◌<◌, ◌≤◌, refl, arith}
 use Rattle.std.proofs.lemmas.Grind.{common_steps}
-use Rattle.std.proofs.Common.{Bool, true, false, ltb}
-use Rattle.std.proofs.lemmas.Bool.{cases_Bool, ltb-true, ltb-false}
+use Rattle.std.proofs.Common.{true, false, ltb}
+use Rattle.std.proofs.lemmas.Bool.{ltb-true, ltb-false}
 use Rattle.ec_loads.specs.Shape.{Shape, Shapes, split, tick, full, average, open_leaf, no_shapes, more}
 use Rattle.ec_loads.specs.Search.{open_count, open_counts, node_count, node_counts}
-use Rattle.ec_book.specs.Numbered.{Numbered, Numbereds, numbered, all_numbered, size, sizes, gaps, all_gaps, times, all_times, gap}
+use Rattle.ec_book.specs.Numbered.{numbered, all_numbered, size, sizes, gaps, all_gaps, times, all_times, gap}
 use Rattle.ec_book.proofs.PlugLemmas.{Below, AllBelow}
 
 mutual

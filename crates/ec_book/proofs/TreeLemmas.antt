@@ -1,5 +1,5 @@
 -- Laws of trees with numbers at their open leaves.
-use Rattle.std.proofs.Common.{◌≡◌, ◌≢◌, ℕ, zero, suc, ◌+◌, ◌-◌, ◌<◌, ◌≤◌, ◌==◌, if◌then◌else◌, Bool, true, false, eqb, All, List, [], ◌∷◌, ◌++◌, length, set, drop, Option, Some, None, slice_get, refl, sym, ap, ◌∙◌, subst, arith, length-append}
+use Rattle.std.proofs.Common.{◌≡◌, ℕ, zero, suc, ◌+◌, ◌≤◌, ◌==◌, if◌then◌else◌, Bool, true, false, eqb, All, List, [], ◌∷◌, ◌++◌, length, set, drop, Option, Some, None, slice_get, refl, sym, ap, ◌∙◌, subst, arith, length-append}
 use Rattle.std.proofs.lemmas.List.Elements.{All-append}
 use Rattle.std.proofs.lemmas.Nat.{mul-le}
 use Rattle.ec_hyper.specs.Lcm.{lcm_of}
@@ -10,7 +10,7 @@ use Rattle.ec_loads.specs.Shape.{Shape, Shapes, split, tick, full, average, open
 use Rattle.ec_loads.specs.Search.{Prefix, children, TreeWith, TreesWith, IsTree, IsPartialTree, HasShortTicks, HaveShortTicks, IsAtMost, TickHolds, AverageHolds, open_count, open_counts, node_count, node_counts}
 use Rattle.ec_symmetry.specs.Reached.{In, here, there}
 use Rattle.ec_symmetry.specs.Orders.{IsReachedPrefix, prefix_of}
-use Rattle.ec_book.specs.Numbered.{Numbered, Numbereds, branch, closed, gap, last, next, numbered, all_numbered, fill, fills, plug, plain, draw, draws, size, sizes, gaps, all_gaps, NumberedTree, NumberedTrees}
+use Rattle.ec_book.specs.Numbered.{Numbered, Numbereds, branch, closed, gap, last, next, numbered, all_numbered, fill, fills, plug, plain, draws, size, sizes, gaps, all_gaps, NumberedTree, NumberedTrees}
 use Rattle.ec_book.specs.Open.{leaf_places, all_leaf_places, LeadsTo, StandsAt}
 use Rattle.ec_book.proofs.OrderLemmas.{leads-more, reached-more}
 

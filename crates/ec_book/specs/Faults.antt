@@ -1,5 +1,5 @@
 -- When a call on a book is refused, and what a piece is taken with.
-use Rattle.std.specs.Prelude.{◌≡◌, ◌≢◌, ◌⊎◌, ℕ, ◌+◌, ◌-◌, ◌<◌, ◌≤◌, min, List, Option, Some, None, length, slice_get}
+use Rattle.std.specs.Prelude.{◌≡◌, ◌≢◌, ◌⊎◌, ℕ, ◌+◌, ◌-◌, ◌<◌, ◌≤◌, min, List, Option, Some, length, slice_get}
 use Rattle.ec_units.specs.declared.slave.Place.{Place}
 use Rattle.ec_units.specs.declared.unit.Load.{Load}
 use Rattle.ec_loads.specs.Cost.{plan_items, IsBusiest}
@@ -7,11 +7,10 @@ use Rattle.ec_loads.specs.Legal.{IsLegal, IsIllegalBy, IsFirstFull}
 use Rattle.ec_loads.specs.declared.item.Item.{Item}
 use Rattle.ec_loads.specs.declared.plan.Illegal.{Illegal}
 use Rattle.ec_loads.specs.declared.plan.Illegal.TheVariants as illegal
-use Rattle.ec_loads.specs.Search.{IsAtMost, node_count}
-use Rattle.ec_loads.specs.Shape.{Shape}
+use Rattle.ec_loads.specs.Search.{IsAtMost}
 use Rattle.ec_symmetry.specs.Orders.{IsReachedPrefix}
 use Rattle.ec_book.specs.declared.piece.Piece.{Piece}
-use Rattle.ec_book.specs.declared.piece.Piece.TheVariants.{Free, Taken, Ended}
+use Rattle.ec_book.specs.declared.piece.Piece.TheVariants.{Free, Taken}
 use Rattle.ec_book.specs.declared.fault.BookFault.{BookFault}
 use Rattle.ec_book.specs.declared.fault.BookFault.TheVariants as fault
 use Rattle.ec_book.specs.declared.taken.Taken.{Taken as Handed}

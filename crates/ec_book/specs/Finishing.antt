@@ -1,5 +1,5 @@
 -- What a finished book gives.
-use Rattle.std.specs.Prelude.{◌≡◌, ℕ}
+use Rattle.std.specs.Prelude.{◌≡◌}
 use Rattle.ec_loads.specs.Held.{no_places}
 use Rattle.ec_loads.specs.Shape.{Shape}
 use Rattle.ec_book.specs.Numbered.{Numbered, plain, NumberedTree}

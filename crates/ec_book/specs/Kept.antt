@@ -11,7 +11,7 @@ use Rattle.ec_book.specs.declared.step.Step.{Step}
 use Rattle.ec_book.specs.declared.piece.Piece.{Piece}
 use Rattle.ec_book.specs.declared.piece.Piece.TheVariants.{Free}
 use Rattle.ec_book.specs.declared.report.Report.{Report}
-use Rattle.ec_book.specs.Steps.{PiecesState, start, granted, taken_count, IsHistory}
+use Rattle.ec_book.specs.Steps.{start, granted, taken_count, IsHistory}
 use Rattle.ec_book.specs.Numbered.{gap, NumberedTree}
 use Rattle.ec_book.specs.Open.{StandsAt}
 use Rattle.ec_book.specs.Grown.{grown, Chain, HasPieces}

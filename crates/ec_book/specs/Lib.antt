@@ -6,3 +6,4 @@ pub mod Views
 pub mod Kept
 pub mod Faults
 pub mod Finishing
+pub mod Laws

@@ -334,7 +334,8 @@ impl Book {
 
     /// How many nodes the reports have split and closed.
     pub fn spent(&self) -> u64
-        ensures { result ≡ self.now.spent }
+        ensures value { result ≡ self.now.spent }
+        ensures bound { result ≤ self.now.nodes }
     {
         self.spent
     }

@@ -5,6 +5,7 @@ mod book;
 mod fault;
 mod finish;
 mod judge;
+mod law;
 mod open;
 #[cfg(test)]
 mod partial;
@@ -17,6 +18,7 @@ mod tree;
 
 pub use book::{Book, Finished};
 pub use fault::BookFault;
+pub use law::{done_is_spent, histories_replay, trees_fall};
 pub use piece::Piece;
 pub use step::{Step, Steps};
 pub use taken::{Taken, Took};

@@ -1,17 +1,13 @@
 -- What a finished search says.
-use Rattle.std.proofs.Common.{◌≡◌, ◌≢◌, ℕ, ◌≤◌, List, [], ◌∷◌, length, set, Option, Some, None, refl, ap, sym, subst, ◌∙◌, arith}
-use Rattle.std.proofs.lemmas.List.{length-map}
+use Rattle.std.proofs.Common.{◌≡◌, ℕ, List, [], ◌∷◌, set, Option, Some, None, refl, sym, subst, ◌∙◌}
 use Rattle.ec_units.specs.declared.slave.Place.{Place}
 use Rattle.ec_units.specs.declared.unit.Unit.{Unit as SyncUnit}
 use Rattle.ec_units.specs.declared.units.Units.{Units}
 use Rattle.ec_units.specs.declared.unit.Load.{Load}
-use Rattle.ec_units.specs.Load.{load_of, loads_of}
-use Rattle.ec_loads.specs.Legal.{IsLegal}
+use Rattle.ec_units.specs.Load.{loads_of}
 use Rattle.ec_loads.specs.Held.{no_places}
 use Rattle.ec_loads.specs.Shape.{Shape, Shapes, split, tick, full, average, open_leaf, no_shapes, more}
-use Rattle.ec_loads.specs.Search.{Prefix, children, TreeWith, TreesWith, IsTree, IsPartialTree, BoundsAll, HasNoPlan}
-use Rattle.ec_symmetry.specs.Orders.{IsOrder}
-use Rattle.ec_branch.specs.Weights.{IsSearchOrder}
+use Rattle.ec_loads.specs.Search.{Prefix, children, TreeWith, TreesWith, BoundsAll, HasNoPlan}
 use Rattle.ec_book.specs.Kept.{IsBestPlan as BookBest}
 use Rattle.ec_cert.specs.declared.lists.UnitLine.{UnitLine}
 use Rattle.ec_cert.specs.declared.cert.Best.{Best}
@@ -90,12 +86,3 @@ pub uncopied : (us : List SyncUnit) (n nodes : ℕ) (order : List ℕ) (best giv
 uncopied us n nodes order best given tree found is =
     let now : IsFound us n order given tree = subst (λ b. IsFound us n order b tree) is found in
     record { order_is = now.order_is; best_is = now.best_is; tree_is = (tree-partial (loads_of us) n (value_of given) tree (no_places (loads_of us)) order now.tree_is, now.short); cut_is = tt }
-
--- an order of the loads is one of the units
-pub order_of : (us : List SyncUnit) (order : List ℕ) → IsSearchOrder (loads_of us) order → IsOrder (length us) order
-order_of us order is = subst (λ k. IsOrder k order) (length-map us load_of) is.each
-
--- what the book's end gives where no piece is left
-pub found_in : (us : List SyncUnit) (n pieces : ℕ) (order : List ℕ) (best : Option Best) (tree : Shape) → IsSearchOrder (loads_of us) order → BookBest (loads_of us) n best → IsPartialTree (loads_of us) n (value_of best) tree (no_places (loads_of us)) order
-    → (pieces ≡ 0 → IsTree (loads_of us) n (value_of best) tree (no_places (loads_of us)) order) → pieces ≡ 0 → IsFound us n order best tree
-found_in us n pieces order best tree sorted right part closed none = record { order_is = order_of us order sorted; best_is = best_as (loads_of us) n best right; short = part.1; tree_is = closed none }

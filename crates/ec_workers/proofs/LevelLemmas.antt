@@ -1,11 +1,11 @@
 -- A tree without open leaves, for units within their limits, has a text.
-use Rattle.std.proofs.Common.{◌≡◌, ℕ, zero, suc, ◌+◌, ◌*◌, ◌<◌, ◌≤◌, min, All, List, [], ◌∷◌, length, set, get_or, Option, Some, refl, ap, sym, subst, ◌∙◌, arith, mul-le-mul}
+use Rattle.std.proofs.Common.{◌≡◌, ℕ, zero, suc, ◌*◌, ◌<◌, ◌≤◌, min, All, List, [], ◌∷◌, length, set, get_or, Option, Some, refl, ap, arith, mul-le-mul}
 use Rattle.std.proofs.lemmas.List.Elements.{All-head, All-tail, All-get_or}
 use Rattle.ec_units.specs.declared.slave.Place.{Place}
 use Rattle.ec_units.specs.declared.unit.Load.{Load}
 use Rattle.ec_loads.specs.Held.{AreLoads}
 use Rattle.ec_loads.specs.Shape.{Shape, Shapes, split, tick, full, average, open_leaf, no_shapes, more, shape_count}
-use Rattle.ec_loads.specs.Search.{Prefix, nobody, used, children, places_for, TreeWith, TreesWith, IsTree, HasShortTicks, HaveShortTicks}
+use Rattle.ec_loads.specs.Search.{Prefix, nobody, used, children, TreeWith, TreesWith, HasShortTicks, HaveShortTicks}
 use Rattle.ec_symmetry.proofs.ChoiceLemmas.{count_all}
 use Rattle.ec_cert.specs.Text.{HasLevels, HaveLevels}
 

@@ -1,8 +1,8 @@
 -- The busiest tick of a legal plan costs 84 to 12304 bytes.
-use Rattle.std.proofs.Common.{◌≡◌, ℕ, zero, suc, ◌+◌, ◌*◌, ◌<◌, ◌≤◌, ◌%◌, ◌&&◌, ◌||◌, ◌==◌, Bool, true, false, cond, max, All, List, [], ◌∷◌, map, length, get_or, Option, Some, None, refl, ap, sym, subst, ◌∙◌, arith, inl, inr, mod-eq_of_lt, eq-or-lt_of_le}
+use Rattle.std.proofs.Common.{◌≡◌, ℕ, zero, suc, ◌+◌, ◌*◌, ◌<◌, ◌≤◌, ◌%◌, ◌||◌, ◌==◌, true, List, [], ◌∷◌, length, refl, ap, sym, subst, arith, inl, inr, mod-eq_of_lt, eq-or-lt_of_le}
 use Rattle.std.specs.List.{list_any}
 use Rattle.std.proofs.lemmas.Bool.{cond_both, eq-eqb}
-use Rattle.std.proofs.lemmas.List.Elements.{All-head, All-tail}
+use Rattle.std.proofs.lemmas.List.Elements.{All-head}
 use Rattle.ec_wire.specs.Wire.{wire_of}
 use Rattle.ec_units.specs.declared.slave.Place.{Place}
 use Rattle.ec_units.specs.declared.unit.Load.{Load}

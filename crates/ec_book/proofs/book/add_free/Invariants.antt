@@ -1,6 +1,5 @@
 use Rattle.std.proofs.Common.{◌≡◌, ◌++◌, replicate, vec_capacity}
 use Rattle.ec_book.specs.declared.piece.Piece.TheVariants.{Free}
-use Rattle.ec_cert.specs.declared.tree.Tree.{OpenLeaf}
 use Rattle.ec_book.proofs.book.add_free.Given as goal
 
 abbrev pub invariant-loop-i : goal.invariant-loop-i

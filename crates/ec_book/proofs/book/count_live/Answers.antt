@@ -1,5 +1,4 @@
-use Rattle.std.proofs.Common.{◌≡◌, ap, arith, take_all}
-use Rattle.ec_book.specs.Steps.{live_count}
+use Rattle.std.proofs.Common.{arith}
 use Rattle.ec_book.proofs.PieceLemmas.{live_count-step}
 use Rattle.ec_book.proofs.book.count_live.Goals as goal
 

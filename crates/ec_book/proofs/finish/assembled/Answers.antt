@@ -1,4 +1,4 @@
-use Rattle.std.proofs.Common.{◌≡◌, ◌++◌, ◌∷◌, [], ℕ, ◌<◌, ◌+◌, ◌-◌, arith, refl, Some, ap, ◌∙◌, sym, take, set, length, subst, List}
+use Rattle.std.proofs.Common.{◌≡◌, ◌-◌, arith, ap, ◌∙◌, sym, take, set, length, subst}
 use Rattle.ec_loads.specs.Search.{open_count}
 use Rattle.ec_cert.specs.Shapes.{shape_of}
 use Rattle.ec_book.specs.Numbered.{gap, numbered, draw}

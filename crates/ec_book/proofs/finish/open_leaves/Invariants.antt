@@ -1,5 +1,4 @@
-use Rattle.std.proofs.Common.{◌≡◌, ◌++◌, replicate, vec_capacity}
-use Rattle.ec_book.specs.declared.piece.Piece.TheVariants.{Free}
+use Rattle.std.proofs.Common.{◌≡◌, replicate}
 use Rattle.ec_cert.specs.declared.tree.Tree.{OpenLeaf}
 use Rattle.ec_book.proofs.finish.open_leaves.Given as goal
 

@@ -1,4 +1,4 @@
-use Rattle.std.proofs.Common.{◌≡◌, ◌+◌, ap, arith, ◌∙◌, take, take_all}
+use Rattle.std.proofs.Common.{ap, arith, ◌∙◌, take_all}
 use Rattle.ec_loads.specs.Search.{node_count, node_counts}
 use Rattle.ec_cert.specs.Shapes.{shape_of, shapes_of}
 use Rattle.ec_cert.proofs.TreeLemmas.{shape_of-Split}

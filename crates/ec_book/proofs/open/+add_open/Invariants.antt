@@ -1,8 +1,4 @@
-use Rattle.std.proofs.Common.{◌≡◌, ℕ, ◌+◌, ◌<◌, ◌≤◌, ◌++◌, length, drop, ◌-◌}
-use Rattle.ec_cert.specs.Shapes.{shape_of}
-use Rattle.ec_loads.specs.Search.{children}
-use Rattle.ec_symmetry.specs.Orders.{prefix_of}
-use Rattle.ec_book.specs.Open.{open_places}
+use Rattle.std.proofs.Common.{◌≡◌, ◌++◌, length, drop, ◌-◌}
 use Rattle.ec_book.proofs.OpenLemmas.{opened_from, opened_all}
 use Rattle.ec_book.proofs.open.+add_open.Given as goal
 

@@ -1,5 +1,5 @@
-use Rattle.std.proofs.Common.{◌≡◌, ap, ◌∙◌, sym, get_or}
-use Rattle.ec_loads.specs.Search.{nobody, places_for, used}
+use Rattle.std.proofs.Common.{◌∙◌, sym, get_or}
+use Rattle.ec_loads.specs.Search.{nobody, places_for}
 use Rattle.ec_symmetry.specs.Orders.{prefix_of}
 use Rattle.ec_symmetry.proofs.ReachLemmas.{used-same}
 use Rattle.ec_book.proofs.OrderLemmas.{slots-prefix}

@@ -1,10 +1,10 @@
-use Rattle.std.proofs.Common.{◌≡◌, ℕ, ◌<◌, ◌++◌, ◌∷◌, [], length, vec_len, drop, get_or, arith, refl, ap, ◌∙◌, sym, subst}
+use Rattle.std.proofs.Common.{◌≡◌, ◌<◌, ◌++◌, ◌∷◌, [], length, vec_len, drop, get_or, arith, ap, ◌∙◌, subst}
 use Rattle.ec_loads.specs.Held.{Held}
 use Rattle.ec_loads.specs.Search.{IsPartialTree}
 use Rattle.ec_cert.specs.Shapes.{shape_of}
 use Rattle.ec_symmetry.specs.Orders.{prefix_of}
 use Rattle.ec_book.proofs.OpenLemmas.{path_back}
-use Rattle.ec_book.proofs.PartialLemmas.{good_start, good_step, good_end}
+use Rattle.ec_book.proofs.PartialLemmas.{good_step, good_end}
 use Rattle.ec_book.proofs.partial.+is_partial.Goals as goal
 
 pub loop-i-preserved : goal.loop-i-preserved

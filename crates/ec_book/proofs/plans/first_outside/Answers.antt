@@ -1,6 +1,6 @@
 use Rattle.std.proofs.Common.{true, get_or}
 use Rattle.ec_loads.specs.Legal.{has_slot}
-use Rattle.ec_loads.specs.Search.{nobody, nowhere}
+use Rattle.ec_loads.specs.Search.{nowhere}
 use Rattle.ec_book.proofs.PlanLemmas.{plan-step, plan-fails, plan-done, lt-no, lt-yes}
 use Rattle.ec_book.proofs.plans.first_outside.Goals as goal
 

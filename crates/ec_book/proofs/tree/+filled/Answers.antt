@@ -1,8 +1,6 @@
-use Rattle.std.proofs.Common.{◌≡◌, ◌∙◌, ap, sym, arith, rules, ◌+◌, ◌-◌, ◌<◌, ◌≤◌, ℕ, refl, length, subst, get_or, slice_get, Some, length-append, ◌++◌, ◌∷◌, []}
+use Rattle.std.proofs.Common.{◌≡◌, ◌∙◌, ap, sym, arith, rules, ◌+◌, ◌-◌, ◌<◌, refl, length, subst, get_or, length-append, ◌++◌, ◌∷◌, []}
 use Rattle.ec_loads.specs.Search.{open_count}
-use Rattle.ec_loads.specs.Shape.{open_leaf}
-use Rattle.ec_cert.specs.Shapes.{shape_of}
-use Rattle.ec_cert.specs.declared.tree.Tree.{the_lemmas, Split, Tree, OpenLeaf}
+use Rattle.ec_cert.specs.declared.tree.Tree.{the_lemmas}
 use Rattle.ec_book.specs.Numbered.{numbered, draw}
 use Rattle.ec_book.specs.Grown.{shape_at}
 use Rattle.ec_book.proofs.DrawLemmas.{shape_at-last, shape_of-OpenLeaf}

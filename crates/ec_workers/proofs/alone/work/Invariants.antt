@@ -1,4 +1,3 @@
-use Rattle.std.proofs.Common.{◌≡◌}
 use Rattle.ec_workers.specs.Books.{IsBookOf}
 use Rattle.ec_workers.proofs.alone.work.Given as goal
 

@@ -1,4 +1,3 @@
-use Rattle.std.proofs.Common.{sym}
 use Rattle.ec_cert.specs.Shapes.{shape_of, cert_view}
 use Rattle.ec_workers.proofs.AnswerLemmas.{without, optimal, uncopied}
 use Rattle.ec_workers.proofs.planning.proved.Goals as goal

@@ -1,4 +1,4 @@
-use Rattle.std.proofs.Common.{arith, refl, ap, ◌∙◌, vec_len, length}
+use Rattle.std.proofs.Common.{arith, refl}
 use Rattle.ec_book.specs.declared.piece.Piece.TheVariants.{Free, Taken}
 use Rattle.ec_book.specs.Views.{value_of}
 use Rattle.ec_book.proofs.HistoryLemmas.{granted-le, taken-le}

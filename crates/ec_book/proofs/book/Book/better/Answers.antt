@@ -1,5 +1,4 @@
-use Rattle.std.proofs.Common.{◌≡◌, ◌++◌, ◌∷◌, [], arith, refl, ap, ◌∙◌, sym, subst, vec_len, vec_capacity, length, Some}
-use Rattle.ec_loads.specs.Held.{Held}
+use Rattle.std.proofs.Common.{arith, vec_capacity, Some}
 use Rattle.ec_book.specs.Steps.{IsBelow}
 use Rattle.ec_book.specs.Faults.{IsPlanOf}
 use Rattle.ec_book.specs.Views.{value_of, book_view}

@@ -1,5 +1,4 @@
-use Rattle.std.proofs.Common.{refl, ap, ◌∙◌, sym}
-use Rattle.ec_cert.specs.Shapes.{shape_of}
+use Rattle.std.proofs.Common.{refl}
 use Rattle.ec_book.specs.Numbered.{gap}
 use Rattle.ec_book.specs.Grown.{grown}
 use Rattle.ec_book.specs.Steps.{start}

@@ -1,4 +1,4 @@
-use Rattle.std.proofs.Common.{◌≡◌, ◌++◌, ◌∷◌, [], arith, refl, ap, ◌∙◌, sym, set, replicate, slice_get, Some, drop, ◌≤◌, length, vec_len, vec_capacity}
+use Rattle.std.proofs.Common.{◌≡◌, ◌++◌, ◌∷◌, [], arith, refl, ap, ◌∙◌, set, replicate, drop, ◌≤◌, length}
 use Rattle.ec_loads.specs.Search.{node_count, IsPartialTree}
 use Rattle.ec_cert.specs.Shapes.{shape_of}
 use Rattle.ec_book.specs.declared.piece.Piece.TheVariants.{Free, Taken, Ended}

@@ -1,4 +1,4 @@
-use Rattle.std.proofs.Common.{◌≡◌, arith, refl, ap, ◌∙◌, sym, vec_len, vec_capacity, length, ◌+◌, ◌≤◌, ◌++◌, ◌∷◌, [], set, slice_get, Some}
+use Rattle.std.proofs.Common.{◌≡◌, arith, refl, ap, ◌∙◌, sym, vec_capacity, length, set, slice_get, Some}
 use Rattle.std.proofs.lemmas.Option.{slice_get_read}
 use Rattle.ec_book.specs.declared.piece.Piece.TheVariants.{Free, Taken}
 use Rattle.ec_book.specs.Views.{value_of, book_view}

@@ -1,0 +1,21 @@
+-- Laws of books.
+use Rattle.std.specs.Prelude.{◌≡◌, ◌⊎◌, ℕ, ◌≤◌, List, Option}
+use Rattle.ec_units.specs.declared.unit.Load.{Load}
+use Rattle.ec_loads.specs.Shape.{Shape}
+use Rattle.ec_loads.specs.Search.{Prefix, IsPartialTree, IsAtMost}
+use Rattle.ec_book.specs.declared.step.Step.{Step}
+use Rattle.ec_book.specs.Steps.{PiecesState, IsHistory, replay, taken_count, live_count}
+use Rattle.ec_book.specs.Views.{BookView}
+use Rattle.ec_book.specs.Faults.{HasNothing}
+
+-- a partial tree at a value is one at each smaller value
+abbrev pub TreesFall : Type 0
+TreesFall = (loads : List Load) (n : ℕ) (v w : Option ℕ) (s : Shape) (ps : Prefix) (order : List ℕ) → IsAtMost w v → IsPartialTree loads n v s ps order → IsPartialTree loads n w s ps order
+
+-- the replay of a legal history is its last state
+abbrev pub HistoriesReplay : Type 0
+HistoriesReplay = (n : ℕ) (s : PiecesState) (es : List Step) (t : PiecesState) → IsHistory n s es t → replay s es ≡ t
+
+-- where nothing can be handed out and no piece is taken, no piece is left or all nodes are spent
+abbrev pub DoneIsSpent : Type 0
+DoneIsSpent = (b : BookView) → b.spent ≤ b.nodes → HasNothing b → taken_count b.pieces ≡ 0 → (live_count b.pieces ≡ 0) ⊎ (b.spent ≡ b.nodes)

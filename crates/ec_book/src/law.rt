@@ -1,0 +1,18 @@
+//! Laws of books.
+
+ghost use Rattle.ec_book.specs.Laws.{TreesFall, HistoriesReplay, DoneIsSpent};
+
+/// A partial tree at a value is one at each smaller value.
+pub fn trees_fall()
+    ensures { TreesFall }
+{}
+
+/// The replay of a legal history is its last state.
+pub fn histories_replay()
+    ensures { HistoriesReplay }
+{}
+
+/// Where a worker is told that the search is done, no piece is left or all nodes are spent.
+pub fn done_is_spent()
+    ensures { DoneIsSpent }
+{}
