@@ -6,5 +6,6 @@ pub mod OneIllegal
 pub mod OneOutput
 pub mod OutputLemmas
 pub mod PlaceLemmas
+pub mod PlanLemmas
 pub mod SoundLemmas
 pub mod TellLemmas

@@ -39,6 +39,8 @@ code_above (refusal.Cert cert_fault.OutOfMemory) = omega arith
 code_above (refusal.Cert f) = omega arith
 code_above (refusal.Check check_fault.OutOfMemory) = omega arith
 code_above (refusal.Check f) = omega arith
+code_above (refusal.Solve f) = omega arith
+code_above refusal.Write = omega arith
 
 -- what is told of units, by what is claimed of their loads
 record Told (loads : List Load) (n : ℕ) (w : Written) : Type 0 where

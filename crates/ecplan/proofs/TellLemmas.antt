@@ -19,6 +19,7 @@ front_by answer w old new bytes which text front = (w, which, subst (WritesFront
 -- want of memory is one for each job
 memory_of : (j : Job) → IsMemory j out_of_memory
 memory_of job.Cost = refl
+memory_of (job.Plan workers nodes) = inl refl
 memory_of job.Check = inl refl
 
 -- what the answer says, or want of memory

@@ -40,14 +40,16 @@ abbrev pub AnswersUnits : Result Units Refusal → List ℕ → Type 0
 AnswersUnits (Ok us) bytes = (length bytes ≤ 1048576) × (reading bytes ≡ Ok (units_view us))
 AnswersUnits (Err r) bytes = (r ≡ out_of_memory) ⊎ IsUnitsFault bytes r
 
--- the reader of a certificate that a job reads: a cost reads none
+-- the reader of a certificate that a job reads: a cost and a plan read none
 abbrev pub read_of : {C : Type 0} → Job → Option (Io C) → Option (Io C)
 read_of job.Cost cert = None
+read_of (job.Plan workers nodes) cert = None
 read_of job.Check cert = cert
 
 -- a check has a reader of a certificate, which has not failed
 abbrev pub HasCert : {C : Type 0} → Job → Option (Io C) → Type 0
 HasCert job.Cost cert = Unit {0}
+HasCert (job.Plan workers nodes) cert = Unit {0}
 HasCert job.Check None = ⊥
 HasCert job.Check (Some cert) = has_failed cert ≡ false
 

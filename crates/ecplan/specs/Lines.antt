@@ -1,7 +1,11 @@
--- The lines of a cost and of a check.
-use Rattle.std.specs.Prelude.{ℕ, ◌*◌, Bool, List, ◌++◌, codes, nat_le, if◌then◌else◌}
+-- The lines of a cost, of a plan and of a check.
+use Rattle.std.specs.Prelude.{ℕ, ◌*◌, Bool, List, [], ◌∷◌, ◌++◌, Option, Some, None, codes, nat_le, if◌then◌else◌}
 use Rattle.std.specs.List.{flat_map, range_with_len}
 use Rattle.std.specs.Fmt.{decimal}
+use Rattle.ec_units.specs.declared.slave.Place.{Place}
+use Rattle.ec_units.specs.declared.unit.Unit.{Unit as SyncUnit}
+use Rattle.ec_workers.specs.declared.outcome.Cut.{Cut}
+use Rattle.ec_workers.specs.declared.outcome.Cut.TheVariants as cut
 
 abbrev pub hyperperiod_line : ℕ → List ℕ
 hyperperiod_line h = codes "hyperperiod " ++ (decimal h ++ codes "\n")
@@ -34,3 +38,29 @@ least_line b = codes "least " ++ (decimal b ++ codes "\n")
 
 abbrev pub no_plan_line : List ℕ
 no_plan_line = codes "no plan\n"
+
+-- the line of a plan that is proved best, and of one that isn't, if there is one
+abbrev pub optimal_line : ℕ → List ℕ
+optimal_line b = codes "optimal " ++ (decimal b ++ codes "\n")
+
+abbrev pub unproved_line : Option ℕ → List ℕ
+unproved_line None = codes "unproved none\n"
+unproved_line (Some b) = codes "unproved " ++ (decimal b ++ codes "\n")
+
+-- why a search ended without a proof
+abbrev pub cut_text : Cut → List ℕ
+cut_text cut.Journal = codes "journal"
+cut_text cut.Budget = codes "budget"
+cut_text cut.Memory = codes "memory"
+
+abbrev pub cut_line : Cut → List ℕ
+cut_line why = codes "cut " ++ (cut_text why ++ codes "\n")
+
+-- where a unit is placed
+abbrev pub unit_line : List ℕ → Place → List ℕ
+unit_line name p = codes "unit " ++ (name ++ (codes " phase " ++ (decimal p.phase ++ (codes " slot " ++ (decimal p.slot ++ codes "\n")))))
+
+-- a line for each unit at its place
+abbrev pub unit_lines : List SyncUnit → List Place → List ℕ
+unit_lines (u ∷ us) (p ∷ ps) = unit_line u.name p ++ unit_lines us ps
+unit_lines us ps = []

@@ -90,9 +90,10 @@ IsCheckedOutput v c w = (us : Units) × (units_view us ≡ v) × IsCheckedOf us.
 abbrev pub IsCheckOutput : UnitsView → List ℕ → Written → Type 0
 IsCheckOutput v text w = MatchResult (cert_reading text) (λ c. IsCheckedOutput v c w) (λ f. w ≡ refused (refusal.Cert f))
 
--- what a job writes for units, and for the bytes of a certificate where it reads one
+-- what a job that searches for nothing writes for units, and for the bytes of a certificate where it reads one
 abbrev pub IsUnitsOutput : Job → Option (List ℕ) → UnitsView → Written → Type 0
 IsUnitsOutput job.Cost cert v w = IsCostOutput v w
+IsUnitsOutput (job.Plan workers nodes) cert v w = ⊥
 IsUnitsOutput job.Check None v w = ⊥
 IsUnitsOutput job.Check (Some text) v w = IsCheckOutput v text w
 

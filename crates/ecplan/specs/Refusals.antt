@@ -10,6 +10,8 @@ use Rattle.ec_cert.specs.declared.fault.CertFault.{CertFault}
 use Rattle.ec_cert.specs.declared.fault.CertFault.TheVariants as cert
 use Rattle.ec_checker.specs.declared.fault.CheckFault.{CheckFault}
 use Rattle.ec_checker.specs.declared.fault.CheckFault.TheVariants as check
+use Rattle.ec_workers.specs.declared.outcome.SolveFault.{SolveFault}
+use Rattle.ec_workers.specs.declared.outcome.SolveFault.TheVariants as solve
 use Rattle.ecplan.specs.declared.refusal.Refusal.{Refusal}
 use Rattle.ecplan.specs.declared.refusal.Refusal.TheVariants as refusal
 use Rattle.ecplan.specs.declared.words.Job.{Job}
@@ -69,6 +71,11 @@ check_text (check.Children node want got) = codes "K6 Children " ++ (decimal nod
 check_text (check.Leaf node) = codes "K7 Leaf " ++ decimal node
 check_text (check.Depth node) = codes "K8 Depth " ++ decimal node
 
+-- why a search has no outcome
+abbrev pub solve_text : SolveFault → List ℕ
+solve_text solve.OutOfMemory = codes "S1 OutOfMemory"
+solve_text solve.Spawn = codes "S2 Spawn"
+
 -- what is refused
 abbrev pub reason_text : Refusal → List ℕ
 reason_text (refusal.Unit f) = fault_text f
@@ -78,12 +85,14 @@ reason_text (refusal.NoPlace n) = codes "E2 NoPlace " ++ decimal n
 reason_text refusal.Read = codes "E3 Read"
 reason_text (refusal.Cert f) = cert_text f
 reason_text (refusal.Check f) = check_text f
+reason_text (refusal.Solve f) = solve_text f
+reason_text refusal.Write = codes "E4 Write"
 
 -- the line that refuses
 abbrev pub refusal_line : Refusal → List ℕ
 refusal_line r = codes "refused " ++ (reason_text r ++ codes "\n")
 
--- 4 for memory and reading, else 3
+-- 4 for memory, threads, reading and writing, else 3
 abbrev pub refusal_code : Refusal → ℕ
 refusal_code (refusal.Unit fault.OutOfMemory) = 4
 refusal_code (refusal.Unit f) = 3
@@ -95,13 +104,20 @@ refusal_code (refusal.Cert cert.OutOfMemory) = 4
 refusal_code (refusal.Cert f) = 3
 refusal_code (refusal.Check check.OutOfMemory) = 4
 refusal_code (refusal.Check f) = 3
+refusal_code (refusal.Solve f) = 4
+refusal_code refusal.Write = 4
 
 abbrev pub out_of_memory : Refusal
 out_of_memory = refusal.Unit fault.OutOfMemory
 
--- want of memory, which may be answered in place of anything else; a check says who met it
+-- want of memory in a plan: before the search, or while its text is made
+abbrev pub IsPlanMemory : Refusal → Type 0
+IsPlanMemory r = (r ≡ out_of_memory) ⊎ (r ≡ refusal.Solve solve.OutOfMemory)
+
+-- want of memory, which may be answered in place of anything else; a plan and a check say who met it
 abbrev pub IsMemory : Job → Refusal → Type 0
 IsMemory job.Cost r = r ≡ out_of_memory
+IsMemory (job.Plan workers nodes) r = IsPlanMemory r
 IsMemory job.Check r = (r ≡ out_of_memory) ⊎ ((r ≡ refusal.Cert cert.OutOfMemory) ⊎ (r ≡ refusal.Check check.OutOfMemory))
 
 -- what can be wrong with reading: memory, a read that failed, or too many bytes

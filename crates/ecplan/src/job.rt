@@ -5,6 +5,7 @@ ghost use Rattle.std.specs.Io.KnownBytes.{Appends};
 ghost use Rattle.ec_wire.specs.Stream.{stream, has_failed, taken, WritesFront};
 ghost use Rattle.ecplan.specs.Input.{ConsumesAtMost, AreUnits};
 ghost use Rattle.ecplan.specs.Output.{IsOutput, Answers, Writes, WritesFrontOf, WritesRefusal, Tells, TellsFront};
+ghost use Rattle.ecplan.specs.Planned.{Any, Gets, GetsCertFront, GetsFront, WritesPlan};
 ghost use Rattle.ecplan.specs.Refusals.{refusal_line, out_of_memory};
 ghost use Rattle.ecplan.specs.declared.words.Job.TheVariants.{Cost, Check};
 
@@ -12,12 +13,15 @@ use crate::answer::Answer;
 use crate::check::check_answer;
 use crate::cost::cost_of;
 use crate::input::{cert_text, units_of};
+use crate::plan::{certified_answer, plan_answer};
 use crate::refusal::Refusal;
 use ec_wire::{Io, WriteFault};
 use std::alloc::{AllocError, Global};
 use std::io::{Read, Write};
+use std::sync::Wait;
 
-/// The exit status of a run: 0 done or least, 1 no plan, 3 refused input, 4 reading, writing or memory failed.
+/// The exit status of a run: 0 optimal, least or done, 1 no plan, 2 unproved, 3 refused input, 4 reading, writing or
+/// memory failed.
 #[derive(Clone, Copy, Debug, PartialEq, Eq)]
 pub struct Status {
     pub code: u8,
@@ -148,5 +152,67 @@ pub(crate) fn run_check<R: Read, C: Read, W: Write>(
     ensures cert_taken { taken cert.new ≤ taken cert.old + 67108865 }
 {
     let answer = whole_answer(alloc, units, cert);
+    finish(alloc, answer, text)
+}
+
+/// Reads the units, searches for a plan whose busiest tick is least, and then writes the text of what was found.
+pub(crate) fn run_plan<R: Read, W: Write, T: Wait>(
+    rt: &T,
+    alloc: Global,
+    workers: usize,
+    nodes: u32,
+    units: &mut Io<R>,
+    text: &mut Io<W>,
+) -> Status
+    requires workers { workers ≡ 1 }
+    requires nodes { (1 ≤ nodes) × (nodes ≤ 10000000) }
+    requires units { has_failed units.old ≡ false }
+    requires text { has_failed text.old ≡ false }
+    ensures planned { has_failed units.new ≡ false → has_failed text.new ≡ false → IfSome (R.remaining (stream units.old)) (WritesPlan nodes Any
+        (λ w. (result.code ≡ w.code) × Appends (W.contents (stream text.old)) (W.contents (stream text.new)) w.text)) }
+    ensures front { has_failed units.new ≡ false → IfSome (R.remaining (stream units.old)) (WritesPlan nodes Any
+        (λ w. WritesFront (W.contents (stream text.old)) (W.contents (stream text.new)) w.text)) }
+    ensures unread { has_failed units.new ≡ true → has_failed text.new ≡ false →
+        WritesRefusal Refusal.Read (W.contents (stream text.old)) (W.contents (stream text.new)) result.code }
+    ensures failed { has_failed text.new ≡ true → result.code ≡ 4 }
+    ensures consumed { ConsumesAtMost (R.remaining (stream units.old)) (R.remaining (stream units.new)) 1048577 }
+    ensures taken { taken units.new ≤ taken units.old + 1048577 }
+{
+    let answer = plan_answer(rt, alloc, workers, nodes, units);
+    finish(alloc, answer, text)
+}
+
+/// Reads the units, searches for a plan whose busiest tick is least, writes the certificate, if there is one, to
+/// `out`, and then writes the text of what was found.
+pub(crate) fn run_plan_to<R: Read, W: Write, O: Write, T: Wait>(
+    rt: &T,
+    alloc: Global,
+    workers: usize,
+    nodes: u32,
+    units: &mut Io<R>,
+    text: &mut Io<W>,
+    out: &mut Io<O>,
+) -> Status
+    requires workers { workers ≡ 1 }
+    requires nodes { (1 ≤ nodes) × (nodes ≤ 10000000) }
+    requires units { has_failed units.old ≡ false }
+    requires text { has_failed text.old ≡ false }
+    requires out { has_failed out.old ≡ false }
+    ensures planned { has_failed units.new ≡ false → has_failed out.new ≡ false → has_failed text.new ≡ false →
+        IfSome (R.remaining (stream units.old)) (WritesPlan nodes (Gets O.contents out.old out.new)
+        (λ w. (result.code ≡ w.code) × Appends (W.contents (stream text.old)) (W.contents (stream text.new)) w.text)) }
+    ensures front { has_failed units.new ≡ false → has_failed out.new ≡ false → IfSome (R.remaining (stream units.old))
+        (WritesPlan nodes (Gets O.contents out.old out.new) (λ w. WritesFront (W.contents (stream text.old)) (W.contents (stream text.new)) w.text)) }
+    ensures out_front { has_failed units.new ≡ false → IfSome (R.remaining (stream units.old)) (GetsCertFront nodes (GetsFront O.contents out.old out.new)) }
+    ensures unread { has_failed units.new ≡ true → has_failed text.new ≡ false →
+        WritesRefusal Refusal.Read (W.contents (stream text.old)) (W.contents (stream text.new)) result.code }
+    ensures unwritten { has_failed out.new ≡ true → has_failed text.new ≡ false →
+        WritesRefusal Refusal.Write (W.contents (stream text.old)) (W.contents (stream text.new)) result.code }
+    ensures failed { has_failed text.new ≡ true → result.code ≡ 4 }
+    ensures kept { has_failed units.new ≡ true → out.new ≡ out.old }
+    ensures consumed { ConsumesAtMost (R.remaining (stream units.old)) (R.remaining (stream units.new)) 1048577 }
+    ensures taken { taken units.new ≤ taken units.old + 1048577 }
+{
+    let answer = certified_answer(rt, alloc, workers, nodes, units, out);
     finish(alloc, answer, text)
 }

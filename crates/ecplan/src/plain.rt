@@ -4,6 +4,7 @@ ghost use Rattle.std.specs.Prelude.{◌≡◌, ◌+◌, ◌≤◌, true, false, 
 ghost use Rattle.ec_wire.specs.Stream.{stream, has_failed, taken};
 ghost use Rattle.ecplan.specs.Input.{ConsumesAtMost, AreUnits, read_of, HasCert, NoneFailed, OneFailed, WhereTold, FromTo};
 ghost use Rattle.ecplan.specs.Output.{Writes, WritesFrontOf, WritesRefusal, left_behind};
+ghost use Rattle.ecplan.specs.Words.{IsPlain};
 
 use crate::job::{Status, run_check, run_cost};
 use crate::refusal::Refusal;
@@ -12,7 +13,7 @@ use ec_wire::Io;
 use std::alloc::Global;
 use std::io::{Read, Write};
 
-/// Does a job without a runtime: reads the units, and for a check then the certificate, makes its whole answer, and
+/// Does a job that searches for nothing, without a runtime: reads the units, and for a check then the certificate, makes its whole answer, and
 /// then writes it to `text`. It reads at most 1,048,577 bytes of units and 67,108,865 of a certificate, so it ends on
 /// readers that never do. A cost leaves `cert` unread, and so does a check of units that are refused. Nothing is
 /// written to `out`.
@@ -24,6 +25,7 @@ pub fn run_plain<R: Read, C: Read, W: Write, O: Write>(
     text: &mut Io<W>,
     out: Option<&mut Io<O>>,
 ) -> Status
+    requires plain { IsPlain job.now }
     requires units { has_failed units.old ≡ false }
     requires cert { HasCert job.now (option_map (λ r. r.now) cert) }
     requires text { has_failed text.old ≡ false }
@@ -49,6 +51,7 @@ pub fn run_plain<R: Read, C: Read, W: Write, O: Write>(
 {
     match job {
         Job::Cost => run_cost(alloc, units, text),
+        Job::Plan { .. } => unreachable!(),
         Job::Check => match cert {
             Some(cert) => run_check(alloc, units, cert, text),
             None => unreachable!(),

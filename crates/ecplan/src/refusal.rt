@@ -1,13 +1,15 @@
 //! What the program refuses, and the line that says so.
 
 ghost use Rattle.std.specs.Prelude.{◌≡◌, Some};
-ghost use Rattle.ecplan.specs.Refusals.{fault_text, illegal_text, cert_text, check_text, reason_text, refusal_code, out_of_memory};
-ghost use Rattle.ecplan.specs.declared.refusal.Refusal.TheVariants.{Unit as UnitRefusal, Illegal as IllegalRefusal, Cert as CertRefusal};
+ghost use Rattle.ecplan.specs.Refusals.{fault_text, illegal_text, cert_text, check_text, solve_text, reason_text, refusal_code, out_of_memory};
+ghost use Rattle.ecplan.specs.declared.refusal.Refusal.TheVariants.{Unit as UnitRefusal, Illegal as IllegalRefusal, Cert as CertRefusal, Solve as SolveRefusal, Write as WriteRefusal};
 
 use ec_cert::CertFault;
 use ec_checker::CheckFault;
 use ec_loads::Illegal;
 use ec_units::UnitFault;
+use ec_wire::WriteFault;
+use ec_workers::SolveFault;
 use std::alloc::{AllocError, AllocFailed};
 use std::fmt;
 
@@ -28,10 +30,14 @@ pub enum Refusal {
     Cert(CertFault),
     /// The certificate shows nothing of the units, or memory ran out while it was checked.
     Check(CheckFault),
+    /// Memory ran out before the search, or no worker could be started.
+    Solve(SolveFault),
+    /// Writing a certificate failed.
+    Write,
 }
 
 impl Refusal {
-    /// The exit status: 4 for memory and reading, else 3.
+    /// The exit status: 4 for memory, threads, reading and writing, else 3.
     pub fn code(&self) -> u8
         ensures { result ≡ refusal_code self.now }
     {
@@ -39,7 +45,9 @@ impl Refusal {
             Refusal::Unit(UnitFault::OutOfMemory)
             | Refusal::Cert(CertFault::OutOfMemory)
             | Refusal::Check(CheckFault::OutOfMemory)
-            | Refusal::Read => 4,
+            | Refusal::Solve(_)
+            | Refusal::Read
+            | Refusal::Write => 4,
             Refusal::Unit(_)
             | Refusal::Illegal(_)
             | Refusal::TooLarge
@@ -79,6 +87,22 @@ impl From<CertFault> for Refusal {
 
     fn from(fault: CertFault) -> Refusal {
         Refusal::Cert(fault)
+    }
+}
+
+impl From<SolveFault> for Refusal {
+    ghost from_gives = { λ f r. r ≡ SolveRefusal f };
+
+    fn from(fault: SolveFault) -> Refusal {
+        Refusal::Solve(fault)
+    }
+}
+
+impl From<WriteFault> for Refusal {
+    ghost from_gives = { λ _ r. r ≡ WriteRefusal };
+
+    fn from(_fault: WriteFault) -> Refusal {
+        Refusal::Write
     }
 }
 
@@ -187,6 +211,21 @@ impl fmt::Display for CheckText {
     }
 }
 
+/// Why a search has no outcome as it is printed: code and name.
+#[derive(Clone, Copy, Debug)]
+struct SolveText(SolveFault);
+
+impl fmt::Display for SolveText {
+    ghost output = { λ t. Some (solve_text t.0) };
+
+    fn fmt<W: fmt::Write>(&self, f: &mut fmt::Formatter<W>) -> fmt::Result {
+        match self.0 {
+            SolveFault::OutOfMemory => write!(f, "S1 OutOfMemory"),
+            SolveFault::Spawn => write!(f, "S2 Spawn"),
+        }
+    }
+}
+
 impl fmt::Display for Refusal {
     ghost output = { λ r. Some (reason_text r) };
 
@@ -211,6 +250,11 @@ impl fmt::Display for Refusal {
                 let fault = CheckText(*fault);
                 write!(f, "{fault}")
             }
+            Refusal::Solve(fault) => {
+                let fault = SolveText(*fault);
+                write!(f, "{fault}")
+            }
+            Refusal::Write => write!(f, "E4 Write"),
         }
     }
 }

@@ -2,7 +2,7 @@ ghost use Rattle.std.specs.Prelude.{Some};
 
 use crate::plain::run_plain;
 use crate::run::run;
-use crate::words::{Job, LineFault, read_words};
+use crate::words::Job;
 use ec_loads::{Illegal, Loads, Places, Plan, busiest, is_legal};
 use ec_units::{Place, Units, read_units};
 use ec_wire::Io;
@@ -13,6 +13,9 @@ use std::io::{ErrorKind, Read, Write};
 use std::test::Fail;
 
 mod checks;
+mod late;
+mod plans;
+mod words;
 
 /// A reader of these bytes that fails at a call.
 #[derive(Drop)]
@@ -369,7 +372,15 @@ fn a_reader_without_end(rt: HostRuntime) -> Result<(), Fail> {
     let mut text = Io::new(&mut slow);
     let cert: Option<&mut Io<io::Empty>> = None;
     let nowhere: Option<&mut Io<io::Sink>> = None;
-    let status = run(rt.alloc(), &Job::Cost, &mut units, cert, &mut text, nowhere);
+    let status = run(
+        &rt,
+        rt.alloc(),
+        &Job::Cost,
+        &mut units,
+        cert,
+        &mut text,
+        nowhere,
+    );
     drop(units);
     drop(text);
     assert_eq!(rt; status.code, 3);
@@ -427,52 +438,6 @@ fn each_write_fails(rt: HostRuntime) -> Result<(), Fail> {
         assert_eq!(rt; slow.held.len(), 16 * calls as usize);
         assert!(rt; whole.as_bytes().starts_with(slow.held.as_slice()));
     }
-    Ok(())
-}
-
-/// Words as the command line gives them.
-fn words_of(alloc: Global, all: &[&str]) -> Result<Vec<String>, AllocError> {
-    let mut words = Vec::new(alloc);
-    for word in all {
-        words.push(String::from_str(alloc, *word)?)?;
-    }
-    Ok(words)
-}
-
-/// Whether these words are refused.
-fn refuses(alloc: Global, all: &[&str]) -> Result<bool, AllocError> {
-    let words = words_of(alloc, all)?;
-    Ok(matches!(read_words(alloc, &words), Err(LineFault::Refused { .. })))
-}
-
-#[test]
-fn words(rt: HostRuntime) -> Result<(), Fail> {
-    let alloc = rt.alloc();
-    let words = words_of(alloc, &["cost"])?;
-    let line = read_words(alloc, &words).ok().ok_or("a line")?;
-    assert_eq!(rt; line.job, Job::Cost);
-    assert!(rt; line.cert.is_none() && line.out.is_none());
-    assert!(rt; refuses(alloc, &[])?);
-    assert!(rt; refuses(alloc, &["costs"])?);
-    assert!(rt; refuses(alloc, &["cost", "cost"])?);
-    assert!(rt; refuses(alloc, &[""])?);
-    Ok(())
-}
-
-#[test]
-fn words_of_a_check(rt: HostRuntime) -> Result<(), Fail> {
-    let alloc = rt.alloc();
-    let words = words_of(alloc, &["check", "--cert", "line.cert"])?;
-    let line = read_words(alloc, &words).ok().ok_or("a line")?;
-    assert_eq!(rt; line.job, Job::Check);
-    let path = line.cert.ok_or("a path")?;
-    assert_eq!(rt; path.as_str(), "line.cert");
-    assert!(rt; line.out.is_none());
-    assert!(rt; refuses(alloc, &["check"])?);
-    assert!(rt; refuses(alloc, &["check", "--cert"])?);
-    assert!(rt; refuses(alloc, &["check", "line.cert", "--cert"])?);
-    assert!(rt; refuses(alloc, &["cost", "--cert", "line.cert"])?);
-    assert!(rt; refuses(alloc, &["check", "--cert", "line.cert", "more"])?);
     Ok(())
 }
 

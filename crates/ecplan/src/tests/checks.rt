@@ -282,6 +282,7 @@ fn a_check_whose_write_fails(rt: HostRuntime) -> Result<(), Fail> {
         let mut text = Io::new(&mut slow);
         let nowhere: Option<&mut Io<io::Sink>> = None;
         let status = run(
+            &rt,
             alloc,
             &Job::Check,
             &mut units,
@@ -311,6 +312,7 @@ fn a_certificate_without_end(rt: HostRuntime) -> Result<(), Fail> {
     let mut text = Io::new(&mut slow);
     let nowhere: Option<&mut Io<io::Sink>> = None;
     let status = run(
+        &rt,
         alloc,
         &Job::Check,
         &mut units,
@@ -340,6 +342,7 @@ fn a_cost_leaves_a_certificate(rt: HostRuntime) -> Result<(), Fail> {
     let mut text = Io::new(&mut slow);
     let nowhere: Option<&mut Io<io::Sink>> = None;
     let status = run(
+        &rt,
         alloc,
         &Job::Cost,
         &mut units,
