@@ -10,4 +10,3 @@ pub mod KeepLemmas
 pub mod PlanLemmas
 pub mod FinishLemmas
 pub mod OpenLemmas
-pub mod PartialLemmas

@@ -1,6 +1,6 @@
 //! The book.
 
-ghost use Rattle.std.specs.Prelude.{◌≡◌, ◌≢◌, ℕ, ◌+◌, ◌<◌, ◌≤◌, ◌^◌, ◌++◌, ◌∷◌, [], IfOk, IfSome, IfErr, OnOk, OnErr, OnSome, IfNone, IsTrue, ◌↔◌, MatchOption, None, Some, length, slice_get, replicate, drop, vec_capacity, vec_len};
+ghost use Rattle.std.specs.Prelude.{◌≡◌, ◌≢◌, ℕ, ◌+◌, ◌<◌, ◌≤◌, ◌^◌, ◌++◌, ◌∷◌, [], IfOk, IfSome, IfErr, OnOk, OnErr, OnSome, IfNone, ◌↔◌, MatchOption, None, Some, length, slice_get, replicate, drop, vec_capacity, vec_len};
 ghost use Rattle.ec_units.specs.Load.{loads_of};
 ghost use Rattle.ec_loads.specs.Held.{no_places};
 ghost use Rattle.ec_loads.specs.Search.{IsTree, IsPartialTree, node_count as node_count_of, open_count};
@@ -18,12 +18,8 @@ ghost use Rattle.ec_book.specs.declared.fault.BookFault.TheVariants.{OutOfMemory
 
 use crate::fault::BookFault;
 use crate::finish::{assembled, open_leaves};
-#[cfg(test)]
-use crate::judge::node_count;
 use crate::judge::{grant_of, judged};
 use crate::open::opened_by;
-#[cfg(test)]
-use crate::partial::is_partial;
 use crate::piece::Piece;
 use crate::plans::{not_below, plan_cost};
 use crate::report::Report;
@@ -372,27 +368,5 @@ impl Book {
             spent: self.spent,
             log: Steps::new(self.log),
         })
-    }
-}
-
-#[cfg(test)]
-impl Book {
-    /// Whether a subtree without average leaves may be reported for this prefix.
-    pub(crate) fn may_report(&mut self, prefix: &[Place], sub: &Subtree) -> Result<bool, AllocError>
-        ensures same { self.new ≡ self.old }
-        ensures tree { IfOk result (λ b. IsTrue b → IsPartialTree self.old.loads self.old.slots sub.now.threshold (shape_of sub.now.tree) (prefix_of self.old.loads self.old.order prefix.now) (drop (length prefix.now) self.old.order)) }
-        ensures some { IfOk result (λ b. IsTrue b → 0 < node_count_of (shape_of sub.now.tree)) }
-    {
-        if prefix.len() > self.order.len() || node_count(&sub.tree) == 0 {
-            return Ok(false);
-        }
-        let mut path = Vec::from_slice(*self.log.allocator(), prefix)?;
-        is_partial(
-            &mut self.loads,
-            self.order.as_slice(),
-            sub.threshold,
-            &sub.tree,
-            &mut path,
-        )
     }
 }

@@ -7,8 +7,6 @@ mod finish;
 mod judge;
 mod law;
 mod open;
-#[cfg(test)]
-mod partial;
 mod piece;
 mod plans;
 mod report;
@@ -22,6 +20,3 @@ pub use law::{done_is_spent, histories_replay, trees_fall};
 pub use piece::Piece;
 pub use step::{Step, Steps};
 pub use taken::{Taken, Took};
-
-#[cfg(test)]
-mod tests;

@@ -8,6 +8,3 @@ mod rest;
 pub use bound::{average_bound, full_bound, tick_bound};
 pub use law::leaves_bound;
 pub use rest::Rest;
-
-#[cfg(test)]
-mod tests;

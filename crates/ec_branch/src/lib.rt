@@ -15,6 +15,3 @@ pub use exploring::explore;
 pub use first_plan::greedy;
 pub use guide::Guide;
 pub use order::search_order;
-
-#[cfg(test)]
-mod tests;

@@ -27,6 +27,3 @@ pub use ranges::well_formed;
 pub use reading::{MOST_BYTES, read_cert};
 pub use tree::Tree;
 pub use writing::write_cert;
-
-#[cfg(test)]
-mod tests;

@@ -14,6 +14,3 @@ mod walk;
 pub use checking::check;
 pub use fault::{CheckFault, Verdict};
 pub use law::faults_refute;
-
-#[cfg(test)]
-mod tests;

@@ -10,6 +10,3 @@ pub use child::{Children, choices};
 pub use law::{every_plan_is_reached, slots_have_no_gap};
 pub use rename::canonical;
 pub use slots::used_slots;
-
-#[cfg(test)]
-mod tests;

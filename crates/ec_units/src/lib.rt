@@ -19,6 +19,3 @@ pub use read::read_units;
 pub use slave::{Place, Slave, Slaves};
 pub use unit::{Load, Unit, UnitList};
 pub use units::{Units, bytes_of};
-
-#[cfg(test)]
-mod tests;

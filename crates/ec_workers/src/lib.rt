@@ -12,6 +12,3 @@ mod watch;
 pub use gate::Gate;
 pub use outcome::{Cut, Outcome, SolveFault};
 pub use planning::solve;
-
-#[cfg(test)]
-mod tests;

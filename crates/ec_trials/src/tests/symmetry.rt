@@ -1,34 +1,14 @@
+//! Places that a search tries, and plans whose slots are renamed.
+
 ghost use Rattle.std.specs.Prelude.{◌≡◌, ◌≤◌, length};
 ghost use Rattle.ec_loads.specs.Search.{places_for};
 
-use crate::{Children, canonical, choices, used_slots};
-use ec_loads::{Places, Plan, busiest, is_legal};
-use ec_units::{Place, Units, read_units};
+use super::samples::{IN_TURN, at, line, plan_of};
+use ec_loads::{Plan, busiest, is_legal};
+use ec_symmetry::{Children, canonical, choices, used_slots};
+use ec_units::{Place, Units};
 use std::alloc::{AllocError, Global};
 use std::test::Fail;
-
-/// Two units of 100 bytes every second tick, with two slots.
-const TWO_UNITS: &[u8] = b"tick_ns = 1000000
-slots = 2
-[[unit]]
-name = \"a\"
-period = 2
-[[unit.slave]]
-station = 1001
-out_bytes = 100
-in_bytes = 0
-[[unit]]
-name = \"b\"
-period = 2
-[[unit.slave]]
-station = 1002
-out_bytes = 100
-in_bytes = 0
-";
-
-fn at(phase: u16, slot: u8) -> Place {
-    Place { phase, slot }
-}
 
 /// How many places are left, counted one by one.
 fn counted(children: Children) -> u64
@@ -77,12 +57,6 @@ fn renamed(
     }
 }
 
-fn plan_of(alloc: Global, places: &[Place]) -> Result<Plan, AllocError> {
-    Ok(Plan {
-        places: Places::new(places.to_vec(alloc)?),
-    })
-}
-
 #[test]
 fn different_slots_count_once(rt: HostRuntime) {
     assert_eq!(rt; used_slots(&[]), 0);
@@ -112,9 +86,7 @@ fn places_come_by_phase_then_slot(rt: HostRuntime) {
 #[test]
 fn slots_are_named_by_first_use(rt: HostRuntime) -> Result<(), Fail> {
     let alloc = rt.alloc();
-    let Ok(units) = read_units(alloc, TWO_UNITS) else {
-        return Err(Fail::new("the unit text is refused"));
-    };
+    let units = line(alloc, 2, &IN_TURN)?;
     for (order, wanted) in [
         ([0u8, 1], [at(1, 0), at(0, 1)]),
         ([1, 0], [at(1, 1), at(0, 0)]),

@@ -1,4 +1,6 @@
-use super::*;
+//! Units are read, or refused with the fault that comes first.
+
+use ec_units::{Key, Name, Place, Slaves, Spot, UnitFault, UnitList, bytes_of, read_units};
 use std::alloc::{AllocError, Global};
 use std::fmt::Write;
 use std::test::Fail;

@@ -1,8 +1,13 @@
+//! Certificates are read and written, each text with one meaning.
+
 ghost use Rattle.std.specs.Prelude.{Some};
 ghost use Rattle.ec_cert.specs.Shapes.{cert_view};
 ghost use Rattle.ec_cert.specs.Text.{IsWellFormed};
 
-use super::*;
+use ec_cert::{
+    Best, Cert, CertFault, Order, Tree, UnitLine, UnitLines, one_text_each, read_cert, well_formed,
+    write_cert,
+};
 use ec_loads::{Places, Plan};
 use ec_units::{Name, Place};
 use ec_wire::{Io, WriteFault};

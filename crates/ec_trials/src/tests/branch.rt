@@ -1,72 +1,25 @@
-ghost use Rattle.std.specs.Prelude.{◌≡◌, ℕ, ◌≤◌, IsTrue, length, [], ◌∷◌};
-ghost use Rattle.ec_units.specs.Load.{loads_of};
-ghost use Rattle.ec_symmetry.specs.Orders.{IsOrder, IsReachedPrefix};
+//! The order of the units, the greedy plan, and trees below a prefix.
 
-use super::*;
-use ec_loads::{Plan, busiest, is_legal};
-use ec_units::{Place, Units, read_units};
+ghost use Rattle.std.specs.Prelude.{◌≤◌};
+
+use super::guide::{found_below, is_reached};
+use super::samples::{MEETING, TWELVE, at, line};
+use ec_branch::{greedy, search_order};
+use ec_loads::{busiest, is_legal};
+use ec_units::Place;
 use std::fmt::Write;
 use std::test::Fail;
 
-/// A guide that knows a value at first, counts the plans that it is told, and may stop at one.
-#[derive(Drop)]
-struct Own<'a> {
-    units: &'a Units,
-    value: Option<u64>,
-    stops: bool,
-    told: u32,
-    halted: bool,
-}
-
-impl<'a> Guide for Own<'a> {
-    ghost frame = { λ s. record { loads = loads_of s.units.now.units; slots = s.units.now.slots; floor = 0 } };
-
-    ghost halted = { λ s. s.halted };
-
-    fn bound(&mut self) -> Option<u64> {
-        self.value
-    }
-
-    fn found(&mut self, _plan: &Plan, cost: u64) -> Option<u64> {
-        self.told = self.told.saturating_add(1);
-        if self.stops {
-            self.halted = true;
-            return None;
-        }
-        self.halted = false;
-        self.value = Some(cost);
-        Some(cost)
-    }
-
-    fn stopped(&self) -> bool {
-        self.halted
-    }
-}
-
-/// Units with these bytes and periods, each with one slave.
-fn line(rt: &HostRuntime, slots: u8, units: &[(u16, u16)]) -> Result<Units, Fail> {
-    let mut text = format!(in rt.alloc(); "tick_ns = 1000000\nslots = {slots}\n")?;
-    let mut station = 1001u16;
-    for (bytes, period) in units {
-        write!(
-            text,
-            "[[unit]]\nname = \"u{station}\"\nperiod = {period}\n[[unit.slave]]\nstation = {station}\nout_bytes = {bytes}\nin_bytes = 0\n"
-        )?;
-        station = station.saturating_add(1);
-    }
-    Ok(read_units(rt.alloc(), text.as_bytes()).ok().ok_or("units")?)
-}
-
 /// The order of the search as a text.
 fn order_text(rt: &HostRuntime, slots: u8, units: &[(u16, u16)]) -> Result<String, Fail> {
-    let units = line(rt, slots, units)?;
+    let units = line(rt.alloc(), slots, units)?;
     let order = search_order(rt.alloc(), &units)?;
     Ok(format!(in rt.alloc(); "{:?}", order)?)
 }
 
 /// The places of the greedy plan and its greatest cost as a text, where there is one.
 fn greedy_text(rt: &HostRuntime, slots: u8, units: &[(u16, u16)]) -> Result<String, Fail> {
-    let units = line(rt, slots, units)?;
+    let units = line(rt.alloc(), slots, units)?;
     let mut text = String::new(rt.alloc());
     let Some(plan) = greedy(rt.alloc(), &units)? else {
         return Ok(format!(in rt.alloc(); "none")?);
@@ -91,20 +44,19 @@ fn explored(
 ) -> Result<String, Fail>
     requires { 1 ≤ grant }
 {
-    let units = line(rt, slots, units)?;
+    let units = line(rt.alloc(), slots, units)?;
     let order = search_order(rt.alloc(), &units)?;
-    let mut guide = Own {
-        units: &units,
+    let (sub, told) = found_below(
+        rt.alloc(),
+        &units,
+        order.as_slice(),
+        &[],
         value,
         stops,
-        told: 0,
-        halted: false,
-    };
-    let sub = explore(rt.alloc(), &units, order.as_slice(), &[], &mut guide, grant)?;
-    Ok(format!(in rt.alloc(); "{:?} {:?} {}", sub.tree, sub.threshold, guide.told)?)
+        grant,
+    )?;
+    Ok(format!(in rt.alloc(); "{:?} {:?} {told}", sub.tree, sub.threshold)?)
 }
-
-const MEETING: [(u16, u16); 2] = [(200, 2), (200, 3)];
 
 #[test]
 fn the_heavier_first_and_ties_in_file_order(rt: HostRuntime) -> Result<(), Fail> {
@@ -217,20 +169,6 @@ fn each_kind_of_leaf(rt: HostRuntime) -> Result<(), Fail> {
     Ok(())
 }
 
-/// Whether the first unit of the order can take this place.
-fn is_first_child(units: &Units, order: &[u8], place: Place) -> bool
-    requires { IsOrder (length units.now.units) order.now }
-    ensures { IsTrue result → IsReachedPrefix (loads_of units.now.units) units.now.slots order.now (place ∷ []) }
-{
-    match order.split_first() {
-        None => false,
-        Some((unit, _)) => {
-            let unit = usize::from(*unit);
-            place.phase < units.units.as_slice()[unit].period && place.slot == 0
-        }
-    }
-}
-
 /// The tree below the first unit at a place, and the threshold, as a text.
 fn explored_below(
     rt: &HostRuntime,
@@ -238,24 +176,18 @@ fn explored_below(
     place: Place,
     value: Option<u64>,
 ) -> Result<String, Fail> {
-    let units = line(rt, 1, units)?;
+    let units = line(rt.alloc(), 1, units)?;
     let order = search_order(rt.alloc(), &units)?;
-    if !is_first_child(&units, order.as_slice(), place) {
+    if !is_reached(&units, order.as_slice(), &[place]) {
         return Ok(format!(in rt.alloc(); "no child")?);
     }
-    let mut guide = Own {
-        units: &units,
-        value,
-        stops: false,
-        told: 0,
-        halted: false,
-    };
-    let sub = explore(
+    let (sub, _) = found_below(
         rt.alloc(),
         &units,
         order.as_slice(),
         &[place],
-        &mut guide,
+        value,
+        false,
         100,
     )?;
     Ok(format!(in rt.alloc(); "{:?} {:?}", sub.tree, sub.threshold)?)
@@ -263,29 +195,12 @@ fn explored_below(
 
 #[test]
 fn below_a_prefix(rt: HostRuntime) -> Result<(), Fail> {
-    let place = Place { phase: 1, slot: 0 };
     assert_eq!(rt;
-        explored_below(&rt, &MEETING, place, Some(464))?.as_str(),
+        explored_below(&rt, &MEETING, at(1, 0), Some(464))?.as_str(),
         "Split([TickLeaf(3), TickLeaf(1), TickLeaf(5)]) Some(464)"
     );
     Ok(())
 }
-
-/// One unit every tick, and eleven that travel more seldom.
-const TWELVE: [(u16, u16); 12] = [
-    (100, 1),
-    (400, 4),
-    (400, 5),
-    (20, 2),
-    (20, 2),
-    (20, 2),
-    (20, 4),
-    (20, 4),
-    (20, 4),
-    (20, 5),
-    (20, 5),
-    (20, 5),
-];
 
 #[test]
 fn ninety_nodes_of_twelve_units(rt: HostRuntime) -> Result<(), Fail> {

@@ -1,25 +1,14 @@
-use super::*;
+//! Bounds of a prefix.
+
+use super::samples::{IN_TURN, line};
+use ec_bounds::{Rest, average_bound, full_bound, tick_bound};
 use ec_loads::Loads;
-use ec_units::{Place, Units, read_units};
+use ec_units::Place;
 use std::test::Fail;
-
-const PADDED: &[u8] =
-    b"tick_ns = 1000000\nslots = 1\n[[unit]]\nname = \"a\"\nperiod = 1\n[[unit.slave]]\nstation = 1001\nout_bytes = 4\nin_bytes = 0\n[[unit]]\nname = \"b\"\nperiod = 1\n[[unit.slave]]\nstation = 1002\nout_bytes = 10\nin_bytes = 0\n";
-
-const EVERY_SECOND: &[u8] =
-    b"tick_ns = 1000000\nslots = 1\n[[unit]]\nname = \"a\"\nperiod = 2\n[[unit.slave]]\nstation = 1001\nout_bytes = 100\nin_bytes = 0\n[[unit]]\nname = \"b\"\nperiod = 2\n[[unit.slave]]\nstation = 1002\nout_bytes = 100\nin_bytes = 0\n";
-
-const TOO_FULL: &[u8] =
-    b"tick_ns = 1000000\nslots = 2\n[[unit]]\nname = \"a\"\nperiod = 2\n[[unit.slave]]\nstation = 1001\nout_bytes = 800\nin_bytes = 0\n[[unit]]\nname = \"b\"\nperiod = 3\n[[unit.slave]]\nstation = 1002\nout_bytes = 800\nin_bytes = 0\n";
-
-/// The two units of a text.
-fn two(rt: &HostRuntime, text: &[u8]) -> Result<Units, Fail> {
-    Ok(read_units(rt.alloc(), text).ok().ok_or("units")?)
-}
 
 #[test]
 fn average_of_unpadded_bytes(rt: HostRuntime) -> Result<(), Fail> {
-    let units = two(&rt, PADDED)?;
+    let units = line(rt.alloc(), 1, &[(4, 1), (10, 1)])?;
     assert_eq!(rt; units.units.as_slice().len(), 2);
     let mut loads = Loads::new(rt.alloc(), &units)?;
     let mut rest = Rest::all(&units);
@@ -35,7 +24,7 @@ fn average_of_unpadded_bytes(rt: HostRuntime) -> Result<(), Fail> {
 
 #[test]
 fn demand_of_what_is_left(rt: HostRuntime) -> Result<(), Fail> {
-    let units = two(&rt, EVERY_SECOND)?;
+    let units = line(rt.alloc(), 1, &IN_TURN)?;
     assert_eq!(rt; units.units.as_slice().len(), 2);
     let mut rest = Rest::all(&units);
     assert_eq!(rt; rest.demand(), 200);
@@ -50,7 +39,7 @@ fn demand_of_what_is_left(rt: HostRuntime) -> Result<(), Fail> {
 
 #[test]
 fn ticks_and_slots(rt: HostRuntime) -> Result<(), Fail> {
-    let units = two(&rt, TOO_FULL)?;
+    let units = line(rt.alloc(), 2, &[(800, 2), (800, 3)])?;
     assert_eq!(rt; units.units.as_slice().len(), 2);
     let mut loads = Loads::new(rt.alloc(), &units)?;
     assert_eq!(rt; tick_bound(&loads, Some(0)), Some(0));

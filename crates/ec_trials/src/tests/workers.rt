@@ -1,11 +1,14 @@
+//! What a search of one worker finds and writes.
+
 ghost use Rattle.std.specs.Prelude.{◌≤◌};
 
-use super::*;
+use super::samples::{IN_TURN, LARGE, MEETING, TWELVE, line};
 use ec_cert::{Best, Cert, well_formed, write_cert};
 use ec_checker::{Verdict, check};
 use ec_loads::Plan;
-use ec_units::{Units, read_units};
+use ec_units::Units;
 use ec_wire::Io;
+use ec_workers::{Gate, Outcome, solve};
 use std::alloc::Global;
 use std::fmt::Write;
 use std::sync::Wait;
@@ -16,20 +19,6 @@ struct Quiet;
 
 impl Gate for Quiet {
     fn before(&self, _worker: usize, _piece: u64) {}
-}
-
-/// Units with these bytes and periods, each with one slave.
-fn line(alloc: Global, slots: u8, units: &[(u16, u16)]) -> Result<Units, Fail> {
-    let mut text = format!(in alloc; "tick_ns = 1000000\nslots = {slots}\n")?;
-    let mut station = 1001u16;
-    for (bytes, period) in units {
-        write!(
-            text,
-            "[[unit]]\nname = \"u{station}\"\nperiod = {period}\n[[unit.slave]]\nstation = {station}\nout_bytes = {bytes}\nin_bytes = 0\n"
-        )?;
-        station = station.saturating_add(1);
-    }
-    Ok(read_units(alloc, text.as_bytes()).ok().ok_or("units")?)
 }
 
 /// The places of a plan as a text.
@@ -120,22 +109,6 @@ fn certificate(
     written(alloc, &cert)
 }
 
-/// Twelve units in two slots.
-const TWELVE: [(u16, u16); 12] = [
-    (100, 1),
-    (400, 4),
-    (400, 5),
-    (20, 2),
-    (20, 2),
-    (20, 2),
-    (20, 4),
-    (20, 4),
-    (20, 4),
-    (20, 5),
-    (20, 5),
-    (20, 5),
-];
-
 #[test]
 fn one_unit(rt: HostRuntime) -> Result<(), Fail> {
     assert_eq!(rt;
@@ -149,17 +122,16 @@ fn one_unit(rt: HostRuntime) -> Result<(), Fail> {
     let text = certificate(&rt, rt.alloc(), 1, &[(4, 1)], Verdict::Least(84))?;
     assert_eq!(rt;
         text.as_str(),
-        "ecplan 1\nslots 1\nunit u1001 4 1\norder 0\nvalue 84\nplace 0 0\ntree\nS 1\nT 0\nend\n"
+        "ecplan 1\nslots 1\nunit a 4 1\norder 0\nvalue 84\nplace 0 0\ntree\nS 1\nT 0\nend\n"
     );
     Ok(())
 }
 
 #[test]
 fn two_units_every_second_tick(rt: HostRuntime) -> Result<(), Fail> {
-    let units = [(100, 2), (100, 2)];
-    let plan = found(&rt, rt.alloc(), 1, &units, 1_000_000)?;
+    let plan = found(&rt, rt.alloc(), 1, &IN_TURN, 1_000_000)?;
     assert_eq!(rt; plan.as_str(), "optimal 152, 0 0, 1 0");
-    let text = certificate(&rt, rt.alloc(), 1, &units, Verdict::Least(152))?;
+    let text = certificate(&rt, rt.alloc(), 1, &IN_TURN, Verdict::Least(152))?;
     assert!(rt; text.as_str().ends_with("tree\nS 2\nT 0\nT 1\nend\n"));
     let small = found(&rt, rt.alloc(), 1, &[(4, 2), (4, 2)], 1_000_000)?;
     assert_eq!(rt; small.as_str(), "optimal 84, 0 0, 0 0");
@@ -168,12 +140,11 @@ fn two_units_every_second_tick(rt: HostRuntime) -> Result<(), Fail> {
 
 #[test]
 fn no_slot_for_two_large_units(rt: HostRuntime) -> Result<(), Fail> {
-    let units = [(800, 1), (800, 1)];
     assert_eq!(rt;
-        found(&rt, rt.alloc(), 1, &units, 1_000_000)?.as_str(),
+        found(&rt, rt.alloc(), 1, &LARGE, 1_000_000)?.as_str(),
         "no plan"
     );
-    let text = certificate(&rt, rt.alloc(), 1, &units, Verdict::NoPlan)?;
+    let text = certificate(&rt, rt.alloc(), 1, &LARGE, Verdict::NoPlan)?;
     assert!(rt;
         text.as_str()
             .ends_with("value none\ntree\nS 1\nS 1\nF 0 0\nend\n")
@@ -183,30 +154,28 @@ fn no_slot_for_two_large_units(rt: HostRuntime) -> Result<(), Fail> {
 
 #[test]
 fn two_slots_for_two_large_units(rt: HostRuntime) -> Result<(), Fail> {
-    let units = [(800, 1), (800, 1)];
-    let plan = found(&rt, rt.alloc(), 2, &units, 1_000_000)?;
+    let plan = found(&rt, rt.alloc(), 2, &LARGE, 1_000_000)?;
     assert_eq!(rt; plan.as_str(), "optimal 1704, 0 0, 0 1");
-    let text = certificate(&rt, rt.alloc(), 2, &units, Verdict::Least(1704))?;
+    let text = certificate(&rt, rt.alloc(), 2, &LARGE, Verdict::Least(1704))?;
     assert!(rt; text.as_str().ends_with("tree\nS 1\nS 2\nF 0 0\nT 0\nend\n"));
     Ok(())
 }
 
 #[test]
 fn units_that_always_meet(rt: HostRuntime) -> Result<(), Fail> {
-    let units = [(200, 2), (200, 3)];
-    let text = certificate(&rt, rt.alloc(), 1, &units, Verdict::Least(464))?;
+    let text = certificate(&rt, rt.alloc(), 1, &MEETING, Verdict::Least(464))?;
     let tree = "tree\nS 2\nS 3\nT 0\nT 4\nT 2\nS 3\nT 3\nT 1\nT 5\nend\n";
     assert!(rt; text.as_str().ends_with(tree));
     assert_eq!(rt;
-        found(&rt, rt.alloc(), 1, &units, 9)?.as_str(),
+        found(&rt, rt.alloc(), 1, &MEETING, 9)?.as_str(),
         "optimal 464, 0 0, 0 0"
     );
     assert_eq!(rt;
-        found(&rt, rt.alloc(), 1, &units, 8)?.as_str(),
+        found(&rt, rt.alloc(), 1, &MEETING, 8)?.as_str(),
         "unproved 464 Budget"
     );
     assert_eq!(rt;
-        found(&rt, rt.alloc(), 1, &units, 1)?.as_str(),
+        found(&rt, rt.alloc(), 1, &MEETING, 1)?.as_str(),
         "unproved 464 Budget"
     );
     Ok(())
@@ -230,9 +199,7 @@ fn the_greatest_payload(rt: HostRuntime) -> Result<(), Fail> {
     let units = [(743, 1), (744, 1)];
     let text = certificate(&rt, rt.alloc(), 1, &units, Verdict::NoPlan)?;
     assert!(rt;
-        text.as_str().starts_with(
-            "ecplan 1\nslots 1\nunit u1001 743 1\nunit u1002 744 1\norder 1 0\n"
-        )
+        text.as_str().starts_with("ecplan 1\nslots 1\nunit a 743 1\nunit b 744 1\norder 1 0\n")
     );
     Ok(())
 }

@@ -1,31 +1,22 @@
-use super::*;
+//! The checker says yes or names what is wrong.
+
+use super::samples::{IN_TURN, LARGE, MEETING, line};
 use ec_cert::read_cert;
+use ec_checker::{CheckFault, Verdict, check};
 use ec_loads::Illegal;
-use ec_units::read_units;
 use std::test::Fail;
-
-const ALTERNATING: &[u8] =
-    b"tick_ns = 1000000\nslots = 1\n[[unit]]\nname = \"a\"\nperiod = 2\n[[unit.slave]]\nstation = 1001\nout_bytes = 100\nin_bytes = 0\n[[unit]]\nname = \"b\"\nperiod = 2\n[[unit.slave]]\nstation = 1002\nout_bytes = 100\nin_bytes = 0\n";
-
-const MEETING: &[u8] =
-    b"tick_ns = 1000000\nslots = 1\n[[unit]]\nname = \"a\"\nperiod = 2\n[[unit.slave]]\nstation = 1001\nout_bytes = 200\nin_bytes = 0\n[[unit]]\nname = \"b\"\nperiod = 3\n[[unit.slave]]\nstation = 1002\nout_bytes = 200\nin_bytes = 0\n";
-
-const LARGE_ONE_SLOT: &[u8] =
-    b"tick_ns = 1000000\nslots = 1\n[[unit]]\nname = \"a\"\nperiod = 1\n[[unit.slave]]\nstation = 1001\nout_bytes = 800\nin_bytes = 0\n[[unit]]\nname = \"b\"\nperiod = 1\n[[unit.slave]]\nstation = 1002\nout_bytes = 800\nin_bytes = 0\n";
-
-const LARGE_TWO_SLOTS: &[u8] =
-    b"tick_ns = 1000000\nslots = 2\n[[unit]]\nname = \"a\"\nperiod = 1\n[[unit.slave]]\nstation = 1001\nout_bytes = 800\nin_bytes = 0\n[[unit]]\nname = \"b\"\nperiod = 1\n[[unit.slave]]\nstation = 1002\nout_bytes = 800\nin_bytes = 0\n";
 
 const MEETING_HEAD: &str =
     "ecplan 1\nslots 1\nunit a 200 2\nunit b 200 3\norder 0 1\nvalue 464\nplace 0 0\nplace 0 0\ntree\n";
 
-/// What the checker answers of these two texts.
+/// What the checker answers of these units and this text.
 fn answer(
     rt: &HostRuntime,
-    units: &[u8],
+    slots: u8,
+    units: &[(u16, u16)],
     cert: &[u8],
 ) -> Result<Result<Verdict, CheckFault>, Fail> {
-    let units = read_units(rt.alloc(), units).ok().ok_or("units")?;
+    let units = line(rt.alloc(), slots, units)?;
     let cert = read_cert(rt.alloc(), cert).ok().ok_or("certificate")?;
     Ok(check(rt.alloc(), &units, &cert))
 }
@@ -35,7 +26,7 @@ fn answer_of(rt: &HostRuntime, tree: &str) -> Result<Result<Verdict, CheckFault>
     let mut text = String::from_str(rt.alloc(), MEETING_HEAD)?;
     text.push_str(tree)?;
     text.push_str("end\n")?;
-    answer(rt, MEETING, text.as_str().as_bytes())
+    answer(rt, 1, &MEETING, text.as_str().as_bytes())
 }
 
 #[test]
@@ -50,22 +41,16 @@ fn says_yes(rt: HostRuntime) -> Result<(), Fail> {
     );
     let apart =
         b"ecplan 1\nslots 1\nunit a 100 2\nunit b 100 2\norder 0 1\nvalue 152\nplace 0 0\nplace 1 0\ntree\nS 2\nT 0\nT 1\nend\n";
-    assert_eq!(rt; answer(&rt, ALTERNATING, apart)?, Ok(Verdict::Least(152)));
+    assert_eq!(rt; answer(&rt, 1, &IN_TURN, apart)?, Ok(Verdict::Least(152)));
     let average =
         b"ecplan 1\nslots 2\nunit a 800 1\nunit b 800 1\norder 0 1\nvalue 1704\nplace 0 0\nplace 0 1\ntree\nS 1\nS 2\nF 0 0\nA\nend\n";
-    assert_eq!(rt;
-        answer(&rt, LARGE_TWO_SLOTS, average)?,
-        Ok(Verdict::Least(1704))
-    );
+    assert_eq!(rt; answer(&rt, 2, &LARGE, average)?, Ok(Verdict::Least(1704)));
     let two =
         b"ecplan 1\nslots 2\nunit a 800 1\nunit b 800 1\norder 0 1\nvalue 1704\nplace 0 0\nplace 0 1\ntree\nS 1\nS 2\nF 0 0\nT 0\nend\n";
-    assert_eq!(rt;
-        answer(&rt, LARGE_TWO_SLOTS, two)?,
-        Ok(Verdict::Least(1704))
-    );
+    assert_eq!(rt; answer(&rt, 2, &LARGE, two)?, Ok(Verdict::Least(1704)));
     let none =
         b"ecplan 1\nslots 1\nunit a 800 1\nunit b 800 1\norder 0 1\nvalue none\ntree\nS 1\nS 1\nF 0 0\nend\n";
-    assert_eq!(rt; answer(&rt, LARGE_ONE_SLOT, none)?, Ok(Verdict::NoPlan));
+    assert_eq!(rt; answer(&rt, 1, &LARGE, none)?, Ok(Verdict::NoPlan));
     Ok(())
 }
 
@@ -92,15 +77,12 @@ fn names_the_node(rt: HostRuntime) -> Result<(), Fail> {
     let wide =
         b"ecplan 1\nslots 2\nunit a 800 1\nunit b 800 1\norder 0 1\nvalue 1704\nplace 0 0\nplace 0 1\ntree\nS 1\nS 1\nF 0 0\nend\n";
     assert_eq!(rt;
-        answer(&rt, LARGE_TWO_SLOTS, wide)?,
+        answer(&rt, 2, &LARGE, wide)?,
         Err(CheckFault::Children(1, 2, 1))
     );
     let tick =
         b"ecplan 1\nslots 1\nunit a 800 1\nunit b 800 1\norder 0 1\nvalue none\ntree\nS 1\nS 1\nT 0\nend\n";
-    assert_eq!(rt;
-        answer(&rt, LARGE_ONE_SLOT, tick)?,
-        Err(CheckFault::Leaf(2))
-    );
+    assert_eq!(rt; answer(&rt, 1, &LARGE, tick)?, Err(CheckFault::Leaf(2)));
     Ok(())
 }
 
@@ -109,20 +91,20 @@ fn faults_before_the_tree(rt: HostRuntime) -> Result<(), Fail> {
     let low =
         b"ecplan 1\nslots 1\nunit a 200 2\nunit b 200 3\norder 0 1\nvalue 463\nplace 0 0\nplace 0 0\ntree\nT 0\nend\n";
     assert_eq!(rt;
-        answer(&rt, MEETING, low)?,
+        answer(&rt, 1, &MEETING, low)?,
         Err(CheckFault::Value(463, 464))
     );
     let late =
         b"ecplan 1\nslots 1\nunit a 200 2\nunit b 200 3\norder 0 1\nvalue 463\nplace 2 0\nplace 0 0\ntree\nT 0\nend\n";
     assert_eq!(rt;
-        answer(&rt, MEETING, late)?,
+        answer(&rt, 1, &MEETING, late)?,
         Err(CheckFault::Plan(Illegal::PhaseRange(0)))
     );
     let twice =
         b"ecplan 1\nslots 1\nunit a 200 2\nunit b 200 3\norder 0 0\nvalue 463\nplace 2 0\nplace 0 0\ntree\nT 0\nend\n";
-    assert_eq!(rt; answer(&rt, MEETING, twice)?, Err(CheckFault::Order));
+    assert_eq!(rt; answer(&rt, 1, &MEETING, twice)?, Err(CheckFault::Order));
     assert_eq!(rt;
-        answer(&rt, ALTERNATING, twice)?,
+        answer(&rt, 1, &IN_TURN, twice)?,
         Err(CheckFault::OtherUnits)
     );
     Ok(())
