@@ -1,43 +1,16 @@
 -- Orders of units, and the prefixes that places make along them.
-use Rattle.std.proofs.Common.{◌≡◌, ℕ, zero, suc, ◌<◌, ◌≤◌, ◌==◌, false, All, List, [], ◌∷◌, ◌++◌, length, set, drop, slice_get, Option, Some, None, refl, ap, sym, subst, ◌∙◌, arith}
+use Rattle.std.proofs.Common.{◌≡◌, ℕ, ◌≤◌, ◌==◌, false, List, [], ◌∷◌, ◌++◌, length, set, drop, Some, refl, ap, sym, subst, ◌∙◌, arith}
 use Rattle.std.specs.List.{list_any}
-use Rattle.std.proofs.lemmas.List.Elements.{All-head, All-tail}
-use Rattle.std.proofs.lemmas.Bool.{eqb-false, or_parts}
+use Rattle.std.proofs.lemmas.Bool.{or_parts}
 use Rattle.ec_units.specs.declared.slave.Place.{Place}
 use Rattle.ec_units.specs.declared.unit.Load.{Load}
 use Rattle.ec_loads.specs.Held.{no_places}
 use Rattle.ec_loads.specs.Search.{Prefix, children}
 use Rattle.ec_symmetry.specs.Reached.{In}
 use Rattle.ec_symmetry.specs.Orders.{has_repeat, IsOrder, with_places, prefix_of, AreChildren, IsReachedPrefix}
+use Rattle.ec_symmetry.proofs.FreeLemmas.{AreFree, AreFree-set, AreFree-none}
 use Rattle.ec_symmetry.proofs.ReachLemmas.{SameSlots, SameSlots-none, SameSlots-more}
 use Rattle.ec_book.specs.Open.{LeadsTo}
-
--- no unit of the list has a place
-abbrev pub AreFree : Prefix → List ℕ → Type 0
-AreFree ps [] = Unit {0}
-AreFree ps (u ∷ us) = (slice_get ps u ≡ Some None) × AreFree ps us
-
-other_place : (ps : Prefix) (u w : ℕ) (o : Option Place) → (u ≡ w → ⊥) → slice_get (set ps u o) w ≡ slice_get ps w
-other_place [] u w o h = refl
-other_place (p ∷ ps) zero zero o h = absurd (h refl)
-other_place (p ∷ ps) zero (suc w) o h = refl
-other_place (p ∷ ps) (suc u) zero o h = refl
-other_place (p ∷ ps) (suc u) (suc w) o h = other_place ps u w o (λ e. h (ap suc e))
-
-AreFree-set : (ps : Prefix) (u : ℕ) (o : Option Place) (us : List ℕ) → list_any (λ w. u == w) us ≡ false → AreFree ps us → AreFree (set ps u o) us
-AreFree-set ps u o [] none free = tt
-AreFree-set ps u o (w ∷ us) none free =
-    let parts = or_parts (u == w) (list_any (λ x. u == x) us) none in
-    (other_place ps u w o (eqb-false u w parts.0) ∙ free.0, AreFree-set ps u o us parts.1 free.1)
-
-free_at : (loads : List Load) (u : ℕ) → u < length loads → slice_get (no_places loads) u ≡ Some None
-free_at [] u h = absurd (omega arith)
-free_at (l ∷ ls) zero h = refl
-free_at (l ∷ ls) (suc u) h = free_at ls u (omega arith)
-
-AreFree-none : (loads : List Load) (us : List ℕ) → All (λ u. u < length loads) us → AreFree (no_places loads) us
-AreFree-none loads [] all = tt
-AreFree-none loads (u ∷ us) all = (free_at loads u (All-head (λ w. w < length loads) u us all), AreFree-none loads us (All-tail (λ w. w < length loads) u us all))
 
 -- the places of a prefix are in the slots of the prefix
 slots-along : (ps : Prefix) (us : List ℕ) (before q : List Place) → has_repeat us ≡ false → AreFree ps us → length q ≤ length us → SameSlots ps before → SameSlots (with_places ps us q) (before ++ q)

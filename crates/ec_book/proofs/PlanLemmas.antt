@@ -1,5 +1,5 @@
 -- Plans looked at unit by unit, and places given and taken away one by one.
-use Rattle.std.proofs.Common.{◌≡◌, ℕ, zero, suc, ◌+◌, ◌<◌, ◌≤◌, ◌&&◌, nat_lt, Bool, true, false, List, [], ◌∷◌, ◌++◌, map, length, set, take, drop, get_or, Option, Some, None, refl, ap, sym, subst, ◌∙◌, arith, add-one, take_all, rules, tests, not-suc-le-zero, le_of_suc-le-suc}
+use Rattle.std.proofs.Common.{◌≡◌, ℕ, zero, suc, ◌+◌, ◌<◌, ◌≤◌, ◌&&◌, nat_lt, Bool, true, false, List, [], ◌∷◌, ◌++◌, map, length, set, take, drop, get_or, Option, Some, None, refl, ap, sym, ◌∙◌, arith, add-one, take_all, rules, tests, not-suc-le-zero, le_of_suc-le-suc}
 use Rattle.std.specs.List.{list_all}
 use Rattle.ec_units.specs.declared.slave.Place.{Place}
 use Rattle.ec_units.specs.declared.unit.Load.{Load}
@@ -84,13 +84,3 @@ pub remove-step : (held before after : Held) (i : ℕ) → i < length held.loads
 remove-step held before after i h e was is =
     is ∙ ap (λ (b : Held). record b { places = set b.places i None }) was
     ∙ rw add-one (ap (λ w. record held { places = w }) (remove-suc held.loads held.places i h e))
-
--- the counts that the loops go by
-pub place-inside : (held before : Held) (places : List Place) (i : ℕ) → i < length places → length places ≡ length held.loads → before ≡ record held { places = map Some (take i places) ++ drop i (no_places held.loads) } → i < length before.places
-place-inside held before places i h e was = subst (λ (b : Held). i < length b.places) (sym was) (inside places (no_places held.loads) i h (none-length held.loads ∙ sym e))
-  where
-    inside : (places : List Place) (places0 : List (Option Place)) (i : ℕ) → i < length places → length places0 ≡ length places → i < length (map Some (take i places) ++ drop i places0)
-    inside [] places0 i h e = absurd (not-suc-le-zero h)
-    inside (p ∷ ps) [] i h e = absurd (omega (arith, e))
-    inside (p ∷ ps) (n ∷ places0) zero h e = omega arith
-    inside (p ∷ ps) (n ∷ places0) (suc i) h e = let rest = inside ps places0 i (le_of_suc-le-suc h) (omega (arith, e)) in omega (arith, rest)

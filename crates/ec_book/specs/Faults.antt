@@ -16,7 +16,8 @@ use Rattle.ec_book.specs.declared.fault.BookFault.TheVariants as fault
 use Rattle.ec_book.specs.declared.taken.Taken.{Taken as Handed}
 use Rattle.ec_book.specs.declared.taken.Taken.TheVariants as handed
 use Rattle.ec_book.specs.Steps.{granted, taken_count}
-use Rattle.ec_book.specs.Views.{BookView, value_of, after_took}
+use Rattle.ec_cert.specs.BestPlan.{value_of}
+use Rattle.ec_book.specs.Views.{BookView, after_took}
 use Rattle.ec_book.specs.Kept.{NoneFreeBelow}
 
 -- the lowest free piece

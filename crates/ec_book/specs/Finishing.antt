@@ -5,7 +5,8 @@ use Rattle.ec_loads.specs.Shape.{Shape}
 use Rattle.ec_book.specs.Numbered.{Numbered, plain, NumberedTree}
 use Rattle.ec_book.specs.Open.{StandsAt}
 use Rattle.ec_book.specs.Grown.{HasPieces}
-use Rattle.ec_book.specs.Views.{BookView, value_of}
+use Rattle.ec_cert.specs.BestPlan.{value_of}
+use Rattle.ec_book.specs.Views.{BookView}
 
 -- the tree's open leaves can be numbered so that they are just the free and taken pieces, each once and at its prefix, where the closed leaves hold at the value
 abbrev pub ShowsPieces : BookView → Shape → Type 0

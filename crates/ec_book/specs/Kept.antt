@@ -1,11 +1,10 @@
 -- What is true of each book.
-use Rattle.std.specs.Prelude.{◌≡◌, ◌≢◌, ℕ, ◌+◌, ◌<◌, ◌≤◌, List, Option, Some, None, length, slice_get, All}
+use Rattle.std.specs.Prelude.{◌≡◌, ◌≢◌, ℕ, ◌+◌, ◌<◌, ◌≤◌, List, Option, Some, length, slice_get, All}
 use Rattle.ec_units.specs.declared.slave.Place.{Place}
 use Rattle.ec_units.specs.declared.unit.Load.{Load}
-use Rattle.ec_loads.specs.Cost.{plan_items, IsBusiest}
-use Rattle.ec_loads.specs.Legal.{IsLegal}
 use Rattle.ec_loads.specs.Held.{Held, no_places}
 use Rattle.ec_cert.specs.declared.cert.Best.{Best}
+use Rattle.ec_cert.specs.BestPlan.{value_of, IsBestPlan}
 use Rattle.ec_symmetry.specs.Orders.{IsOrder, IsReachedPrefix}
 use Rattle.ec_book.specs.declared.step.Step.{Step}
 use Rattle.ec_book.specs.declared.piece.Piece.{Piece}
@@ -15,12 +14,6 @@ use Rattle.ec_book.specs.Steps.{start, granted, taken_count, IsHistory}
 use Rattle.ec_book.specs.Numbered.{gap, NumberedTree}
 use Rattle.ec_book.specs.Open.{StandsAt}
 use Rattle.ec_book.specs.Grown.{grown, Chain, HasPieces}
-use Rattle.ec_book.specs.Views.{value_of}
-
--- the best plan is legal, and its busiest tick costs what is stated
-abbrev pub IsBestPlan : List Load → ℕ → Option Best → Type 0
-IsBestPlan loads n None = Unit {0}
-IsBestPlan loads n (Some b) = IsLegal loads n b.plan.places × IsBusiest (plan_items loads b.plan.places) n b.busiest
 
 -- no piece below a number is free
 abbrev pub NoneFreeBelow : List Piece → ℕ → Type 0

@@ -1,8 +1,9 @@
 -- A book as contracts see it.
-use Rattle.std.specs.Prelude.{ℕ, ◌+◌, List, [], ◌∷◌, ◌++◌, length, set, replicate, Option, Some, None}
+use Rattle.std.specs.Prelude.{ℕ, ◌+◌, List, [], ◌∷◌, ◌++◌, length, set, replicate, Option, Some}
 use Rattle.ec_units.specs.declared.slave.Place.{Place}
 use Rattle.ec_units.specs.declared.unit.Load.{Load}
 use Rattle.ec_cert.specs.declared.cert.Best.{Best}
+use Rattle.ec_cert.specs.BestPlan.{value_of}
 use Rattle.ec_book.specs.declared.step.Step.{Step}
 use Rattle.ec_book.specs.declared.step.Step.TheVariants.{Took, Reported, Better, Back}
 use Rattle.ec_book.specs.declared.piece.Piece.{Piece}
@@ -25,11 +26,6 @@ pub record BookView : Type 0 where
 abbrev pub book_view : List Load → ℕ → List ℕ → ℕ → List Piece → List (List Place) → Option Best → ℕ → List Step → BookView
 book_view loads slots order nodes pieces prefixes best spent log =
     record { loads = loads; slots = slots; order = order; nodes = nodes; pieces = pieces; prefixes = prefixes; best = best; spent = spent; log = log }
-
--- what the best plan costs, if there is one
-abbrev pub value_of : Option Best → Option ℕ
-value_of None = None
-value_of (Some b) = Some b.busiest
 
 abbrev pub state_of : BookView → PiecesState
 state_of b = record { pieces = b.pieces; value = value_of b.best; spent = b.spent }

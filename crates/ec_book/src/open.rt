@@ -1,31 +1,15 @@
 //! The prefixes of a tree's open leaves.
 
-ghost use Rattle.std.specs.Prelude.{◌≡◌, ℕ, ◌+◌, ◌<◌, ◌≤◌, ◌++◌, length, OnOk, IfOk};
+ghost use Rattle.std.specs.Prelude.{◌≡◌, ℕ, ◌≤◌, ◌++◌, length, OnOk, IfOk};
 ghost use Rattle.ec_cert.specs.Shapes.{shape_of};
-ghost use Rattle.ec_symmetry.specs.Orders.{IsOrder, prefix_of};
-ghost use Rattle.ec_loads.specs.Search.{children};
+ghost use Rattle.ec_symmetry.specs.Orders.{IsOrder};
 ghost use Rattle.ec_book.specs.Open.{open_places};
 
 use ec_cert::Tree;
 use ec_loads::{Loads, Places};
-use ec_symmetry::{Children, choices, used_slots};
+use ec_symmetry::children_after;
 use ec_units::Place;
 use std::alloc::{AllocError, Global};
-
-/// The places that a unit can take after these places of the units before it in the order.
-pub(crate) fn children_of(loads: &Loads, order: &[u8], unit: usize, path: &[Place]) -> Children
-    requires order { IsOrder (length loads.now.loads) order.now }
-    requires inside { unit < length loads.now.loads }
-    requires long { length path.now ≤ length order.now }
-    ensures { result ≡ children loads.now.loads loads.now.slots (prefix_of loads.now.loads order.now path.now) unit }
-{
-    choices(
-        loads.loads()[unit].period,
-        loads.slots(),
-        used_slots(path),
-        false,
-    )
-}
 
 /// Adds the places that lead to each open leaf of a tree, in preorder, where `path` leads to the tree. The path is
 /// as before afterwards. Each node is visited once, and no recursion is deeper than the order is long.
@@ -47,7 +31,7 @@ pub(crate) fn add_open(
                 return Ok(());
             }
             let unit = usize::from(order[path.len()]);
-            let mut places = children_of(loads, order, unit, path.as_slice());
+            let mut places = children_after(loads, unit, path.as_slice());
             for i in 0..trees.len() {
                 let Some(place) = places.next() else {
                     return Ok(());

@@ -1,12 +1,12 @@
 -- Which units are left, and what they send.
-use Rattle.std.proofs.Common.{◌≡◌, ℕ, ◌+◌, ◌*◌, ◌/◌, ◌%◌, ◌<◌, ◌≤◌, Bool, true, cond, is_none, List, [], ◌∷◌, ◌++◌, map, length, take, drop, set, get_or, replicate, Option, Some, None, refl, sym, ap, subst, ◌∙◌, arith, add-one, drop-cons, drop_of_length-le, take_all, length-take}
+use Rattle.std.proofs.Common.{◌≡◌, ℕ, ◌+◌, ◌*◌, ◌/◌, ◌%◌, ◌<◌, ◌≤◌, Bool, true, cond, is_none, List, [], ◌∷◌, map, length, take, drop, set, get_or, replicate, Option, Some, None, refl, sym, ap, subst, ◌∙◌, arith, add-one, drop-cons, take_all, length-take}
 use Rattle.std.specs.Prelude.{IsTrue, nat_lt, ◌↔◌}
 use Rattle.std.proofs.lemmas.Bool.Decides.{nat_tests}
 use Rattle.std.proofs.Math.Seq.{take-set-lt}
-use Rattle.std.proofs.lemmas.List.{take-replicate, take_more_set, map_more}
+use Rattle.std.proofs.lemmas.List.{take-replicate}
 use Rattle.ec_units.specs.declared.unit.Load.{Load}
 use Rattle.ec_units.specs.declared.unit.Unit.{Unit as SyncUnit}
-use Rattle.ec_units.specs.Load.{load_of, loads_of, periods_of}
+use Rattle.ec_units.specs.Load.{loads_of, periods_of}
 use Rattle.std.proofs.lemmas.Nat.{mod_below}
 use Rattle.ec_hyper.specs.Lcm.{lcm_of}
 use Rattle.ec_loads.specs.Cost.{items, tick_cost}
@@ -37,19 +37,9 @@ replicate-true (l ∷ ls) = ap (λ w. true ∷ w) (replicate-true ls)
 pub all-unplaced : (ls : List Load) (n : ℕ) → length ls ≡ n → n ≤ 48 → take n (replicate 48 true) ≡ all_of ls
 all-unplaced ls n is few = take-replicate n 48 true few ∙ ap (λ w. replicate w true) (sym is) ∙ replicate-true ls
 
--- the loads so far, in a table
-pub loads-step : (us : List SyncUnit) (xs : List Load) (i : ℕ) (d : SyncUnit) (r : Load) → i < length xs → i < length us → d ≡ get_or us i d → r ≡ load_of d → take i xs ≡ loads_of (take i us) → take (i + 1) (set xs i r) ≡ loads_of (take (i + 1) us)
-loads-step us xs i d r room within is made so_far =
-    take_more_set xs i r room
-    ∙ (λ j. so_far j ++ (made ∙ ap load_of is) j ∷ [])
-    ∙ sym (map_more load_of us i d within)
-
 -- one load more
 pub demand_of-at : (ls : List Load) (bs : List Bool) (h i : ℕ) (d : Load) (e : Bool) → i < length ls → i < length bs → demand_of (drop i ls) (drop i bs) h ≡ cond (get_or bs i e) ((get_or ls i d).bytes * (h / (get_or ls i d).period)) 0 + demand_of (drop (i + 1) ls) (drop (i + 1) bs) h
 demand_of-at ls bs h i d e k l = rw (add-one, drop-cons ls i d k, drop-cons bs i e l) refl
-
-pub demand_of-end : (ls : List Load) (bs : List Bool) (h i : ℕ) → length ls ≤ i → demand_of (drop i ls) (drop i bs) h ≡ 0
-demand_of-end ls bs h i k = rw (drop_of_length-le ls k) refl
 
 -- it is the demand of the prefix that has the other places
 pub demand-flags : (ls : List Load) (ps : Prefix) (h : ℕ) → demand_of ls (map (λ p. is_none p) ps) h ≡ demand ls ps h

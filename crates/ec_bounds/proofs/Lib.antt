@@ -3,3 +3,4 @@ pub mod SubLemmas
 pub mod AverageLemmas
 pub mod LeafLemmas
 pub mod LeftLemmas
+pub mod HeldLemmas

@@ -1,34 +1,22 @@
 -- Unit by unit at the best child.
 use Rattle.std.proofs.Common.{◌≡◌, ℕ, ◌+◌, ◌<◌, ◌≤◌, ◌++◌, inl, inr, All, List, [], ◌∷◌, length, drop, get_or, Option, Some, None, MatchOption, refl, ap, sym, subst, ◌∙◌, arith}
 use Rattle.std.proofs.lemmas.Bool.{cases_lt}
-use Rattle.std.proofs.lemmas.List.{drop_more, drop_all, append_assoc}
+use Rattle.std.proofs.lemmas.List.{drop_more, append_assoc}
 use Rattle.std.proofs.lemmas.List.Elements.{All-nil, All-push, All-append, All-cons}
 use Rattle.ec_units.specs.declared.slave.Place.{Place}
 use Rattle.ec_units.specs.declared.unit.Load.{Load}
-use Rattle.ec_loads.specs.declared.item.Item.{Item}
 use Rattle.ec_loads.specs.Cost.{items, payload, IsBusiest}
 use Rattle.ec_loads.specs.Held.{Held, items_of, no_places}
-use Rattle.ec_loads.specs.Legal.{Fits, IsFirstFull}
+use Rattle.ec_loads.specs.Legal.{Fits}
 use Rattle.ec_loads.specs.Search.{Prefix, children}
+use Rattle.ec_loads.proofs.CostLemmas.{one_busiest}
 use Rattle.ec_symmetry.specs.Reached.{In}
 use Rattle.ec_symmetry.proofs.InLemmas.{children-In}
 use Rattle.ec_branch.specs.declared.first_plan.Choice.{Choice}
 use Rattle.ec_branch.specs.Greedy.{items_at, IsTooFull, FitsAt, IsBestChild, IsGreedyTo, IsStuck}
 use Rattle.ec_branch.specs.Walks.{IsReadyFor}
-use Rattle.ec_branch.proofs.HeldLemmas.{with_place}
+use Rattle.ec_bounds.proofs.HeldLemmas.{with_place}
 use Rattle.ec_branch.proofs.WalkLemmas.{In-mid, ready_at}
-
-one_busiest : (xs : List Item) (n a b : ℕ) → IsBusiest xs n a → IsBusiest xs n b → a ≡ b
-one_busiest xs n a b h k =
-    let e = h.reached.1 in
-    let f = k.reached.1 in
-    let low = k.most h.reached.0 in
-    let high = h.most k.reached.0 in
-    omega (arith, e, f, low, high)
-
--- a payload that is too large
-pub not_fits : (xs : List Item) (n t s b : ℕ) → IsFirstFull xs n t s b → ¬ (Fits xs n)
-not_fits xs n t s b full = λ fits. let low = fits t s full.slot in let is = full.bytes in let above = full.above in omega (arith, low, is, above)
 
 -- it costs more, or no less, wherever it fits
 abbrev CostsMore : List Load → ℕ → Prefix → ℕ → ℕ → Place → Type 0
@@ -49,9 +37,6 @@ pub record IsBestOf (loads : List Load) (n : ℕ) (ps : Prefix) (u : ℕ) (seen 
 abbrev pub BestSoFar : List Load → ℕ → Prefix → ℕ → List Place → Option Choice → Type 0
 BestSoFar loads n ps u seen None = All (IsTooFull loads n ps u) seen
 BestSoFar loads n ps u seen (Some c) = IsBestOf loads n ps u seen c.place c.cost
-
-pub best_none : (loads : List Load) (n : ℕ) (ps : Prefix) (u : ℕ) (best : Option Choice) → best ≡ None → BestSoFar loads n ps u [] best
-best_none loads n ps u best none = subst (BestSoFar loads n ps u []) (sym none) (All-nil _)
 
 All-map : {X : Type 0} (P Q : X → Type 0) (xs : List X) → ((x : X) → P x → Q x) → All P xs → All Q xs
 All-map P Q xs f all = λ k d h. f (get_or xs k d) (all k d h)
@@ -140,23 +125,6 @@ tried args cur placed u seen q best cost result same made fits is so_far =
     (subst (λ (w : Held). MatchOption cost (¬ (Fits (items_of w) w.slots)) (λ b. Fits (items_of w) w.slots × IsBusiest (items_of w) w.slots b)) whole fits)
     is so_far
 
--- all children were tried
-pub best_all : (loads : List Load) (n : ℕ) (ps : Prefix) (u : ℕ) (seen : List Place) (best : Option Choice) (c : Choice) → seen ≡ children loads n ps u → best ≡ Some c → BestSoFar loads n ps u seen best → IsBestChild loads n ps u c.place
-best_all loads n ps u seen best c all is so_far =
-    let own : IsBestOf loads n ps u seen c.place c.cost = subst (BestSoFar loads n ps u seen) is so_far in
-    record {
-      cost = c.cost;
-      fits = own.fits;
-      before = own.before;
-      after = own.after;
-      child = sym all ∙ own.split;
-      earlier = own.earlier;
-      later = own.later;
-    }
-
-pub best_nowhere : (loads : List Load) (n : ℕ) (ps : Prefix) (u : ℕ) (seen : List Place) (best : Option Choice) → seen ≡ children loads n ps u → best ≡ None → BestSoFar loads n ps u seen best → All (IsTooFull loads n ps u) (children loads n ps u)
-best_nowhere loads n ps u seen best all is so_far = subst (All (IsTooFull loads n ps u)) all (subst (BestSoFar loads n ps u seen) is so_far)
-
 -- after some units of the order
 pub record IsPlacing (args cur : Held) (order : List ℕ) (i : ℕ) : Type 0 where
   pub loads : cur.loads ≡ args.loads
@@ -165,9 +133,6 @@ pub record IsPlacing (args cur : Held) (order : List ℕ) (i : ℕ) : Type 0 whe
   pub fits : Fits (items_of cur) cur.slots
   pub placed : (end : Prefix) → IsGreedyTo cur.loads cur.slots cur.places (drop i order) end → IsGreedyTo args.loads args.slots args.places order end
   pub stuck : IsStuck cur.loads cur.slots cur.places (drop i order) → IsStuck args.loads args.slots args.places order
-
-pub placing_none : (args : Held) (order : List ℕ) → IsReadyFor args.loads args.slots args.places order → Fits (items_of args) args.slots → IsPlacing args args order 0
-placing_none args order ready fits = record { loads = refl; slots = refl; ready = ready; fits = fits; placed = λ end h. h; stuck = λ h. h }
 
 -- the next unit is ready
 pub placing_ready : (args cur : Held) (order : List ℕ) (i u d : ℕ) → i < length order → u ≡ get_or order i d → IsPlacing args cur order i → IsReadyFor cur.loads cur.slots cur.places (u ∷ drop (i + 1) order)
@@ -196,13 +161,6 @@ placing_more args cur placed order i u d p within is made best placing =
 -- every child of it is too full
 pub placing_stuck : (args cur : Held) (order : List ℕ) (i u d : ℕ) → i < length order → u ≡ get_or order i d → All (IsTooFull cur.loads cur.slots cur.places u) (children cur.loads cur.slots cur.places u) → IsPlacing args cur order i → IsStuck args.loads args.slots args.places order
 placing_stuck args cur order i u d within is full placing = placing.stuck (subst (IsStuck cur.loads cur.slots cur.places) (sym (next_units order i u d within is)) (inl full))
-
--- no unit is left
-pub placing_whole : (args cur : Held) (order : List ℕ) (i : ℕ) → length order ≤ i → IsPlacing args cur order i → IsReadyFor cur.loads cur.slots cur.places [] × Fits (items_of cur) cur.slots
-placing_whole args cur order i past placing = (subst (IsReadyFor cur.loads cur.slots cur.places) (drop_all i order past) placing.ready, placing.fits)
-
-pub placing_end : (args cur : Held) (order : List ℕ) (i : ℕ) → length order ≤ i → IsPlacing args cur order i → IsGreedyTo args.loads args.slots args.places order cur.places
-placing_end args cur order i past placing = placing.placed cur.places (subst (λ o. IsGreedyTo cur.loads cur.slots cur.places o cur.places) (sym (drop_all i order past)) refl)
 
 -- nothing is sent where no unit has a place
 no_items : (loads : List Load) → items loads (no_places loads) ≡ []

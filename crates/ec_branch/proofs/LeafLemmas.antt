@@ -10,12 +10,12 @@ use Rattle.ec_loads.specs.Cost.{items, payload, tick_cost, IsFirstBusiest}
 use Rattle.ec_loads.specs.Held.{Held, AreLoads, items_of}
 use Rattle.ec_loads.specs.Legal.{Fits}
 use Rattle.ec_loads.specs.Search.{Prefix, TickHolds, FullHolds, AverageHolds, IsAtMost}
-use Rattle.ec_loads.specs.Shape.{tick, full, average, open_leaf}
+use Rattle.ec_loads.specs.Shape.{tick, average}
 use Rattle.ec_loads.proofs.CostLemmas.{tick_cost-mod, payload-mod}
 use Rattle.ec_loads.proofs.ItemLemmas.{DivideAll-loads}
 use Rattle.ec_bounds.specs.Laws.{IsFirstFullLeaf}
 use Rattle.ec_cert.specs.Shapes.{shape_of}
-use Rattle.ec_cert.specs.declared.tree.Tree.{TickLeaf, Average, OpenLeaf, the_lemmas}
+use Rattle.ec_cert.specs.declared.tree.Tree.{TickLeaf, Average, the_lemmas}
 use Rattle.ec_branch.specs.Walks.{IsClosing}
 
 -- what an answer says, said otherwise
@@ -87,9 +87,6 @@ closing_tick loads n v ps t h =
           (a, is, le_trans less under);
     }
 
-pub closing_full : (loads : List Load) (n : ℕ) (v : Option ℕ) (ps : Prefix) (t s : ℕ) → FullHolds loads n ps t s × (t ≤ 1023) → IsClosing loads n v ps (full t s)
-closing_full loads n v ps t s h = record { one = refl; whole = refl; short = h.1; holds = λ w low order. h.0 }
-
 pub closing_average : (loads : List Load) (n : ℕ) (v : Option ℕ) (ps : Prefix) → AverageHolds loads n v ps → IsClosing loads n v ps average
 closing_average loads n v ps (b, some, under) =
     record {
@@ -107,9 +104,6 @@ shape_of-Average = search (rules, the_lemmas)
 
 pub shape_of-TickLeaf : (t : ℕ) → shape_of (TickLeaf t) ≡ tick t
 shape_of-TickLeaf t = search (rules, the_lemmas)
-
-pub shape_of-OpenLeaf : shape_of OpenLeaf ≡ open_leaf
-shape_of-OpenLeaf = search (rules, the_lemmas)
 
 -- the average as a leaf in memory
 pub average_leaf : (loads : List Load) (n : ℕ) (v : Option ℕ) (ps : Prefix) → AverageHolds loads n v ps → IsClosing loads n v ps (shape_of Average)

@@ -1,9 +1,9 @@
 -- A prefix that the children reach is ready for the units after it.
 use Rattle.std.proofs.Common.{◌≡◌, ℕ, zero, suc, ◌+◌, ◌-◌, ◌<◌, ◌≤◌, ◌==◌, Bool, false, All, List, [], ◌∷◌, map, length, set, take, drop, get_or, slice_get, Option, Some, None, refl, ap, sym, subst, ◌∙◌, arith, take_all, length-drop}
 use Rattle.std.specs.List.{list_any}
-use Rattle.std.proofs.lemmas.List.{drop_more, drop_all, length-map, length-set}
+use Rattle.std.proofs.lemmas.List.{drop_more, length-map, length-set}
 use Rattle.std.proofs.lemmas.List.Elements.{All-nil, All-cons, All-head, All-tail}
-use Rattle.std.proofs.lemmas.Bool.{eqb-false, or_parts}
+use Rattle.std.proofs.lemmas.Bool.{or_parts}
 use Rattle.ec_units.specs.declared.slave.Place.{Place}
 use Rattle.ec_units.specs.declared.unit.Load.{Load}
 use Rattle.ec_units.specs.declared.unit.Unit.{Unit as SyncUnit}
@@ -15,6 +15,7 @@ use Rattle.ec_loads.specs.Search.{Prefix, nobody}
 use Rattle.ec_loads.specs.Shape.{Shape}
 use Rattle.ec_symmetry.specs.Reached.{IsInRange}
 use Rattle.ec_symmetry.specs.Orders.{has_repeat, IsOrder, with_places, prefix_of, AreChildren, IsReachedPrefix}
+use Rattle.ec_symmetry.proofs.FreeLemmas.{AreFree, AreFree-set, AreFree-none}
 use Rattle.ec_symmetry.proofs.InLemmas.{children-In}
 use Rattle.ec_branch.specs.Walks.{IsReadyFor, IsWalked}
 
@@ -31,33 +32,6 @@ abbrev free_count : Prefix → ℕ
 free_count [] = 0
 free_count (None ∷ ps) = suc (free_count ps)
 free_count (Some p ∷ ps) = free_count ps
-
--- no unit of the list has a place
-abbrev AreFree : Prefix → List ℕ → Type 0
-AreFree ps [] = Unit {0}
-AreFree ps (u ∷ us) = (slice_get ps u ≡ Some None) × AreFree ps us
-
-other_place : (ps : Prefix) (u w : ℕ) (o : Option Place) → (u ≡ w → ⊥) → slice_get (set ps u o) w ≡ slice_get ps w
-other_place [] u w o h = refl
-other_place (p ∷ ps) zero zero o h = absurd (h refl)
-other_place (p ∷ ps) zero (suc w) o h = refl
-other_place (p ∷ ps) (suc u) zero o h = refl
-other_place (p ∷ ps) (suc u) (suc w) o h = other_place ps u w o (λ e. h (ap suc e))
-
-AreFree-set : (ps : Prefix) (u : ℕ) (o : Option Place) (us : List ℕ) → list_any (λ w. u == w) us ≡ false → AreFree ps us → AreFree (set ps u o) us
-AreFree-set ps u o [] none free = tt
-AreFree-set ps u o (w ∷ us) none free =
-    let parts = or_parts (u == w) (list_any (λ x. u == x) us) none in
-    (other_place ps u w o (eqb-false u w parts.0) ∙ free.0, AreFree-set ps u o us parts.1 free.1)
-
-free_at : (loads : List Load) (u : ℕ) → u < length loads → slice_get (no_places loads) u ≡ Some None
-free_at [] u h = absurd (omega arith)
-free_at (l ∷ ls) zero h = refl
-free_at (l ∷ ls) (suc u) h = free_at ls u (omega arith)
-
-AreFree-none : (loads : List Load) (us : List ℕ) → All (λ u. u < length loads) us → AreFree (no_places loads) us
-AreFree-none loads [] all = tt
-AreFree-none loads (u ∷ us) all = (free_at loads u (All-head (λ w. w < length loads) u us all), AreFree-none loads us (All-tail (λ w. w < length loads) u us all))
 
 -- one unit less has no place
 count-set : (ps : Prefix) (u : ℕ) (q : Place) → slice_get ps u ≡ Some None → suc (free_count (set ps u (Some q))) ≡ free_count ps
@@ -135,11 +109,6 @@ children_long loads n ps (u ∷ order) (p ∷ places) h = let rest = children_lo
 pub order_of_loads : (us : List SyncUnit) (order : List ℕ) → IsOrder (length us) order → IsOrder (length (loads_of us)) order
 order_of_loads us order is = subst (λ k. IsOrder k order) (sym (length-map us load_of)) is
 
-pub below_places : (loads : List Load) (n : ℕ) (order : List ℕ) (held : Held) → held ≡ record { loads = loads; slots = n; places = no_places loads } → IsOrder (length loads) order → All (λ u. u < length held.places) order
-below_places loads n order held at is =
-    subst (λ (w : Held). All (λ u. u < length w.places) order) (sym at)
-    (subst (λ k. All (λ u. u < k) order) (sym (length-map loads (λ _. None))) is.below)
-
 -- what is held after the prefix
 pub held_prefix : (loads : List Load) (n : ℕ) (order : List ℕ) (prefix : List Place) (first held : Held) → first ≡ record { loads = loads; slots = n; places = no_places loads } → held ≡ record { loads = first.loads; slots = first.slots; places = with_places first.places order prefix } → held ≡ record { loads = loads; slots = n; places = prefix_of loads order prefix }
 held_prefix loads n order prefix first held at made = made ∙ ap (λ (w : Held). record { loads = w.loads; slots = w.slots; places = with_places w.places order prefix }) at
@@ -169,6 +138,3 @@ pub with_more : (ps : Prefix) (order : List ℕ) (places : List Place) (i u d : 
 with_more ps order places i u d e h k is =
     (λ j. with_places ps (drop_more order i d h j) (drop_more places i e k j))
     ∙ (λ j. with_places (set ps (sym is j) (Some (get_or places i e))) (drop (i + 1) order) (drop (i + 1) places))
-
-pub with_none : (ps : Prefix) (order : List ℕ) (places : List Place) (i : ℕ) → length places ≤ i → with_places ps (drop i order) (drop i places) ≡ ps
-with_none ps order places i h = ap (with_places ps (drop i order)) (drop_all i places h)

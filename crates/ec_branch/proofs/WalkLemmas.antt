@@ -1,6 +1,5 @@
 -- The walk over the prefixes: a value that falls, nodes that are counted, leaves that hold.
-use Rattle.std.proofs.Common.{◌≡◌, ℕ, zero, suc, ◌+◌, ◌<◌, ◌≤◌, ◌⊎◌, ◌++◌, min, inl, inr, Bool, true, List, [], ◌∷◌, map, length, set, get_or, Option, Some, None, Vec, Global, refl, sym, ap, ◌∙◌, subst, arith, le_trans, append-nil}
-use Rattle.std.specs.Option.{ForSome}
+use Rattle.std.proofs.Common.{◌≡◌, ℕ, zero, suc, ◌+◌, ◌<◌, ◌≤◌, ◌++◌, min, inl, inr, Bool, true, List, [], ◌∷◌, map, length, set, get_or, Option, Some, None, refl, sym, ap, ◌∙◌, subst, arith, le_trans}
 use Rattle.std.proofs.lemmas.Bool.{cases_lt}
 use Rattle.std.proofs.lemmas.List.{append_assoc}
 use Rattle.ec_units.specs.declared.slave.Place.{Place}
@@ -12,17 +11,12 @@ use Rattle.ec_loads.specs.Shape.{Shape, Shapes, tick}
 use Rattle.ec_loads.specs.Search.{Prefix, children, TickHolds, TreesWith, HaveShortTicks, HasShortTicks, IsAtMost, open_count, open_counts, node_count, node_counts}
 use Rattle.ec_symmetry.specs.Reached.{In, here, there, IsInRange}
 use Rattle.ec_symmetry.proofs.InLemmas.{children-In}
-use Rattle.ec_cert.specs.declared.tree.Tree.{Tree, Split, OpenLeaf, TickLeaf}
+use Rattle.ec_cert.specs.declared.tree.Tree.{Tree, TickLeaf}
 use Rattle.ec_cert.specs.Shapes.{shape_of, shapes_of}
-use Rattle.ec_cert.proofs.TreeLemmas.{shape_of-Split}
 use Rattle.ec_branch.specs.Frames.{Frame, IsFair}
 use Rattle.ec_branch.specs.Walks.{HoldsAt, IsReadyFor, IsClosing, HasCause, IsWalked}
-use Rattle.ec_branch.proofs.HeldLemmas.{with_place}
-use Rattle.ec_branch.proofs.LeafLemmas.{closing_tick, shape_of-TickLeaf, shape_of-OpenLeaf}
-
-pub IsAtMost-refl : (a : Option ℕ) → IsAtMost a a
-IsAtMost-refl (Some a) = omega arith
-IsAtMost-refl None = tt
+use Rattle.ec_bounds.proofs.HeldLemmas.{with_place}
+use Rattle.ec_branch.proofs.LeafLemmas.{closing_tick, shape_of-TickLeaf}
 
 pub IsAtMost-trans : (a b c : Option ℕ) → IsAtMost a b → IsAtMost b c → IsAtMost a c
 IsAtMost-trans (Some a) (Some b) (Some c) h k = le_trans h k
@@ -91,40 +85,6 @@ walking_more loads n floor ps u order kids p was now now2 had left left2 halted 
       cause = subst (λ k. HasCause k left2 halted2) (sym (opens-push ts t)) (cause-push _ _ left left2 _ halted halted2 counted stays so_far.cause step.cause);
     }
 
--- before the first child
-pub walking_none : (loads : List Load) (n floor : ℕ) (ps : Prefix) (u : ℕ) (order : List ℕ) (kids : List Place) (v : Option ℕ) (had : ℕ) (halted : Bool) (ts : List Tree) → kids ≡ [] → ts ≡ [] → IsWalking loads n floor ps u order kids v had v had halted ts
-walking_none loads n floor ps u order kids v had halted ts no_kids none =
-    subst (λ k. IsWalking loads n floor ps u order k v had v had halted ts) (sym no_kids)
-    (subst (IsWalking loads n floor ps u order [] v had v had halted) (sym none)
-    (record { holds = λ w low. tt; short = tt; lower = IsAtMost-refl v; fair = λ f. f; count = omega arith; cause = inl refl }))
-
--- a split after all its children
-pub walked_split :
-    (loads : List Load) (n floor : ℕ) (ps : Prefix) (u : ℕ) (order later : List ℕ) (kids : List Place)
-    (was first now : Option ℕ) (had had1 left : ℕ) (halted : Bool) (trees : Vec Tree Global) →
-    order ≡ u ∷ later → kids ≡ children loads n ps u → had1 + 1 ≡ had →
-    IsAtMost first was → (IsFair floor loads n was → IsFair floor loads n first) →
-    IsWalking loads n floor ps u later kids first had1 now left halted trees.items →
-    IsWalked loads n floor ps order was had now left halted (shape_of (Split trees))
-walked_split loads n floor ps u order later kids was first now had had1 left halted trees from all spent low keeps so_far =
-    let counted = so_far.count in
-    subst (λ o. IsWalked loads n floor ps o was had now left halted (shape_of (Split trees))) (sym from)
-    (subst (λ s. IsWalked loads n floor ps (u ∷ later) was had now left halted s) (sym (shape_of-Split trees))
-    (record {
-      holds = λ w k. subst (λ q. RowHolds loads n w (shapes_of trees.items) ps u later q) all (so_far.holds w k);
-      short = so_far.short;
-      lower = IsAtMost-trans now first was so_far.lower low;
-      fair = λ f. so_far.fair (keeps f);
-      count = omega (arith, counted, spent);
-      cause = so_far.cause;
-    }))
-
--- what a guide's bound keeps
-pub fair_bound : (floor : ℕ) (loads : List Load) (n : ℕ) (was got now : Option ℕ) → (now ≡ was) ⊎ (now ≡ got) → ForSome got (λ b. floor ≤ b) → IsFair floor loads n was → IsFair floor loads n now
-fair_bound floor loads n was got now (inl same) h f = subst (IsFair floor loads n) (sym same) f
-fair_bound floor loads n was (Some b) now (inr same) h f = subst (IsFair floor loads n) (sym same) (λ x low bounds. le_trans low (h b refl))
-fair_bound floor loads n was None now (inr same) h f = subst (IsFair floor loads n) (sym same) (λ x low bounds. tt)
-
 -- what a found plan keeps
 fair_found : (floor : ℕ) (loads : List Load) (n : ℕ) (plan : List Place) (c b : ℕ) → IsLegal loads n plan → IsBusiest (plan_items loads plan) n c → min c floor ≤ b → IsFair floor loads n (Some b)
 fair_found floor loads n plan c b legal busiest least x low bounds =
@@ -142,15 +102,6 @@ pub closed_walked :
 closed_walked loads n floor ps order was now had left halted tree closing spent low keeps =
     let one = closing.one in
     record { holds = λ w k. closing.holds w k order; short = closing.short; lower = low; fair = keeps; count = omega (arith, one, spent); cause = inl closing.whole }
-
--- a leaf that stays open
-pub open_walked :
-    (loads : List Load) (n floor : ℕ) (ps : Prefix) (order : List ℕ) (was now : Option ℕ) (had : ℕ) (halted : Bool) →
-    (had ≡ 0) ⊎ (halted ≡ true) → IsAtMost now was → (IsFair floor loads n was → IsFair floor loads n now) →
-    IsWalked loads n floor ps order was had now had halted (shape_of OpenLeaf)
-open_walked loads n floor ps order was now had halted why low keeps =
-    subst (IsWalked loads n floor ps order was had now had halted) (sym shape_of-OpenLeaf)
-    (record { holds = λ w k. tt; short = tt; lower = low; fair = keeps; count = omega arith; cause = inr why })
 
 -- the next unit of a ready order
 pub ready_at : (loads : List Load) (n : ℕ) (ps : Prefix) (order later : List ℕ) (k u : ℕ) → IsReadyFor loads n ps order → order ≡ k ∷ later → u ≡ k → IsReadyFor loads n ps (u ∷ later)
@@ -205,19 +156,6 @@ legal_found loads n ps order found ready none same fits =
       slots = range.slots;
       fits = subst (λ q. Fits (items loads q) n) (sym same) fits;
     }
-
--- a plan that the guide may be told
-pub told : (f : Frame) (h : Held) (order : List ℕ) (plan : List Place) → f.loads ≡ h.loads → f.slots ≡ h.slots → IsReadyFor h.loads h.slots h.places order → order ≡ [] → map Some plan ≡ h.places → Fits (items_of h) h.slots → IsLegal f.loads f.slots plan
-told f h order plan loads_are slots_are ready none same fits =
-    subst (λ n. IsLegal f.loads n plan) (sym slots_are)
-    (subst (λ ls. IsLegal ls h.slots plan) (sym loads_are) (legal_found h.loads h.slots h.places order plan ready none same fits))
-
--- its busiest tick
-pub told_busiest : (f : Frame) (h : Held) (plan : List Place) (c t : ℕ) → f.loads ≡ h.loads → f.slots ≡ h.slots → map Some plan ≡ h.places → IsFirstBusiest (items_of h) h.slots c t → IsBusiest (plan_items f.loads plan) f.slots c
-told_busiest f h plan c t loads_are slots_are same first =
-    subst (λ n. IsBusiest (plan_items f.loads plan) n c) (sym slots_are)
-    (subst (λ ls. IsBusiest (plan_items ls plan) h.slots c) (sym loads_are)
-    (subst (λ q. IsBusiest (items h.loads q) h.slots c) (sym same) first.busiest))
 
 -- a cost that no tick of the value reaches is below it
 below_value : (loads : List Load) (n : ℕ) (v : Option ℕ) (ps : Prefix) (c t : ℕ) → tick_cost (items loads ps) n t ≡ c → ((i : ℕ) → ¬ (TickHolds loads n v ps i)) → IsAtMost (Some c) v
@@ -281,7 +219,3 @@ frame_units first now held cur placed u o same units at made = ap (λ (f : Frame
 
 pub frame_slots : (first now : Frame) (held cur placed : Held) (u : ℕ) (o : Option Place) → now ≡ first → first.slots ≡ held.slots → cur ≡ held → placed ≡ with_place cur u o → now.slots ≡ placed.slots
 frame_slots first now held cur placed u o same slots at made = ap (λ (f : Frame). f.slots) same ∙ slots ∙ sym (ap (λ (w : Held). w.slots) at) ∙ sym (ap (λ (w : Held). w.slots) made)
-
--- no child is left
-pub kids_end : (done rest kids : List Place) → rest ≡ [] → done ++ rest ≡ kids → done ≡ kids
-kids_end done rest kids none so_far = sym (append-nil done) ∙ ap (λ w. done ++ w) (sym none) ∙ so_far

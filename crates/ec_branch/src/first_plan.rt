@@ -11,10 +11,10 @@ ghost use Rattle.ec_branch.specs.declared.first_plan.Choice.{Choice};
 ghost use Rattle.ec_branch.specs.Greedy.{IsTooFull, IsBestChild, IsGreedyTo, IsStuck, IsGreedyPlan, HasNoGreedyPlan};
 ghost use Rattle.ec_branch.specs.Walks.{IsReadyFor};
 
-use crate::children::children_of;
 use crate::order::search_order;
 use crate::plan::whole;
 use ec_loads::{Loads, Plan};
+use ec_symmetry::children_of;
 use ec_units::{Place, Units};
 use std::alloc::{AllocError, Global};
 

@@ -1,7 +1,6 @@
 //! The search below a prefix: the order of the units, a first plan, and trees whose leaves hold.
 #![tactic(auto)]
 
-mod children;
 mod exploring;
 mod first_plan;
 mod guide;

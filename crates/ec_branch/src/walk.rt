@@ -6,7 +6,6 @@ ghost use Rattle.ec_cert.specs.Shapes.{shape_of};
 ghost use Rattle.ec_branch.specs.Frames.{Frame};
 ghost use Rattle.ec_branch.specs.Walks.{IsReadyFor, IsWalked};
 
-use crate::children::children_of;
 use crate::guide::Guide;
 use crate::leaf::{leaf_of, top_of};
 use crate::plan::whole;
@@ -14,6 +13,7 @@ use crate::value::{Search, lesser};
 use ec_bounds::Rest;
 use ec_cert::Tree;
 use ec_loads::Loads;
+use ec_symmetry::children_of;
 use std::alloc::{AllocError, Global};
 
 /// Explores below the places so far, unit by unit in this order; the recursion is as deep as the order is long.

@@ -36,13 +36,6 @@ ends one e front count i p total lt h so_far =
     let k : count - i ≡ suc (count - (i + 1)) = omega arith in
     fails_as e (one p) total (λ f is. let here : with_front front (many_from one (count - i) p) ≡ Err f = rw (k, is) refl in sym so_far ∙ here) h
 
-pub is_done : {X S : Type 0} (one : S → Result (X × S) CertFault) (front : List X) (count i : ℕ) (p : S) (total : Result (List X × S) CertFault) → count ≤ i
-    → with_front front (many_from one (count - i) p) ≡ total → total ≡ Ok (front, p)
-is_done one front count i p total le so_far =
-    let k : count - i ≡ 0 = omega arith in
-    let here : with_front front (many_from one (count - i) p) ≡ Ok (front, p) = rw k (ap (λ l. Ok (l, p)) (append-nil front)) in
-    sym so_far ∙ here
-
 -- ---- units, for as long as a line of one is next
 
 pub units_go_on : (front : List UnitLine) (count i : ℕ) (p : At) (u : UnitLine) (after : At) (total : Result (List UnitLine × At) CertFault) → i < count → is_unit_next p ≡ true → unit_at p ≡ Ok (u, after)

@@ -1,6 +1,6 @@
 -- A tree in memory, level by level.
 use Rattle.std.proofs.Common.{◌≡◌, ◌↔◌, ℕ, zero, suc, ◌+◌, ◌-◌, ◌<◌, ◌≤◌, List, [], ◌∷◌, length, drop, get_or, Vec, Global, refl, ap, sym, subst, ◌∙◌, arith, rules}
-use Rattle.std.proofs.lemmas.List.{drop_more, drop_all}
+use Rattle.std.proofs.lemmas.List.{drop_more}
 use Rattle.ec_loads.specs.Shape.{Shape, split, more, shape_count}
 use Rattle.ec_cert.specs.Shapes.{shape_of, shapes_of, shapes}
 use Rattle.ec_cert.specs.Text.{HasLevels, HaveLevels}
@@ -23,17 +23,6 @@ shapes_of-drop ts i d h = ap shapes_of (drop_more ts i d h)
 -- what has been looked at has the levels, so the rest decides
 abbrev pub SameLevels : ℕ → List Tree → ℕ → Type 0
 SameLevels d ts i = HaveLevels d (shapes_of (drop i ts)) ↔ HaveLevels d (shapes_of ts)
-
-pub levels_more : (d : ℕ) (ts : List Tree) (i : ℕ) (t : Tree) → i < length ts → HasLevels d (shape_of (get_or ts i t)) → SameLevels d ts i → SameLevels d ts (i + 1)
-levels_more d ts i t h here same =
-    let e = shapes_of-drop ts i t h in
-    (λ rest. same.0 (subst (HaveLevels d) (sym e) (here, rest)), λ all. (subst (HaveLevels d) e (same.1 all)).1)
-
-pub levels_here : (d : ℕ) (ts : List Tree) (i : ℕ) (t : Tree) → i < length ts → SameLevels d ts i → HaveLevels d (shapes_of ts) → HasLevels d (shape_of (get_or ts i t))
-levels_here d ts i t h same all = (subst (HaveLevels d) (shapes_of-drop ts i t h) (same.1 all)).0
-
-pub levels_end : (d : ℕ) (ts : List Tree) (i : ℕ) → length ts ≤ i → SameLevels d ts i → HaveLevels d (shapes_of ts)
-levels_end d ts i h same = same.0 (subst (λ l. HaveLevels d (shapes_of l)) (sym (drop_all i ts h)) tt)
 
 pub levels_split : (d : ℕ) (t : Tree) (v : Vec Tree Global) → (0 < d) → t ≡ Split v
     → HasLevels d (shape_of t) ↔ ((1 ≤ length v.items) × (length v.items ≤ 480) × HaveLevels (d - 1) (shapes_of v.items))

@@ -1,3 +1,4 @@
+pub mod BestPlan
 pub mod Reading
 pub mod Shapes
 pub mod Text

@@ -1,13 +1,13 @@
 -- From what is found in a certificate to what the checker answers.
-use Rattle.std.proofs.Common.{◌≡◌, ℕ, ◌<◌, List, length, Option, Some, None, Result, Ok, Err, All, refl, ap, sym, subst, ◌∙◌, arith}
+use Rattle.std.proofs.Common.{◌≡◌, ℕ, ◌<◌, List, length, Option, Some, None, Result, Ok, Err, All, refl, ap, sym, subst, ◌∙◌}
 use Rattle.std.proofs.lemmas.List.{length-map}
 use Rattle.ec_units.specs.declared.unit.Unit.{Unit as SyncUnit}
 use Rattle.ec_units.specs.declared.unit.Load.{Load}
 use Rattle.ec_units.specs.Load.{load_of, loads_of}
-use Rattle.ec_loads.specs.declared.item.Item.{Item}
-use Rattle.ec_loads.specs.Cost.{plan_items, IsBusiest}
+use Rattle.ec_loads.specs.Cost.{plan_items}
 use Rattle.ec_loads.specs.Held.{Held, no_places}
 use Rattle.ec_loads.specs.Search.{IsTree, BoundsAll}
+use Rattle.ec_loads.proofs.CostLemmas.{one_busiest}
 use Rattle.ec_loads.proofs.ItemLemmas.{AreLoads-loads_of}
 use Rattle.ec_cert.specs.declared.cert.Best.{Best}
 use Rattle.ec_cert.specs.Shapes.{CertView}
@@ -16,7 +16,8 @@ use Rattle.ec_checker.specs.declared.fault.CheckFault.{CheckFault}
 use Rattle.ec_checker.specs.declared.fault.CheckFault.TheVariants as fault
 use Rattle.ec_checker.specs.declared.fault.Verdict.{Verdict}
 use Rattle.ec_checker.specs.declared.fault.Verdict.TheVariants as verdict
-use Rattle.ec_checker.specs.Certified.{IsBestPlan, HasHead, IsCertified, value_of, verdict_of, tree_found, IsPlanFault, IsNodeFault, IsFaultOf, IsClaim}
+use Rattle.ec_cert.specs.BestPlan.{value_of, IsBestPlan}
+use Rattle.ec_checker.specs.Certified.{HasHead, IsCertified, verdict_of, tree_found, IsPlanFault, IsNodeFault, IsFaultOf, IsClaim}
 use Rattle.ec_checker.specs.Judged.{tree_judged}
 use Rattle.ec_checker.specs.Laws.{FaultsRefute}
 use Rattle.ec_checker.proofs.FoundLemmas.{Found, found_tree}
@@ -65,14 +66,6 @@ claim_from law units n c v is said =
     let loads = loads_of units in
     let below : All (λ u. u < length loads) c.order = subst (λ k. All (λ u. u < k) c.order) (sym (length-map units load_of)) is.head.order.below in
     subst (IsClaim loads n c.best) (sym said) (claim_of loads n c.best (law loads n (value_of c.best) c.tree c.order (AreLoads-loads_of units) below is.tree) is.head.best)
-
-pub one_busiest : (xs : List Item) (n a b : ℕ) → IsBusiest xs n a → IsBusiest xs n b → a ≡ b
-one_busiest xs n a b h k =
-    let e = h.reached.1 in
-    let f = k.reached.1 in
-    let low = k.most h.reached.0 in
-    let high = h.most k.reached.0 in
-    omega (arith, e, f, low, high)
 
 pub plan_refutes : (loads : List Load) (n : ℕ) (best : Option Best) (e : CheckFault) → IsPlanFault loads n best e → ¬ (IsBestPlan loads n best)
 plan_refutes loads n best fault.OutOfMemory h right = absurd h

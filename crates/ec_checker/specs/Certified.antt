@@ -11,6 +11,7 @@ use Rattle.ec_loads.specs.Search.{IsTree, IsLeast, HasNoPlan}
 use Rattle.ec_symmetry.specs.Orders.{IsOrder}
 use Rattle.ec_cert.specs.declared.lists.UnitLine.{UnitLine}
 use Rattle.ec_cert.specs.declared.cert.Best.{Best}
+use Rattle.ec_cert.specs.BestPlan.{value_of, IsBestPlan}
 use Rattle.ec_cert.specs.Shapes.{CertView}
 use Rattle.ec_checker.specs.declared.fault.CheckFault.{CheckFault}
 use Rattle.ec_checker.specs.declared.fault.CheckFault.TheVariants as fault
@@ -29,15 +30,6 @@ lines_of units = map line_of units
 pub record IsFor (units : List SyncUnit) (n : ℕ) (c : CertView) : Type 0 where
   pub slots : c.slots ≡ n
   pub lines : c.units ≡ lines_of units
-
-abbrev pub value_of : Option Best → Option ℕ
-value_of None = None
-value_of (Some b) = Some b.busiest
-
--- the best plan is legal and its busiest tick costs what is stated
-abbrev pub IsBestPlan : List Load → ℕ → Option Best → Type 0
-IsBestPlan loads n None = Unit {0}
-IsBestPlan loads n (Some b) = IsLegal loads n b.plan.places × IsBusiest (plan_items loads b.plan.places) n b.busiest
 
 -- all that stands before the tree is right
 pub record HasHead (units : List SyncUnit) (n : ℕ) (c : CertView) : Type 0 where

@@ -1,6 +1,5 @@
 -- What is found in a tree, node by node, each before its children.
 use Rattle.std.specs.Prelude.{◌≡◌, ℕ, ◌+◌, ◌*◌, ◌==◌, ◌&&◌, nat_lt, nat_le, min, Bool, false, if◌then◌else◌, List, [], ◌∷◌, length, set, slice_get, Option, Some, None, Result, Ok, Err}
-use Rattle.std.specs.List.{list_any}
 use Rattle.ec_hyper.specs.Lcm.{lcm_of}
 use Rattle.ec_units.specs.declared.slave.Place.{Place}
 use Rattle.ec_units.specs.declared.unit.Load.{Load}
@@ -10,14 +9,6 @@ use Rattle.ec_loads.specs.Shape.{Shape, Shapes, split, tick, full, average, open
 use Rattle.ec_loads.specs.Search.{Prefix, children, least_raw}
 use Rattle.ec_checker.specs.declared.fault.CheckFault.{CheckFault}
 use Rattle.ec_checker.specs.declared.fault.CheckFault.TheVariants as fault
-
--- a place in this slot is given
-abbrev pub has_slot : ℕ → Option Place → Bool
-has_slot s None = false
-has_slot s (Some p) = s == p.slot
-
-abbrev pub shares_slot : ℕ → Prefix → Bool
-shares_slot s ps = list_any (has_slot s) ps
 
 -- no unit of the order has a place when its turn comes
 abbrev pub IsReady : Prefix → List ℕ → Type 0

@@ -3,7 +3,6 @@
 
 mod best;
 mod checking;
-mod children;
 mod fault;
 mod law;
 mod leaf;

@@ -5,12 +5,12 @@ ghost use Rattle.ec_bounds.specs.Left.{IsRestOf};
 ghost use Rattle.ec_cert.specs.Shapes.{shape_of};
 ghost use Rattle.ec_checker.specs.Judged.{IsReady, tree_judged};
 
-use crate::children::children_of;
 use crate::fault::CheckFault;
 use crate::leaf::{average_holds, full_holds, judged, tick_holds};
 use ec_bounds::Rest;
 use ec_cert::Tree;
 use ec_loads::Loads;
+use ec_symmetry::children_of;
 
 /// Whether a tree holds at the places so far: the number of the node after it, or its first fault. The places are as
 /// before afterwards. Each node is visited once, and no recursion is deeper than the order is long.

@@ -1,4 +1,4 @@
--- The cost of a tick hangs on the tick modulo the hyperperiod alone.
+-- The cost of a tick hangs on the tick modulo the hyperperiod alone; the greatest cost is one number.
 use Rattle.std.proofs.Common.{◌≡◌, ℕ, zero, suc, ◌+◌, ◌%◌, ◌<◌, ◌≤◌, ◌==◌, ◌&&◌, ◌||◌, cond, List, [], ◌∷◌, All, Option, Some, None, refl, ap, subst, arith}
 use Prim.Native.Nat.{◌∣◌}
 use native.Mathlib.Nat.{mod-mod_of_dvd}
@@ -9,7 +9,7 @@ use Rattle.ec_units.specs.declared.slave.Place.{Place}
 use Rattle.ec_units.specs.declared.unit.Load.{Load}
 use Rattle.ec_units.specs.Load.{periods_of}
 use Rattle.ec_loads.specs.declared.item.Item.{Item}
-use Rattle.ec_loads.specs.Cost.{items, item, is_sent, carried, payload, slot_cost, sum_below, tick_cost, IsFirstBusiest, DivideAll}
+use Rattle.ec_loads.specs.Cost.{items, item, is_sent, carried, payload, slot_cost, sum_below, tick_cost, IsBusiest, IsFirstBusiest, DivideAll}
 use Rattle.ec_loads.specs.Legal.{Fits}
 
 -- two ticks that no item tells apart
@@ -72,6 +72,15 @@ payload-mod xs h t s d = payload-alike xs (t % h) t s (AreAlike-mod xs h t d)
 -- what fits below h fits in every tick
 pub Fits-below : (xs : List Item) (n h : ℕ) → 0 < h → DivideAll h xs → ((t s : ℕ) → t < h → s < n → payload xs t s ≤ 1498) → Fits xs n
 Fits-below xs n h pos d below t s within = subst (λ w. w ≤ 1498) (payload-mod xs h t s d) (below (t % h) s (mod_below t h pos) within)
+
+-- the busiest tick has one cost
+pub one_busiest : (xs : List Item) (n a b : ℕ) → IsBusiest xs n a → IsBusiest xs n b → a ≡ b
+one_busiest xs n a b h k =
+    let e = h.reached.1 in
+    let f = k.reached.1 in
+    let low = k.most h.reached.0 in
+    let high = h.most k.reached.0 in
+    omega (arith, e, f, low, high)
 
 -- the items of loads have their periods
 pub DivideAll-items : (loads : List Load) (places : List (Option Place)) (h : ℕ) → All (λ p. p ∣ h) (periods_of loads) → DivideAll h (items loads places)

@@ -7,3 +7,4 @@ pub mod RenameLemmas
 pub mod SetLemmas
 pub mod InLemmas
 pub mod ReachLemmas
+pub mod FreeLemmas

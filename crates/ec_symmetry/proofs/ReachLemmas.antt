@@ -1,18 +1,16 @@
 -- Prefixes that the children reach, and places that are kept in the order in which units got them.
-use Rattle.std.proofs.Common.{◌≡◌, ℕ, ◌<◌, ◌==◌, ◌||◌, List, [], ◌∷◌, ◌++◌, map, length, set, get_or, slice_get, All, Some, None, refl, sym, ap, ◌∙◌, arith, Option, subst, ◌≤◌}
+use Rattle.std.proofs.Common.{◌≡◌, ℕ, ◌<◌, ◌==◌, ◌||◌, List, [], ◌∷◌, ◌++◌, map, length, set, get_or, slice_get, All, Some, None, refl, sym, ap, ◌∙◌, arith}
 use Rattle.std.proofs.lemmas.List.Elements.{All-head, All-tail}
 use Rattle.ec_units.specs.declared.slave.Place.{Place}
 use Rattle.ec_units.specs.declared.unit.Load.{Load}
 use Rattle.ec_loads.specs.Held.{no_places}
-use Rattle.ec_loads.specs.Search.{Prefix, Extends, slots_in, used, different_numbers, nowhere, HasTick, BoundsAll}
-use Rattle.ec_loads.specs.Legal.{IsLegal}
-use Rattle.ec_symmetry.specs.Renamed.{renamed}
-use Rattle.ec_symmetry.specs.Reached.{IsCanonical, IsReached, placed}
+use Rattle.ec_loads.specs.Search.{Prefix, Extends, slots_in, used, different_numbers, nowhere}
+use Rattle.ec_symmetry.specs.Reached.{IsCanonical, placed}
 use Rattle.ec_symmetry.proofs.SlotLemmas.{slots_of}
 use Rattle.ec_symmetry.proofs.SetLemmas.{different-alike}
 use Rattle.ec_symmetry.proofs.InLemmas.{children-In}
 use Rattle.ec_symmetry.proofs.UsedLemmas.{member, member-set, or_swap, NoGap, slots-none}
-use Rattle.ec_symmetry.proofs.CanonLemmas.{Extends-set, step_next, canon-all, canon-legal}
+use Rattle.ec_symmetry.proofs.CanonLemmas.{Extends-set, step_next}
 
 -- children leave no gap
 pub NoGap-placed : (loads : List Load) (n : ℕ) (ps : Prefix) (order : List ℕ) (plan : List Place) → All (λ u. u < length loads) order → length plan ≡ length loads → Extends ps (map Some plan) → NoGap ps → IsCanonical loads n ps order plan → NoGap (placed ps order plan)
@@ -43,11 +41,3 @@ SameSlots-more ps places u p none same_slots =
 -- so the number of different slots of the places is that of the prefix
 pub used-same : (ps : Prefix) (places : List Place) → SameSlots ps places → used ps ≡ different_numbers (slots_of places)
 used-same ps places same_slots = different-alike (slots_in ps) (slots_of places) same_slots.members
-
--- what bounds the legal plans that the children reach bounds every legal plan
-pub bounds-all : (loads : List Load) (n : ℕ) (v : Option ℕ) (order : List ℕ) → All (λ u. u < length loads) order → ((other : List Place) → IsLegal loads n other → IsReached loads n order other → HasTick loads n v other) → BoundsAll loads n v
-bounds-all loads n v order all reached plan legal =
-    let other = renamed 0 order plan in
-    let c = canon-all loads n order plan all (record { whole = legal.whole; phases = legal.phases; slots = legal.slots }) in
-    let b = reached other (canon-legal loads n (no_places loads) order plan other c legal) c.canonical in
-    (b.0, b.1, b.2, subst (λ w. b.0 ≤ w) (c.costs b.2) b.3)

@@ -1,8 +1,9 @@
--- Different slots, one place after the other.
-use Rattle.std.proofs.Common.{◌≡◌, ℕ, ◌+◌, ◌<◌, ◌≤◌, ◌==◌, ◌||◌, if◌then◌else◌, Bool, true, false, List, [], ◌∷◌, map, length, drop, get_or, refl, ap, sym, ◌∙◌, add-one, drop-cons, drop_of_length-le, take, take_all, length-drop, arith, ◌-◌}
+-- Different slots, one place after the other, and the slots that a prefix uses.
+use Rattle.std.proofs.Common.{◌≡◌, ℕ, zero, suc, ◌+◌, ◌<◌, ◌≤◌, ◌==◌, ◌||◌, if◌then◌else◌, Bool, true, false, List, [], ◌∷◌, ◌++◌, map, length, set, drop, get_or, Option, Some, None, refl, ap, sym, ◌∙◌, add-one, append-nil, not-suc-le-zero, le_of_suc-le-suc, drop-cons, drop_of_length-le, take, take_all, length-drop, arith, ◌-◌}
 use Rattle.std.specs.List.{list_any}
+use Rattle.std.proofs.lemmas.List.{take_more_set, map-append}
 use Rattle.ec_units.specs.declared.slave.Place.{Place}
-use Rattle.ec_loads.specs.Search.{different_numbers}
+use Rattle.ec_loads.specs.Search.{Prefix, slots_in, different_numbers}
 use Rattle.ec_symmetry.specs.Choices.{shares_slot}
 
 -- the slots of places
@@ -30,3 +31,27 @@ slots_same ps i d found h is other = slots_step ps i d found h is ∙ ap (λ b. 
 
 pub slots_end : (ps : List Place) (i : ℕ) → length ps ≤ i → different_numbers (slots_of (drop i ps)) ≡ 0
 slots_end ps i h = rw (drop_of_length-le ps h) refl
+
+-- what one unit adds
+abbrev one_slot : Option Place → List ℕ
+one_slot None = []
+one_slot (Some p) = p.slot ∷ []
+
+slots-suc : (ps : Prefix) (i : ℕ) (e : Option Place) → i < length ps → slots_in (take (suc i) ps) ≡ slots_in (take i ps) ++ one_slot (get_or ps i e)
+slots-suc [] i e h = absurd (not-suc-le-zero h)
+slots-suc (None ∷ ps) zero e h = refl
+slots-suc (Some p ∷ ps) zero e h = refl
+slots-suc (None ∷ ps) (suc i) e h = slots-suc ps i e (le_of_suc-le-suc h)
+slots-suc (Some p ∷ ps) (suc i) e h = ap (λ w. p.slot ∷ w) (slots-suc ps i e (le_of_suc-le-suc h))
+
+-- one more unit, without a place
+pub gather_none : (ps : Prefix) (i : ℕ) (e : Option Place) → i < length ps → get_or ps i e ≡ None → slots_in (take (i + 1) ps) ≡ slots_in (take i ps)
+gather_none ps i e h none = rw add-one (slots-suc ps i e h ∙ (λ j. slots_in (take i ps) ++ one_slot (none j)) ∙ append-nil _)
+
+-- one more unit with a place, which is written into the table
+pub gather_some : (ps : Prefix) (table : List Place) (i n : ℕ) (e : Option Place) (p : Place) → i < length ps → n < length table → get_or ps i e ≡ Some p → slots_of (take n table) ≡ slots_in (take i ps) → slots_of (take (n + 1) (set table n p)) ≡ slots_in (take (i + 1) ps)
+gather_some ps table i n e p h room some so_far =
+    ap slots_of (take_more_set table n p room)
+    ∙ map-append (λ (q : Place). q.slot) (take n table) (p ∷ [])
+    ∙ ap (λ w. w ++ p.slot ∷ []) so_far
+    ∙ sym (rw add-one (slots-suc ps i e h ∙ (λ j. slots_in (take i ps) ++ one_slot (some j))))

@@ -1,9 +1,11 @@
 //! The places that a unit can take after a prefix.
 
-ghost use Rattle.std.specs.Prelude.{◌≡◌, if◌then◌else◌};
+ghost use Rattle.std.specs.Prelude.{◌≡◌, ℕ, ◌<◌, ◌≤◌, if◌then◌else◌, length, map, get_or};
 ghost use Rattle.std.specs.Iterator.{YieldsFirst, item_count};
-ghost use Rattle.ec_loads.specs.Search.{places_for};
+ghost use Rattle.ec_loads.specs.Search.{places_for, different_numbers, nobody, children};
 
+use crate::slots::{NO_PLACES, gather, used_slots};
+use ec_loads::Loads;
 use ec_units::Place;
 use std::iter::FusedIterator;
 use std::marker::Model;
@@ -45,6 +47,31 @@ pub fn choices(period: u16, slots: u8, used: u8, turned: bool) -> Children
             (_, false) => period,
         },
     }
+}
+
+/// The places that a unit can take after these places of the units before it, in child order. The places lie in any
+/// order, and those that the loads hold don't count. Takes no memory.
+pub fn children_after(loads: &Loads, unit: usize, before: &[Place]) -> Children
+    requires inside { unit < length loads.now.loads }
+    requires few { length before.now ≤ length loads.now.loads }
+    ensures { result ≡ places_for (get_or loads.now.loads unit nobody).period loads.now.slots (different_numbers (map (λ p. p.slot) before.now)) }
+{
+    choices(
+        loads.loads()[unit].period,
+        loads.slots(),
+        used_slots(before),
+        false,
+    )
+}
+
+/// The places that a unit can take after the places so far, in child order. Takes no memory.
+pub fn children_of(loads: &Loads, unit: usize) -> Children
+    requires { unit < length loads.now.places }
+    ensures { result ≡ children loads.now.loads loads.now.slots loads.now.places unit }
+{
+    let mut table = NO_PLACES;
+    let count = gather(loads.places(), &mut table);
+    children_after(loads, unit, &table[..count])
 }
 
 impl Iterator for Children {

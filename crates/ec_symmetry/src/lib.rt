@@ -6,7 +6,7 @@ mod law;
 mod rename;
 mod slots;
 
-pub use child::{Children, choices};
+pub use child::{Children, children_after, children_of, choices};
 pub use law::{every_plan_is_reached, slots_have_no_gap};
 pub use rename::canonical;
 pub use slots::used_slots;

@@ -1,7 +1,7 @@
 //! The slots that places use.
 
-ghost use Rattle.std.specs.Prelude.{◌≡◌, ℕ, ◌≤◌, length, map};
-ghost use Rattle.ec_loads.specs.Search.{different_numbers};
+ghost use Rattle.std.specs.Prelude.{◌≡◌, ℕ, ◌≤◌, length, take, map};
+ghost use Rattle.ec_loads.specs.Search.{different_numbers, slots_in};
 ghost use Rattle.ec_symmetry.specs.Choices.{shares_slot as shares_slot_of};
 
 use ec_units::Place;
@@ -22,6 +22,28 @@ pub fn used_slots(places: &[Place]) -> u8
     let mut count = 0u8;
     for i in 0..places.len() {
         if !shares_slot(&places[i], &places[i + 1..]) {
+            count += 1;
+        }
+    }
+    count
+}
+
+/// The most units.
+const MOST_UNITS: usize = 48;
+
+/// A table with room for the place of each unit.
+pub(crate) const NO_PLACES: [Place; MOST_UNITS] = [Place { phase: 0, slot: 0 }; MOST_UNITS];
+
+/// Writes the places that are given into a table, in file order, and says how many.
+pub(crate) fn gather(places: &[Option<Place>], table: &mut [Place; MOST_UNITS]) -> usize
+    requires { length places.now ≤ 48 }
+    ensures slots { map (λ p. p.slot) (take result table.new) ≡ slots_in places.now }
+    ensures count { result ≤ length places.now }
+{
+    let mut count = 0usize;
+    for i in 0..places.len() {
+        if let Some(place) = places[i] {
+            table[count] = place;
             count += 1;
         }
     }

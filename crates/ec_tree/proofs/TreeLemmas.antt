@@ -1,34 +1,15 @@
 -- A tree that holds at a prefix bounds every legal plan that the children reach from it.
-use Rattle.std.proofs.Common.{◌≡◌, ℕ, zero, suc, ◌<◌, ◌≤◌, List, [], ◌∷◌, map, length, set, get_or, Option, Some, None, All, refl, sym, subst, inl, inr, ◌⊎◌, arith}
+use Rattle.std.proofs.Common.{ℕ, ◌<◌, ◌≤◌, List, [], ◌∷◌, map, length, set, get_or, Option, Some, All, sym, subst, inl, inr}
 use Rattle.ec_units.specs.declared.slave.Place.{Place}
 use Rattle.ec_units.specs.declared.unit.Load.{Load}
 use Rattle.ec_loads.specs.Held.{AreLoads, no_places}
 use Rattle.ec_loads.specs.Legal.{IsLegal}
 use Rattle.ec_loads.specs.Shape.{Shape, Shapes, split, tick, full, average, open_leaf, no_shapes, more}
-use Rattle.ec_loads.specs.Search.{Prefix, Extends, done, free, same, nowhere, children, TreeWith, TreesWith, IsTree, HasTick}
-use Rattle.ec_symmetry.specs.Reached.{In, here, there, IsCanonical, CostsAlike, EveryPlanIsReached}
+use Rattle.ec_loads.specs.Search.{Prefix, Extends, nowhere, children, TreeWith, TreesWith, IsTree, HasTick}
+use Rattle.ec_symmetry.specs.Reached.{In, IsCanonical, CostsAlike, EveryPlanIsReached}
+use Rattle.ec_symmetry.proofs.InLemmas.{In-cases}
+use Rattle.ec_symmetry.proofs.CanonLemmas.{Extends-set, Extends-none}
 use Rattle.ec_bounds.proofs.LeafLemmas.{tick-bounds, full-bounds, average_leaf-bounds}
-
-In-cases : {A : Type 0} {x y : A} {xs : List A} → In x (y ∷ xs) → (x ≡ y) ⊎ In x xs
-In-cases here = inl refl
-In-cases (there m) = inr m
-
--- a plan that extends a prefix extends it with its own place for one more unit
-pub Extends-set : (ps : Prefix) (plan : List Place) (u : ℕ) → Extends ps (map Some plan) → Extends (set ps u (Some (get_or plan u nowhere))) (map Some plan)
-Extends-set [] [] u e = done
-Extends-set [] (q ∷ qs) u e = elim e [ ]
-Extends-set (None ∷ ps) [] u e = elim e [ ]
-Extends-set (Some p ∷ ps) [] u e = elim e [ ]
-Extends-set (None ∷ ps) (q ∷ qs) zero (free e) = same e
-Extends-set (None ∷ ps) (q ∷ qs) (suc u) (free e) = free (Extends-set ps qs u e)
-Extends-set (Some p ∷ ps) (q ∷ qs) zero (same e) = same e
-Extends-set (Some p ∷ ps) (q ∷ qs) (suc u) (same e) = same (Extends-set ps qs u e)
-
-pub Extends-none : (loads : List Load) (plan : List Place) → length plan ≡ length loads → Extends (no_places loads) (map Some plan)
-Extends-none [] [] e = done
-Extends-none [] (p ∷ ps) e = absurd (omega arith)
-Extends-none (l ∷ ls) [] e = absurd (omega arith)
-Extends-none (l ∷ ls) (p ∷ ps) e = free (Extends-none ls ps (omega arith))
 
 -- no open leaf is allowed
 abbrev closed : Prefix → List ℕ → Type 0

@@ -6,6 +6,7 @@ mod branch;
 mod cert;
 mod checker;
 mod guide;
+mod loads;
 mod samples;
 mod symmetry;
 mod units;

@@ -8,12 +8,12 @@ use Rattle.ec_units.specs.Load.{loads_of}
 use Rattle.ec_loads.specs.Held.{no_places}
 use Rattle.ec_loads.specs.Shape.{Shape, Shapes, split, tick, full, average, open_leaf, no_shapes, more}
 use Rattle.ec_loads.specs.Search.{Prefix, children, TreeWith, TreesWith, BoundsAll, HasNoPlan}
-use Rattle.ec_book.specs.Kept.{IsBestPlan as BookBest}
 use Rattle.ec_cert.specs.declared.lists.UnitLine.{UnitLine}
 use Rattle.ec_cert.specs.declared.cert.Best.{Best}
+use Rattle.ec_cert.specs.BestPlan.{value_of}
 use Rattle.ec_cert.specs.Shapes.{CertView}
 use Rattle.ec_tree.specs.Trees.{TreesBound}
-use Rattle.ec_checker.specs.Certified.{lines_of, value_of, IsBestPlan}
+use Rattle.ec_checker.specs.Certified.{lines_of}
 use Rattle.ec_checker.specs.Laws.{FaultsRefute}
 use Rattle.ec_workers.specs.declared.outcome.Cut.TheVariants as cut
 use Rattle.ec_workers.specs.Answers.{IsUnproved}
@@ -38,11 +38,6 @@ mutual
   trees-partial loads n v no_shapes ps u order (p ∷ rest) h = absurd h
   trees-partial loads n v (more t ts) ps u order [] h = absurd h
   trees-partial loads n v (more t ts) ps u order (p ∷ rest) h = (tree-partial loads n v t (set ps u (Some p)) order h.0, trees-partial loads n v ts ps u order rest h.1)
-
--- a book's best plan is a certificate's
-best_as : (loads : List Load) (n : ℕ) (best : Option Best) → BookBest loads n best → IsBestPlan loads n best
-best_as loads n None h = tt
-best_as loads n (Some b) h = h
 
 no_legal : (loads : List Load) (n : ℕ) → BoundsAll loads n None → HasNoPlan loads n
 no_legal loads n all plan legal = let has = all plan legal in absurd (none_some has.1)

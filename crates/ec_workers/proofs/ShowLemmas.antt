@@ -19,7 +19,8 @@ use Rattle.ec_cert.specs.declared.cert.Best.{Best}
 use Rattle.ec_cert.specs.Shapes.{CertView}
 use Rattle.ec_cert.specs.Text.{IsUnitLine, IsPlaceLine, IsBestOrNone, IsWellFormed}
 use Rattle.ec_tree.specs.Trees.{TreesBound}
-use Rattle.ec_checker.specs.Certified.{line_of, lines_of, value_of, IsBestPlan, IsCertified, IsAnswer, verdict_of}
+use Rattle.ec_cert.specs.BestPlan.{value_of, IsBestPlan}
+use Rattle.ec_checker.specs.Certified.{line_of, lines_of, IsCertified, IsAnswer, verdict_of}
 use Rattle.ec_checker.specs.Laws.{FaultsRefute}
 use Rattle.ec_checker.specs.declared.fault.CheckFault.{CheckFault}
 use Rattle.ec_checker.specs.declared.fault.CheckFault.TheVariants as fault

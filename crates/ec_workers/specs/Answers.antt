@@ -8,7 +8,7 @@ use Rattle.ec_loads.specs.Search.{IsPartialTree, node_count, open_count}
 use Rattle.ec_symmetry.specs.Orders.{IsOrder}
 use Rattle.ec_cert.specs.declared.cert.Best.{Best}
 use Rattle.ec_cert.specs.Shapes.{shape_of, cert_view}
-use Rattle.ec_checker.specs.Certified.{value_of, IsBestPlan}
+use Rattle.ec_cert.specs.BestPlan.{value_of, IsBestPlan}
 use Rattle.ec_workers.specs.declared.outcome.Cut.{Cut}
 use Rattle.ec_workers.specs.declared.outcome.Cut.TheVariants as cut
 use Rattle.ec_workers.specs.declared.outcome.Outcome.{Outcome}

@@ -19,8 +19,10 @@ use Rattle.ec_cert.specs.declared.lists.UnitLine.{UnitLine}
 use Rattle.ec_cert.specs.Shapes.{CertView}
 use Rattle.ec_checker.specs.declared.fault.CheckFault.{CheckFault}
 use Rattle.ec_checker.specs.declared.fault.CheckFault.TheVariants as fault
-use Rattle.ec_checker.specs.Certified.{line_of, lines_of, IsFor, HasHead, IsBestPlan, IsCertified, IsFaultOf, IsPlanFault, tree_found, value_of}
-use Rattle.ec_checker.proofs.CheckLemmas.{one_busiest, plan_refutes, refutes}
+use Rattle.ec_cert.specs.BestPlan.{value_of, IsBestPlan}
+use Rattle.ec_checker.specs.Certified.{line_of, lines_of, IsFor, HasHead, IsCertified, IsFaultOf, IsPlanFault, tree_found}
+use Rattle.ec_loads.proofs.CostLemmas.{one_busiest}
+use Rattle.ec_checker.proofs.CheckLemmas.{plan_refutes, refutes}
 use Rattle.ecplan.specs.declared.refusal.Refusal.TheVariants as refusal
 use Rattle.ecplan.specs.Output.{Written, IsCheckedOf, IsCheckedOutput, refused}
 use Rattle.ecplan.proofs.OneIllegal.{illegal_once}

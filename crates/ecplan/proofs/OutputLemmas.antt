@@ -1,5 +1,5 @@
 -- What is written for units.
-use Rattle.std.proofs.Common.{◌≡◌, ℕ, List, Some, None, refl, subst, inl, inr}
+use Rattle.std.proofs.Common.{◌≡◌, ℕ, List, None, refl, subst, inl, inr}
 use Rattle.ec_hyper.specs.Lcm.{lcm_of}
 use Rattle.ec_units.specs.declared.slave.Place.{Place}
 use Rattle.ec_units.specs.declared.unit.Load.{Load}
@@ -30,7 +30,3 @@ legal_output us ps text none given legal told =
     subst (λ (ls : List Load). P ls (places_of (units_view us).units)) (loads_of-views us.units)
     (subst (λ (qs : List Place). P (loads_of us.units) qs) given (legal, told)) in
     rw none (inr (at.0, at.1, refl))
-
--- a unit without a place
-pub unplaced_output : (us : Units) (n : ℕ) → first_unplaced (units_view us).units ≡ Some n → IsCostOutput (units_view us) (refused (refusal.NoPlace n))
-unplaced_output us n some = rw some refl

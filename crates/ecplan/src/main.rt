@@ -47,6 +47,12 @@ fn refuse_path(rt: &HostRuntime) -> u8 {
     FAILED
 }
 
+/// Says that memory ran out before there was a job.
+fn refuse_memory(rt: &HostRuntime) -> u8 {
+    let _ = rt.print("refused U1 OutOfMemory\n");
+    FAILED
+}
+
 /// Does a job on the standard streams that reads no certificate and writes none.
 fn run_alone<T: Wait>(rt: &HostRuntime, wait: &T, job: &Job) -> u8
     requires fits { JobFits job.now }
@@ -113,11 +119,11 @@ fn status_of<T: Wait>(rt: &HostRuntime, wait: &T, line: &Line) -> u8
 /// Reads the words, does the job on the standard streams, and ends with its status.
 fn main(rt: HostRuntime) -> ExitCode {
     let Ok(words) = words_of(&rt) else {
-        return ExitCode::from(FAILED);
+        return ExitCode::from(refuse_memory(&rt));
     };
     let line = match read_words(rt.alloc(), &words) {
         Ok(line) => line,
-        Err(LineFault::Memory) => return ExitCode::from(FAILED),
+        Err(LineFault::Memory) => return ExitCode::from(refuse_memory(&rt)),
         Err(LineFault::Refused { text }) => {
             let shown = rt.print(text);
             return ExitCode::from(if shown.is_ok() { REFUSED_WORDS } else { FAILED });

@@ -3,8 +3,6 @@ ghost use Rattle.std.specs.Prelude.{Some};
 use crate::plain::run_plain;
 use crate::run::run;
 use crate::words::Job;
-use ec_loads::{Illegal, Loads, Places, Plan, busiest, is_legal};
-use ec_units::{Place, Units, read_units};
 use ec_wire::Io;
 use std::alloc::{AllocError, Global};
 use std::fmt::Write as FormatWrite;
@@ -438,112 +436,5 @@ fn each_write_fails(rt: HostRuntime) -> Result<(), Fail> {
         assert_eq!(rt; slow.held.len(), 16 * calls as usize);
         assert!(rt; whole.as_bytes().starts_with(slow.held.as_slice()));
     }
-    Ok(())
-}
-
-/// The units of a text.
-fn units_of(alloc: Global, slots: u32, units: &[Given]) -> Result<Units, Fail> {
-    let text = text_of(alloc, 1_000_000, slots, units)?;
-    Ok(read_units(alloc, text.as_bytes()).ok().ok_or("units")?)
-}
-
-/// A plan with these phases and slots.
-fn plan_of(alloc: Global, places: &[(u16, u8)]) -> Result<Plan, AllocError> {
-    let mut list = Vec::new(alloc);
-    for (phase, slot) in places {
-        list.push(Place {
-            phase: *phase,
-            slot: *slot,
-        })?;
-    }
-    Ok(Plan {
-        places: Places::new(list),
-    })
-}
-
-#[test]
-fn plans_that_are_not_legal(rt: HostRuntime) -> Result<(), Fail> {
-    let alloc = rt.alloc();
-    let units = units_of(alloc, 2, &[(800, 2, None), (800, 3, None)])?;
-    assert_eq!(rt;
-        is_legal(&units, &plan_of(alloc, &[(0, 0)])?),
-        Err(Illegal::WrongCount)
-    );
-    assert_eq!(rt;
-        is_legal(&units, &plan_of(alloc, &[(2, 9), (3, 0)])?),
-        Err(Illegal::PhaseRange(0))
-    );
-    assert_eq!(rt;
-        is_legal(&units, &plan_of(alloc, &[(1, 2), (3, 0)])?),
-        Err(Illegal::PhaseRange(1))
-    );
-    assert_eq!(rt;
-        is_legal(&units, &plan_of(alloc, &[(1, 0), (2, 2)])?),
-        Err(Illegal::SlotRange(1))
-    );
-    let full = Illegal::Full {
-        tick: 5,
-        slot: 1,
-        bytes: 1624,
-    };
-    assert_eq!(rt;
-        is_legal(&units, &plan_of(alloc, &[(1, 1), (2, 1)])?),
-        Err(full)
-    );
-    let plan = plan_of(alloc, &[(1, 0), (2, 1)])?;
-    assert_eq!(rt; is_legal(&units, &plan), Ok(()));
-    assert_eq!(rt; busiest(&units, &plan), (1704, 5));
-    Ok(())
-}
-
-#[test]
-fn loads_of_two_units(rt: HostRuntime) -> Result<(), Fail> {
-    let units = units_of(rt.alloc(), 1, &[(100, 2, None), (100, 2, None)])?;
-    assert_eq!(rt; units.units.as_slice().len(), 2);
-    let mut loads = Loads::new(rt.alloc(), &units)?;
-    assert_eq!(rt; loads.payload(0, 0), 0);
-    loads.place(0, Place { phase: 0, slot: 0 });
-    assert_eq!(rt; loads.payload(0, 0), 112);
-    assert_eq!(rt; loads.cost(0), 152);
-    loads.place(1, Place { phase: 0, slot: 0 });
-    assert_eq!(rt; loads.payload(0, 0), 212);
-    assert_eq!(rt; loads.cost(0), 252);
-    assert_eq!(rt; loads.cost(1), 0);
-    assert_eq!(rt; loads.cost(4_000_000_000), 252);
-    assert_eq!(rt; loads.top(), (252, 0));
-    assert_eq!(rt; loads.raw(0), 252);
-    loads.remove(0);
-    assert_eq!(rt; loads.payload(0, 0), 112);
-    assert_eq!(rt; loads.cost(0), 152);
-    loads.remove(1);
-    assert_eq!(rt; loads.payload(0, 0), 0);
-    assert_eq!(rt; loads.cost(0), 0);
-    assert_eq!(rt; loads.raw(0), 0);
-    assert_eq!(rt; loads.full(), None);
-    Ok(())
-}
-
-#[test]
-fn loads_without_padding(rt: HostRuntime) -> Result<(), Fail> {
-    let units = units_of(rt.alloc(), 1, &[(4, 1, None), (10, 1, None)])?;
-    assert_eq!(rt; units.units.as_slice().len(), 2);
-    let mut loads = Loads::new(rt.alloc(), &units)?;
-    loads.place(0, Place { phase: 0, slot: 0 });
-    assert_eq!(rt; loads.raw(0), 56);
-    assert_eq!(rt; loads.cost(0), 84);
-    loads.place(1, Place { phase: 0, slot: 0 });
-    assert_eq!(rt; loads.cost(0), 84);
-    Ok(())
-}
-
-#[test]
-fn loads_that_are_full(rt: HostRuntime) -> Result<(), Fail> {
-    let units = units_of(rt.alloc(), 2, &[(800, 2, None), (800, 3, None)])?;
-    assert_eq!(rt; units.units.as_slice().len(), 2);
-    let mut loads = Loads::new(rt.alloc(), &units)?;
-    loads.place(0, Place { phase: 1, slot: 1 });
-    assert_eq!(rt; loads.full(), None);
-    loads.place(1, Place { phase: 2, slot: 1 });
-    assert_eq!(rt; loads.full(), Some((5, 1)));
     Ok(())
 }

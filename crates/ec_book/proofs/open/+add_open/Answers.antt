@@ -1,10 +1,20 @@
-use Rattle.std.proofs.Common.{◌≡◌, ◌+◌, ◌<◌, ◌++◌, ◌∷◌, [], length, vec_len, drop, get_or, arith, ap, ◌∙◌, sym}
+use Rattle.std.proofs.Common.{◌≡◌, refl, ◌+◌, ◌<◌, ◌++◌, ◌∷◌, [], length, vec_len, drop, get_or, arith, ap, ◌∙◌, sym}
 use Rattle.ec_cert.specs.Shapes.{shape_of}
 use Rattle.ec_symmetry.specs.Orders.{prefix_of}
 use Rattle.ec_book.specs.Open.{leaf_places, open_places}
 use Rattle.ec_book.proofs.DrawLemmas.{shape_of-OpenLeaf}
-use Rattle.ec_book.proofs.OpenLemmas.{opened_from, opened_all, split_opened, child_opened, opened_end, no_kids, append_none, opened_step, path_back}
+use Rattle.ec_book.proofs.OpenLemmas.{opened_from, opened_all, opened_first, split_opened, child_opened, opened_end, no_kids, append_none, opened_step, path_back}
 use Rattle.ec_book.proofs.open.+add_open.Goals as goal
+
+pub loop-i-init : goal.loop-i-init
+loop-i-init t c =
+    let loads = c.args.loads.now in
+    record {
+      path = refl;
+      out =
+          opened_first loads.loads loads.slots c.args.order.now c.in-Split.trees.items c.from-unit.result c.args.path.now.items c.as_slice.result.now c.children_after-places.result c.args.out.now.items
+          c.requires.order c.requires.long c.as_slice.ensures.value c.children_after-places.ensures;
+    }
 
 pub returns-in_default-next-clause-out : goal.returns-in_default-next-clause-out
 returns-in_default-next-clause-out t c =

@@ -2,7 +2,7 @@ use Rattle.std.proofs.Common.{length, None}
 use Rattle.ec_units.specs.Load.{loads_of}
 use Rattle.ec_loads.specs.Held.{no_places}
 use Rattle.ec_cert.specs.Shapes.{shape_of}
-use Rattle.ec_branch.proofs.HeldLemmas.{empty_rest}
+use Rattle.ec_bounds.proofs.HeldLemmas.{empty_rest}
 use Rattle.ec_branch.proofs.ReadyLemmas.{children_long, order_of_loads, held_prefix, later_units, reached_ready, explored}
 use Rattle.ec_branch.proofs.exploring.explore.Goals as goal
 

@@ -2,7 +2,7 @@ use Rattle.std.proofs.Common.{◌+◌, length, drop, ap, sym, ◌∙◌, arith}
 use Rattle.std.proofs.lemmas.List.{length-set}
 use Rattle.ec_loads.specs.Held.{Held}
 use Rattle.ec_symmetry.specs.Orders.{with_places}
-use Rattle.ec_branch.proofs.HeldLemmas.{rest_follows}
+use Rattle.ec_bounds.proofs.HeldLemmas.{rest_follows}
 use Rattle.ec_branch.proofs.ReadyLemmas.{with_more}
 use Rattle.ec_branch.proofs.exploring.place_all.Goals as goal
 

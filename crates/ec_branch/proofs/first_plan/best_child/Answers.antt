@@ -1,7 +1,7 @@
 use Rattle.std.proofs.Common.{◌++◌, [], ◌∷◌, slice_get, ap, ◌∙◌, refl}
 use Rattle.ec_loads.specs.Held.{Held}
 use Rattle.ec_loads.specs.Search.{children}
-use Rattle.ec_branch.proofs.HeldLemmas.{restored}
+use Rattle.ec_bounds.proofs.HeldLemmas.{restored}
 use Rattle.ec_branch.proofs.WalkLemmas.{kids_more}
 use Rattle.ec_branch.proofs.GreedyLemmas.{tried}
 use Rattle.ec_branch.proofs.first_plan.best_child.Goals as goal

@@ -1,7 +1,7 @@
 use Rattle.std.proofs.Common.{◌<◌, length, None, Some, ap, sym, subst, ◌∙◌}
 use Rattle.std.proofs.lemmas.Option.{slice_get_within}
 use Rattle.ec_loads.specs.Held.{Held}
-use Rattle.ec_branch.proofs.HeldLemmas.{with_place}
+use Rattle.ec_bounds.proofs.HeldLemmas.{with_place}
 use Rattle.ec_branch.proofs.GreedyLemmas.{placing_ready, placing_more, placing_stuck}
 use Rattle.ec_branch.proofs.first_plan.place_best.Goals as goal
 

@@ -5,7 +5,7 @@ use Rattle.ec_loads.specs.Search.{children}
 use Rattle.ec_cert.specs.Shapes.{shape_of}
 use Rattle.ec_branch.specs.Frames.{Frame}
 use Rattle.ec_branch.specs.Walks.{IsWalked}
-use Rattle.ec_branch.proofs.HeldLemmas.{restored, rest_follows, flags_count, within_after}
+use Rattle.ec_bounds.proofs.HeldLemmas.{restored, rest_follows, flags_count, within_after}
 use Rattle.ec_branch.proofs.WalkLemmas.{ready_at, ready_child, none_left, found_walked, loop_more, kids_more, next_kids, frame_units, frame_slots}
 use Rattle.ec_branch.proofs.walk.+walk.Goals as goal
 

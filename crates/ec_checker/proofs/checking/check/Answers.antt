@@ -7,7 +7,8 @@ use Rattle.ec_cert.specs.Shapes.{cert_view}
 use Rattle.ec_symmetry.specs.Orders.{IsOrder}
 use Rattle.ec_checker.specs.Certified.{HasHead, IsCertified}
 use Rattle.ec_checker.specs.Judged.{IsReady}
-use Rattle.ec_checker.proofs.HeadLemmas.{order_ready, empty_rest}
+use Rattle.ec_bounds.proofs.HeldLemmas.{empty_rest}
+use Rattle.ec_checker.proofs.HeadLemmas.{order_ready}
 use Rattle.ec_checker.proofs.CheckLemmas.{tree_from, fault_from, verdict_some, verdict_none, claim_from, found_is}
 use Rattle.ec_checker.proofs.checking.check.Goals as goal
 

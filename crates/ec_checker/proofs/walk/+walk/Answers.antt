@@ -5,7 +5,8 @@ use Rattle.ec_loads.specs.Held.{Held}
 use Rattle.ec_checker.specs.declared.fault.CheckFault.{CheckFault}
 use Rattle.ec_checker.specs.declared.fault.CheckFault.TheVariants as fault
 use Rattle.ec_checker.specs.Judged.{IsReady, then_judged}
-use Rattle.ec_checker.proofs.WalkLemmas.{judged_from, kids, with_place, child_step, no_more_trees, no_more_children, split_is, split_wrong, restored, rest_follows, ready_at, flags_count, still_within}
+use Rattle.ec_bounds.proofs.HeldLemmas.{with_place, restored, rest_follows, flags_count, still_within}
+use Rattle.ec_checker.proofs.WalkLemmas.{judged_from, kids, child_step, no_more_trees, no_more_children, split_is, split_wrong, ready_at}
 use Rattle.ec_checker.proofs.walk.+walk.Goals as goal
 
 pub returns-then-len-clause-judged : goal.returns-then-len-clause-judged

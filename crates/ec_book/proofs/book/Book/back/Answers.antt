@@ -1,6 +1,6 @@
 use Rattle.std.proofs.Common.{arith, refl}
 use Rattle.ec_book.specs.declared.piece.Piece.TheVariants.{Free, Taken}
-use Rattle.ec_book.specs.Views.{value_of}
+use Rattle.ec_cert.specs.BestPlan.{value_of}
 use Rattle.ec_book.proofs.HistoryLemmas.{granted-le, taken-le}
 use Rattle.ec_book.proofs.PieceLemmas.{within}
 use Rattle.ec_book.proofs.KeepLemmas.{counted-back, grown-set}

@@ -1,7 +1,8 @@
 use Rattle.std.proofs.Common.{arith, vec_capacity, Some}
 use Rattle.ec_book.specs.Steps.{IsBelow}
 use Rattle.ec_book.specs.Faults.{IsPlanOf}
-use Rattle.ec_book.specs.Views.{value_of, book_view}
+use Rattle.ec_cert.specs.BestPlan.{value_of}
+use Rattle.ec_book.specs.Views.{book_view}
 use Rattle.ec_book.proofs.KeepLemmas.{counted-better, grown-better}
 use Rattle.ec_book.proofs.book.Book.better.Goals as goal
 

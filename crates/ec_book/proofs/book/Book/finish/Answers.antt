@@ -2,7 +2,7 @@ use Rattle.std.proofs.Common.{refl}
 use Rattle.ec_book.specs.Numbered.{gap}
 use Rattle.ec_book.specs.Grown.{grown}
 use Rattle.ec_book.specs.Steps.{start}
-use Rattle.ec_book.specs.Views.{value_of}
+use Rattle.ec_cert.specs.BestPlan.{value_of}
 use Rattle.ec_book.proofs.HistoryLemmas.{history-replays}
 use Rattle.ec_book.proofs.FinishLemmas.{drawn, drawn-partial, drawn-nodes, drawn-open, drawn-closed}
 use Rattle.ec_book.proofs.book.Book.finish.Goals as goal

@@ -1,7 +1,8 @@
 use Rattle.std.proofs.Common.{◌≡◌, arith, refl, ap, ◌∙◌, sym, vec_capacity, length, set, slice_get, Some}
 use Rattle.std.proofs.lemmas.Option.{slice_get_read}
 use Rattle.ec_book.specs.declared.piece.Piece.TheVariants.{Free, Taken}
-use Rattle.ec_book.specs.Views.{value_of, book_view}
+use Rattle.ec_cert.specs.BestPlan.{value_of}
+use Rattle.ec_book.specs.Views.{book_view}
 use Rattle.ec_book.proofs.KeepLemmas.{counted-took, grown-set, reached_at}
 use Rattle.ec_book.proofs.PieceLemmas.{within}
 use Rattle.ec_book.proofs.book.Book.take.Goals as goal

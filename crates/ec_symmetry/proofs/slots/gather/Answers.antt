@@ -1,7 +1,7 @@
 use Rattle.std.proofs.Common.{arith, sym, ◌∙◌}
-use Rattle.ec_branch.proofs.SlotLemmas.{gather_none, gather_some}
-use Rattle.ec_branch.proofs.children.gather.Goals as goal
-use Rattle.ec_branch.proofs.children.gather.Goals.{in-Some, in_default}
+use Rattle.ec_symmetry.proofs.SlotLemmas.{gather_none, gather_some}
+use Rattle.ec_symmetry.proofs.slots.gather.Goals as goal
+use Rattle.ec_symmetry.proofs.slots.gather.Goals.{in-Some, in_default}
 
 pub loop-i-preserved : goal.loop-i-preserved
 loop-i-preserved c =

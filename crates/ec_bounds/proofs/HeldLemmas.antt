@@ -37,7 +37,8 @@ rest_follows held placed left less u o rest made flagged = record {
 pub flags_count : (held : Held) (left : Left) → IsRestOf left held → length left.unplaced ≡ length held.places
 flags_count held left rest = ap length rest.unplaced ∙ length-map held.places (λ p. is_none p)
 
-still_within : (held placed : Held) (u : ℕ) (o : Option Place) → u < length held.places → placed ≡ with_place held u o → u < length placed.places
+-- the unit is still one of them
+pub still_within : (held placed : Held) (u : ℕ) (o : Option Place) → u < length held.places → placed ≡ with_place held u o → u < length placed.places
 still_within held placed u o h made = subst (λ (w : Held). u < length w.places) (sym made) (rw (length-set held.places u o) h)
 
 -- and after a walk that leaves the places as they are

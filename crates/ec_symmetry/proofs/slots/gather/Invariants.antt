@@ -1,7 +1,7 @@
 use Rattle.std.proofs.Common.{◌≡◌, ◌≤◌, length, take}
 use Rattle.ec_loads.specs.Search.{slots_in}
-use Rattle.ec_branch.proofs.SlotLemmas.{slots_of}
-use Rattle.ec_branch.proofs.children.gather.Given as goal
+use Rattle.ec_symmetry.proofs.SlotLemmas.{slots_of}
+use Rattle.ec_symmetry.proofs.slots.gather.Given as goal
 
 abbrev pub invariant-loop-i : goal.invariant-loop-i
 invariant-loop-i l =
