@@ -72,7 +72,7 @@ fn refusal_text(alloc: Global, refusal: Refusal) -> Result<String, AllocError>
 }
 
 /// Writes bytes whole; where that fails, the status is 4.
-fn write_status<W: Write>(text: &mut Io<W>, bytes: &[u8], code: u8) -> Status
+pub(crate) fn write_status<W: Write>(text: &mut Io<W>, bytes: &[u8], code: u8) -> Status
     requires { has_failed text.old ≡ false }
     ensures all { has_failed text.new ≡ false → (result.code ≡ code) × Appends (W.contents (stream text.old)) (W.contents (stream text.new)) bytes.now }
     ensures front { WritesFront (W.contents (stream text.old)) (W.contents (stream text.new)) bytes.now }

@@ -11,6 +11,7 @@ use std::io::{ErrorKind, Read, Write};
 use std::test::Fail;
 
 mod checks;
+mod doing;
 mod late;
 mod plans;
 mod words;

@@ -62,7 +62,7 @@ fn plan_command<'a>(alloc: Global) -> Result<Command<'a>, AllocError> {
         .long("out")
         .value_name("PATH")
         .action(ArgAction::Set)
-        .help("Where to write the certificate of the answer");
+        .help("Where to write the certificate of an optimal plan, or of no plan");
     Command::new(alloc, "plan")
         .about("Finds a plan whose busiest tick is least, and its certificate")
         .arg(workers)?

@@ -4,16 +4,15 @@ ghost use Rattle.std.specs.Prelude.{◌≤◌};
 
 use super::{FailsAt, Given, Slow, text_of};
 use crate::job::run_plan_to;
-use crate::late::Late;
 use crate::plain::run_plain;
 use crate::run::run;
 use crate::words::Job;
 use ec_wire::Io;
-use std::alloc::{AllocError, Global};
-use std::rt::Files;
+use std::alloc::Global;
+use std::fmt::Write;
+use std::io;
 use std::sync::Wait;
 use std::test::Fail;
-use std::{fs, io};
 
 /// What a plan has written: its text, its certificate, and its status.
 #[derive(Drop)]
@@ -411,54 +410,6 @@ fn each_write_of_a_text_fails(rt: HostRuntime) -> Result<(), Fail> {
     Ok(())
 }
 
-/// What `plan` writes where the certificate goes to this path, and its status.
-fn filed<F: Files>(
-    rt: &impl Wait,
-    alloc: Global,
-    files: &F,
-    units: &[u8],
-    nodes: u32,
-    path: &str,
-) -> (Vec<u8>, u8)
-    requires { (1 ≤ nodes) × (nodes ≤ 10000000) }
-{
-    let mut units = Io::new(units);
-    let mut held = Slow {
-        held: Vec::new(alloc),
-        calls: MANY,
-    };
-    let mut text = Io::new(&mut held);
-    let mut out = Io::new(Late::new(files, path));
-    let none: Option<&mut Io<io::Empty>> = None;
-    let job = Job::Plan { workers: 1, nodes };
-    let to = Some(&mut out);
-    let status = run(rt, alloc, &job, &mut units, none, &mut text, to);
-    drop(text);
-    (held.held, status.code)
-}
-
-#[test]
-fn certificates_in_files(rt: HostRuntime) -> Result<(), Fail> {
-    let alloc = rt.alloc();
-    let units = text_of(alloc, 1_000_000, 1, &MEETING)?;
-    let path = "/tmp/ecplan-plan-out.cert";
-    let _ = fs::remove_file(&rt, path);
-    let (text, code) = filed(&rt, alloc, &rt, units.as_bytes(), 8, path);
-    assert!(rt; text.as_slice().starts_with(b"unproved 464\ncut budget\n"));
-    assert_eq!(rt; code, 2);
-    assert!(rt; fs::read_to_string(&rt, path).is_err());
-    let (text, code) = filed(&rt, alloc, &rt, units.as_bytes(), 9, path);
-    assert_eq!(rt; text.as_slice(), MEETING_TEXT.as_bytes());
-    assert_eq!(rt; code, 0);
-    assert_eq!(rt; fs::read_to_string(&rt, path)?.as_str(), MEETING_CERT);
-    fs::remove_file(&rt, path)?;
-    let nowhere = "/tmp/no-such-directory-of-ecplan/out.cert";
-    let (text, code) = filed(&rt, alloc, &rt, units.as_bytes(), 9, nowhere);
-    assert_eq!(rt; text.as_slice(), b"refused E4 Write\n".as_slice());
-    assert_eq!(rt; code, 4);
-    Ok(())
-}
-
 /// Whether a second search writes the same as the first.
 fn repeats(rt: &impl Wait, alloc: Global, units: &[u8], nodes: u32) -> bool
     requires { (1 ≤ nodes) × (nodes ≤ 10000000) }
@@ -478,5 +429,41 @@ fn the_same_units_and_budget_give_the_same(rt: HostRuntime) -> Result<(), Fail> 
     assert!(rt; repeats(&rt, alloc, units.as_bytes(), 89));
     assert!(rt; repeats(&rt, alloc, units.as_bytes(), 90));
     assert!(rt; repeats(&rt, alloc, units.as_bytes(), 1_000_000));
+    Ok(())
+}
+
+/// A line of 24 units in two slots, of 30 bytes and more, for whose proof some thousand nodes don't suffice.
+fn long_line(alloc: Global) -> Result<String, Fail> {
+    let mut text = String::from_str(alloc, "tick_ns = 1000000\nslots = 2\n")?;
+    for unit in 0..24u32 {
+        let period = PERIODS[(unit % 6) as usize];
+        let bytes = 30 + unit * 37 % 170;
+        let station = 1001 + unit;
+        write!(
+            text,
+            "[[unit]]\nname = \"u{unit}\"\nperiod = {period}\n[[unit.slave]]\nstation = {station}\nout_bytes = {bytes}\nin_bytes = 0\n"
+        )?;
+    }
+    Ok(text)
+}
+
+const PERIODS: [u32; 6] = [1, 2, 4, 5, 10, 20];
+
+/// The second line of a text.
+fn second_line(text: &[u8]) -> Result<&str, Fail> {
+    let text = std::str::from_utf8(text).ok().ok_or("text")?;
+    Ok(text.lines().nth(1).ok_or("line")?)
+}
+
+#[test]
+fn more_nodes_than_are_handed_out_at_once(rt: HostRuntime) -> Result<(), Fail> {
+    let alloc = rt.alloc();
+    let units = long_line(alloc)?;
+    let (text, code) = alone(&rt, alloc, units.as_bytes(), 4096);
+    assert_eq!(rt; second_line(text.as_slice())?, "cut budget");
+    assert_eq!(rt; code, 2);
+    let (text, code) = alone(&rt, alloc, units.as_bytes(), 9000);
+    assert_eq!(rt; second_line(text.as_slice())?, "cut budget");
+    assert_eq!(rt; code, 2);
     Ok(())
 }
