@@ -93,17 +93,17 @@ IsPlanWritten nodes bytes w cert = IsOutcomeWritten nodes bytes w cert ⊎ IsUnp
 abbrev pub IsCertOf : ℕ → List ℕ → Option (List ℕ) → Type 0
 IsCertOf nodes bytes cert = ((us : Units) × (o : Outcome) × IsPlanOf nodes bytes us o × (cert ≡ outcome_cert o)) ⊎ (cert ≡ None)
 
--- a writer gets a certificate; without one nothing is asked of it
+-- a writer gets a certificate; where there is none it is left as it was
 abbrev pub Gets : {O : Type 0} → (O → Option (List ℕ)) → Io O → Io O → Option (List ℕ) → Type 0
 Gets contents old new None = new ≡ old
 Gets contents old new (Some bytes) = Appends (contents (stream old)) (contents (stream new)) bytes
 
--- it gets a front of it
+-- it gets a front of it, or is left as it was
 abbrev pub GetsFront : {O : Type 0} → (O → Option (List ℕ)) → Io O → Io O → Option (List ℕ) → Type 0
 GetsFront contents old new None = new ≡ old
 GetsFront contents old new (Some bytes) = WritesFront (contents (stream old)) (contents (stream new)) bytes
 
--- there is no writer for a certificate
+-- without a writer nothing is asked of the certificate
 abbrev pub Any : Option (List ℕ) → Type 0
 Any cert = Unit {0}
 
