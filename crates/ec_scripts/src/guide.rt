@@ -1,4 +1,4 @@
-//! A guide for the tests, and what a search finds with it.
+//! A guide for the scripts, and what a search finds with it.
 
 ghost use Rattle.std.specs.Prelude.{◌≡◌, ℕ, ◌≤◌, IsTrue, IfOk, length, drop, [], ◌∷◌};
 ghost use Rattle.ec_units.specs.Load.{loads_of};
@@ -12,27 +12,50 @@ use ec_loads::Plan;
 use ec_units::{Place, Units};
 use std::alloc::{AllocError, Global};
 
-/// A guide that knows a value at first, counts the plans that it is told, and may stop at one.
+/// What a guide was asked and told.
+#[derive(Clone, Copy)]
+pub(crate) struct Heard {
+    /// How many times it was asked for the value.
+    pub asked: u32,
+    /// How many plans it was told.
+    pub told: u32,
+    /// How many of them didn't cost less than the value that was known then.
+    pub dearer: u32,
+}
+
+/// A guide that knows a value at first, counts what it is asked and told, and may stop at a plan.
 #[derive(Drop)]
 struct Own<'a> {
     units: &'a Units,
     value: Option<u64>,
+    floor: u64,
     stops: bool,
-    told: u32,
+    heard: Heard,
     halted: bool,
 }
 
 impl<'a> Guide for Own<'a> {
-    ghost frame = { λ s. record { loads = loads_of s.units.now.units; slots = s.units.now.slots; floor = 0 } };
+    ghost use Rattle.std.specs.Prelude.{◌≤◌};
+
+    ghost frame = { λ s. record { loads = loads_of s.units.now.units; slots = s.units.now.slots; floor = s.floor } };
 
     ghost halted = { λ s. s.halted };
 
     fn bound(&mut self) -> Option<u64> {
-        self.value
+        self.heard.asked = self.heard.asked.saturating_add(1);
+        match self.value {
+            Some(value) => Some(value.max(self.floor)),
+            None => None,
+        }
     }
 
     fn found(&mut self, _plan: &Plan, cost: u64) -> Option<u64> {
-        self.told = self.told.saturating_add(1);
+        self.heard.told = self.heard.told.saturating_add(1);
+        if let Some(value) = self.value {
+            if cost >= value {
+                self.heard.dearer = self.heard.dearer.saturating_add(1);
+            }
+        }
         if self.stops {
             self.halted = true;
             return None;
@@ -73,28 +96,41 @@ pub(crate) fn is_reached(units: &Units, order: &[u8], prefix: &[Place]) -> bool
     }
 }
 
-/// What a search below a prefix finds, and how many plans it told to a guide that knows this value at first.
+/// How a search is asked: the value that its guide knows at first and its floor, whether it stops at a plan, and the
+/// nodes that it may split and close.
+#[derive(Clone, Copy)]
+pub(crate) struct Wish {
+    pub value: Option<u64>,
+    pub floor: u64,
+    pub stops: bool,
+    pub grant: u32,
+}
+
+/// What a search below a prefix finds, and what its guide heard.
 pub(crate) fn found_below(
     alloc: Global,
     units: &Units,
     order: &[u8],
     prefix: &[Place],
-    value: Option<u64>,
-    stops: bool,
-    grant: u32,
-) -> Result<(Subtree, u32), AllocError>
+    wish: Wish,
+) -> Result<(Subtree, Heard), AllocError>
     requires order { IsOrder (length units.now.units) order.now }
     requires reached { IsReachedPrefix (loads_of units.now.units) units.now.slots order.now prefix.now }
-    requires some { 1 ≤ grant }
+    requires some { 1 ≤ wish.grant }
     ensures { IfOk result (λ r. IsPartialTree (loads_of units.now.units) units.now.slots r.0.threshold (shape_of r.0.tree) (prefix_of (loads_of units.now.units) order.now prefix.now) (drop (length prefix.now) order.now)) }
 {
     let mut guide = Own {
         units,
-        value,
-        stops,
-        told: 0,
+        value: wish.value,
+        floor: wish.floor,
+        stops: wish.stops,
+        heard: Heard {
+            asked: 0,
+            told: 0,
+            dearer: 0,
+        },
         halted: false,
     };
-    let sub = explore(alloc, units, order, prefix, &mut guide, grant)?;
-    Ok((sub, guide.told))
+    let sub = explore(alloc, units, order, prefix, &mut guide, wish.grant)?;
+    Ok((sub, guide.heard))
 }
