@@ -12,7 +12,7 @@ ghost use Rattle.ec_book.specs.Open.{open_places};
 ghost use Rattle.ec_cert.specs.BestPlan.{value_of, IsBestPlan};
 ghost use Rattle.ec_book.specs.Views.{book_view, state_of, after_back, after_better, after_report};
 ghost use Rattle.ec_book.specs.Kept.{NoneFreeBelow};
-ghost use Rattle.ec_book.specs.Faults.{IsLowestFree, IsHandedOut, IsHoldFault, IsBetterFault, IsPlanOf, IsReportFault, IsTakenBy};
+ghost use Rattle.ec_book.specs.Faults.{IsLowestFree, IsHandedOut, IsHoldFault, IsBetterFault, IsPlanOf, IsReportFault, IsTakenBy, IsWelcome};
 ghost use Rattle.ec_book.specs.Steps.{IsBelow};
 ghost use Rattle.ec_book.specs.Finishing.{ShowsPieces};
 ghost use Rattle.ec_book.specs.declared.fault.BookFault.TheVariants.{OutOfMemory};
@@ -268,6 +268,7 @@ impl Book {
     ) -> Result<(), (BookFault, Subtree)>
         requires tree { IsPartialTree self.old.loads self.old.slots sub.threshold (shape_of sub.tree) (prefix_of self.old.loads self.old.order prefix.now) (drop (length prefix.now) self.old.order) }
         requires some { 0 < node_count_of (shape_of sub.tree) }
+        ensures welcome { OnOk result ((g : ℕ) × IsWelcome self.old.pieces self.old.prefixes (value_of self.old.best) worker piece prefix.now sub.threshold (node_count_of (shape_of sub.tree)) g) }
         ensures ok { OnOk result (self.new ≡ after_report self.old worker piece (node_count_of (shape_of sub.tree)) (open_places self.old.loads self.old.slots self.old.order (shape_of sub.tree) prefix.now)) }
         ensures err { IfErr result (λ e. IsReportFault self.old.pieces self.old.prefixes (value_of self.old.best) worker piece prefix.now sub.threshold (node_count_of (shape_of sub.tree)) e.0
             × (e.1 ≡ sub) × (self.new ≡ self.old)) }
