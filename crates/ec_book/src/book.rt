@@ -325,7 +325,8 @@ impl Book {
 
     /// The log: every step so far.
     pub fn log(&self) -> &[Step]
-        ensures { result.now ≡ self.now.log }
+        ensures value { result.now ≡ self.now.log }
+        ensures history { IsHistory self.now.nodes start result.now (state_of self.now) }
     {
         self.log.as_slice()
     }
