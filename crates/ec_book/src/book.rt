@@ -167,20 +167,11 @@ impl Book {
         ensures err { IfErr result (λ e. (e ≡ OutOfMemory) × (self.new ≡ self.old)) }
     {
         let left = self.nodes - self.spent - self.held;
-        let Some(at) = lowest_free(self.pieces.as_slice(), self.low) else {
-            return Ok(if self.taken == 0 {
-                Taken::Done
-            } else {
-                Taken::Later
-            });
+        let at = match lowest_free(self.pieces.as_slice(), self.low) {
+            Some(at) if left > 0 => at,
+            _ if self.taken == 0 => return Ok(Taken::Done),
+            _ => return Ok(Taken::Later),
         };
-        if left == 0 {
-            return Ok(if self.taken == 0 {
-                Taken::Done
-            } else {
-                Taken::Later
-            });
-        }
         let grant = left.min(u64::from(most)) as u32;
         let alloc = *self.log.allocator();
         let Ok(prefix) = Vec::from_slice(alloc, self.prefixes[at].as_slice()) else {
