@@ -13,9 +13,9 @@ use std::alloc::Global;
 use std::io::{Read, Write};
 
 /// Does a job that searches for nothing, without a runtime: reads the units, and for a check then the certificate,
-/// makes its whole answer, and then writes it to `text`. It reads at most 1,048,577 bytes of units and 67,108,865 of a certificate, so it ends on
-/// readers that never do. A cost leaves `cert` unread, and so does a check of units that are refused. Nothing is
-/// written to `out`.
+/// makes its whole answer, and then writes it to `text`. It reads at most 1,048,577 bytes of units and 67,108,865 of a
+/// certificate, so it ends on readers that never do. A cost leaves `cert` unread, and so does a check of units that are
+/// refused. Nothing is written to `out`.
 pub fn run_plain<R: Read, C: Read, W: Write, O: Write>(
     alloc: Global,
     job: &Job,
