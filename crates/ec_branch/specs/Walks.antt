@@ -1,5 +1,5 @@
 -- What a walk below a prefix gives.
-use Rattle.std.specs.Prelude.{◌≡◌, ℕ, ◌+◌, ◌<◌, ◌⊎◌, List, [], ◌∷◌, map, set, get_or, slice_get, Option, Some, None, Bool, true}
+use Rattle.std.specs.Prelude.{◌≡◌, ℕ, ◌+◌, ◌<◌, ◌⊎◌, List, [], ◌∷◌, map, set, get_or, slice_get, Option, Some, None, Bool, true, false}
 use Rattle.ec_units.specs.declared.slave.Place.{Place}
 use Rattle.ec_units.specs.declared.unit.Load.{Load}
 use Rattle.ec_loads.specs.Shape.{Shape}
@@ -37,3 +37,10 @@ pub record IsWalked (loads : List Load) (n floor : ℕ) (ps : Prefix) (order : L
   pub fair : IsFair floor loads n was → IsFair floor loads n now
   pub count : node_count tree + left ≡ had
   pub cause : HasCause (open_count tree) left halted
+
+-- a walk from the value `was`, where the guide knew `knew`, to the value `now`, where it knows `knows`: what is known only falls; the value falls no lower than
+-- what the guide knows, and is no higher once it was asked
+pub record FollowsGuide (had : ℕ) (halted : Bool) (was knew now knows : Option ℕ) : Type 0 where
+  pub falls : IsAtMost knows knew
+  pub least : IsAtMost knew was → IsAtMost knows now
+  pub most : ((0 < had) × (halted ≡ false)) ⊎ IsAtMost was knew → IsAtMost now knows

@@ -2,6 +2,7 @@ use Rattle.std.proofs.Common.{◌≡◌, ◌++◌, List, length, true}
 use Rattle.ec_units.specs.declared.slave.Place.{Place}
 use Rattle.ec_loads.specs.Search.{children}
 use Rattle.ec_bounds.specs.Left.{IsRestOf}
+use Rattle.ec_branch.proofs.KnownLemmas.{KeepsUp}
 use Rattle.ec_branch.proofs.WalkLemmas.{IsWalking}
 use Rattle.ec_branch.proofs.walk.+walk.Given as goal
 
@@ -18,6 +19,7 @@ invariant-loop-place g l =
       same : l.loads ≡ h;
       left : IsRestOf l.rest l.loads;
       frame : g.G.Guide.frame l.guide ≡ g.G.Guide.frame l.initial.guide;
+      knows : KeepsUp l.initial.search.value (g.G.Guide.known l.initial.guide) l.search.value (g.G.Guide.known l.guide);
       stays : g.G.Guide.halted l.initial.guide ≡ true → g.G.Guide.halted l.guide ≡ true;
       walking : (done : List Place) × (done ++ l.places ≡ children h.loads h.slots h.places l.unit)
           × IsWalking h.loads h.slots (g.G.Guide.frame l.initial.guide).floor h.places l.unit l.later done
