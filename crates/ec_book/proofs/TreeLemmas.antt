@@ -1,30 +1,16 @@
 -- Laws of trees with numbers at their open leaves.
 use Rattle.std.proofs.Common.{◌≡◌, ℕ, zero, suc, ◌+◌, ◌≤◌, ◌==◌, if◌then◌else◌, Bool, true, false, eqb, All, List, [], ◌∷◌, ◌++◌, length, set, drop, Option, Some, None, slice_get, refl, sym, ap, ◌∙◌, subst, arith, length-append}
 use Rattle.std.proofs.lemmas.List.Elements.{All-append}
-use Rattle.std.proofs.lemmas.Nat.{mul-le}
-use Rattle.ec_hyper.specs.Lcm.{lcm_of}
-use Rattle.ec_units.specs.Load.{periods_of}
 use Rattle.ec_units.specs.declared.slave.Place.{Place}
 use Rattle.ec_units.specs.declared.unit.Load.{Load}
-use Rattle.ec_loads.specs.Shape.{Shape, Shapes, split, tick, full, average, open_leaf, no_shapes, more}
-use Rattle.ec_loads.specs.Search.{Prefix, children, TreeWith, TreesWith, IsTree, IsPartialTree, HasShortTicks, HaveShortTicks, IsAtMost, TickHolds, AverageHolds, open_count, open_counts, node_count, node_counts}
+use Rattle.ec_loads.specs.Shape.{Shape, Shapes, split, leaf, open_leaf, no_shapes, more}
+use Rattle.ec_loads.specs.Search.{Prefix, children, TreeWith, TreesWith, IsTree, IsPartialTree, HasShortTicks, HaveShortTicks, IsAtMost, open_count, open_counts, node_count, node_counts}
+use Rattle.ec_bounds.proofs.LeafLemmas.{leaf-falls}
 use Rattle.ec_symmetry.specs.Reached.{In, here, there}
 use Rattle.ec_symmetry.specs.Orders.{IsReachedPrefix, prefix_of}
 use Rattle.ec_book.specs.Numbered.{Numbered, Numbereds, branch, closed, gap, last, next, numbered, all_numbered, fill, fills, plug, plain, draws, size, sizes, gaps, all_gaps, NumberedTree, NumberedTrees}
 use Rattle.ec_book.specs.Open.{leaf_places, all_leaf_places, LeadsTo, StandsAt}
 use Rattle.ec_book.proofs.OrderLemmas.{leads-more, reached-more}
-
-tick-lower : (loads : List Load) (n : ℕ) (v w : Option ℕ) (ps : Prefix) (t : ℕ) → IsAtMost w v → TickHolds loads n v ps t → TickHolds loads n w ps t
-tick-lower loads n v None ps t low h = absurd (subst (λ x. IsAtMost None x) h.1 low)
-tick-lower loads n v (Some b) ps t low h = let le : b ≤ h.0 = subst (λ x. IsAtMost (Some b) x) h.1 low in let was = h.2 in (b, refl, omega (arith, le, was))
-
-average-lower : (loads : List Load) (n : ℕ) (v w : Option ℕ) (ps : Prefix) → IsAtMost w v → AverageHolds loads n v ps → AverageHolds loads n w ps
-average-lower loads n v None ps low h = absurd (subst (λ x. IsAtMost None x) h.1 low)
-average-lower loads n v (Some b) ps low h =
-    let le : b ≤ h.0 = subst (λ x. IsAtMost (Some b) x) h.1 low in
-    let was = h.2 in
-    let more = mul-le b (lcm_of (periods_of loads)) h.0 (lcm_of (periods_of loads)) le (omega arith) in
-    (b, refl, omega (arith, more, was))
 
 -- a tree at a value is a tree at each smaller one
 module _ (is : Prefix → List ℕ → Type 0) (loads : List Load) (n : ℕ) (v w : Option ℕ) (low : IsAtMost w v) where
@@ -32,9 +18,7 @@ module _ (is : Prefix → List ℕ → Type 0) (loads : List Load) (n : ℕ) (v 
     pub tree-lower : (s : Shape) (ps : Prefix) (order : List ℕ) → TreeWith is loads n v s ps order → TreeWith is loads n w s ps order
     tree-lower (split ts) ps [] h = h
     tree-lower (split ts) ps (u ∷ order) h = trees-lower ts ps u order (children loads n ps u) h
-    tree-lower (tick t) ps order h = tick-lower loads n v w ps t low h
-    tree-lower (full t s) ps order h = h
-    tree-lower average ps order h = average-lower loads n v w ps low h
+    tree-lower (leaf l) ps order h = leaf-falls loads n v w ps l low h
     tree-lower open_leaf ps order h = h
 
     trees-lower : (ts : Shapes) (ps : Prefix) (u : ℕ) (order : List ℕ) (kids : List Place) → TreesWith is loads n v ts ps u order kids → TreesWith is loads n w ts ps u order kids
@@ -63,9 +47,7 @@ module _ (is is2 : Prefix → List ℕ → Type 0) (each : (ps : Prefix) (order 
     pub tree-weaker : (s : Shape) (ps : Prefix) (order : List ℕ) → TreeWith is loads n v s ps order → TreeWith is2 loads n v s ps order
     tree-weaker (split ts) ps [] h = h
     tree-weaker (split ts) ps (u ∷ order) h = trees-weaker ts ps u order (children loads n ps u) h
-    tree-weaker (tick t) ps order h = h
-    tree-weaker (full t s) ps order h = h
-    tree-weaker average ps order h = h
+    tree-weaker (leaf l) ps order h = h
     tree-weaker open_leaf ps order h = each ps order h
 
     trees-weaker : (ts : Shapes) (ps : Prefix) (u : ℕ) (order : List ℕ) (kids : List Place) → TreesWith is loads n v ts ps u order kids → TreesWith is2 loads n v ts ps u order kids
@@ -80,9 +62,7 @@ module _ (is is2 : Prefix → List ℕ → Type 0) (loads : List Load) (n : ℕ)
     pub tree-closed : (s : Shape) (ps : Prefix) (order : List ℕ) → open_count s ≡ 0 → TreeWith is loads n v s ps order → TreeWith is2 loads n v s ps order
     tree-closed (split ts) ps [] e h = h
     tree-closed (split ts) ps (u ∷ order) e h = trees-closed ts ps u order (children loads n ps u) e h
-    tree-closed (tick t) ps order e h = h
-    tree-closed (full t s) ps order e h = h
-    tree-closed average ps order e h = h
+    tree-closed (leaf l) ps order e h = h
     tree-closed open_leaf ps order e h = absurd (omega (arith, e))
 
     trees-closed : (ts : Shapes) (ps : Prefix) (u : ℕ) (order : List ℕ) (kids : List Place) → open_counts ts ≡ 0 → TreesWith is loads n v ts ps u order kids → TreesWith is2 loads n v ts ps u order kids
@@ -96,9 +76,7 @@ module _ (loads : List Load) (n : ℕ) (v : Option ℕ) where
     pub no-open : (s : Shape) (ps : Prefix) (order : List ℕ) → IsTree loads n v s ps order → open_count s ≡ 0
     no-open (split ts) ps [] h = absurd h
     no-open (split ts) ps (u ∷ order) h = none-open ts ps u order (children loads n ps u) h
-    no-open (tick t) ps order h = refl
-    no-open (full t s) ps order h = refl
-    no-open average ps order h = refl
+    no-open (leaf l) ps order h = refl
     no-open open_leaf ps order h = absurd h
 
     none-open : (ts : Shapes) (ps : Prefix) (u : ℕ) (order : List ℕ) (kids : List Place) → TreesWith (λ _ _. ⊥) loads n v ts ps u order kids → open_counts ts ≡ 0
@@ -174,9 +152,7 @@ module _ (is : Prefix → List ℕ → Type 0) (loads : List Load) (n : ℕ) (v 
     pub length-leaves : (s : Shape) (ps : Prefix) (order : List ℕ) (q : List Place) → TreeWith is loads n v s ps order → length (leaf_places loads n s ps order q) ≡ open_count s
     length-leaves (split ts) ps [] q h = absurd h
     length-leaves (split ts) ps (u ∷ order) q h = length-all ts ps u order q (children loads n ps u) h
-    length-leaves (tick t) ps order q h = refl
-    length-leaves (full t s) ps order q h = refl
-    length-leaves average ps order q h = refl
+    length-leaves (leaf l) ps order q h = refl
     length-leaves open_leaf ps order q h = refl
 
     length-all : (ts : Shapes) (ps : Prefix) (u : ℕ) (order : List ℕ) (q : List Place) (kids : List Place) → TreesWith is loads n v ts ps u order kids → length (all_leaf_places loads n ts ps u order q kids) ≡ open_counts ts
@@ -193,9 +169,7 @@ module _ (loads : List Load) (n : ℕ) (whole : List ℕ) where
     pub reached-leaves : (s : Shape) (ps : Prefix) (order : List ℕ) (q : List Place) → LeadsTo loads whole q ps order → IsReachedPrefix loads n whole q → All (IsReachedPrefix loads n whole) (leaf_places loads n s ps order q)
     reached-leaves (split ts) ps [] q leads all = All-none (IsReachedPrefix loads n whole)
     reached-leaves (split ts) ps (u ∷ order) q leads all = reached-all ts ps u order q (children loads n ps u) leads all (λ p is. is)
-    reached-leaves (tick t) ps order q leads all = All-none (IsReachedPrefix loads n whole)
-    reached-leaves (full t s) ps order q leads all = All-none (IsReachedPrefix loads n whole)
-    reached-leaves average ps order q leads all = All-none (IsReachedPrefix loads n whole)
+    reached-leaves (leaf l) ps order q leads all = All-none (IsReachedPrefix loads n whole)
     reached-leaves open_leaf ps order q leads all = All-one (IsReachedPrefix loads n whole) q all
 
     reached-all : (ts : Shapes) (ps : Prefix) (u : ℕ) (order : List ℕ) (q : List Place) (kids : List Place) → LeadsTo loads whole q ps (u ∷ order) → IsReachedPrefix loads n whole q → Inside (children loads n ps u) kids → All (IsReachedPrefix loads n whole) (all_leaf_places loads n ts ps u order q kids)
@@ -221,9 +195,7 @@ module _ (loads : List Load) (n : ℕ) (v : Option ℕ) (whole : List ℕ) (xs :
         → TreeWith (λ _ _. Unit {0}) loads n v s ps order → HasShortTicks s → NumberedTree (StandsAt loads whole xs) loads n v (numbered k s) ps order
     numbered-stands (split ts) ps [] q k front back e is leads h short = h
     numbered-stands (split ts) ps (u ∷ order) q k front back e is leads h short = all-stands ts ps u order q (children loads n ps u) k front back e is leads h short
-    numbered-stands (tick t) ps order q k front back e is leads h short = (h, short)
-    numbered-stands (full t s) ps order q k front back e is leads h short = (h, short)
-    numbered-stands average ps order q k front back e is leads h short = (h, short)
+    numbered-stands (leaf l) ps order q k front back e is leads h short = (h, short)
     numbered-stands open_leaf ps order q k front back e is leads h short = (q, rw (e, is) (seam front q back), leads)
 
     all-stands : (ts : Shapes) (ps : Prefix) (u : ℕ) (order : List ℕ) (q : List Place) (kids : List Place) (k : ℕ) (front back : List (List Place)) → k ≡ length front → xs ≡ front ++ (all_leaf_places loads n ts ps u order q kids ++ back) → LeadsTo loads whole q ps (u ∷ order)

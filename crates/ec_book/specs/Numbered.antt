@@ -2,7 +2,7 @@
 use Rattle.std.specs.Prelude.{ℕ, ◌+◌, ◌==◌, if◌then◌else◌, List, [], ◌∷◌, Option, Some, set}
 use Rattle.ec_units.specs.declared.slave.Place.{Place}
 use Rattle.ec_units.specs.declared.unit.Load.{Load}
-use Rattle.ec_loads.specs.Shape.{Shape, Shapes, split, tick, full, average, open_leaf, no_shapes, more}
+use Rattle.ec_loads.specs.Shape.{Shape, Shapes, split, leaf, open_leaf, no_shapes, more}
 use Rattle.ec_loads.specs.Search.{Prefix, children, IsTree, HasShortTicks, node_count, open_count}
 
 mutual
@@ -19,9 +19,7 @@ mutual
 abbrev mutual
   pub numbered : ℕ → Shape → Numbered
   numbered k (split ts) = branch (all_numbered k ts)
-  numbered k (tick t) = closed (tick t)
-  numbered k (full t s) = closed (full t s)
-  numbered k average = closed average
+  numbered k (leaf l) = closed (leaf l)
   numbered k open_leaf = gap k
 
   pub all_numbered : ℕ → Shapes → Numbereds

@@ -2,7 +2,7 @@
 use Rattle.std.specs.Prelude.{◌≡◌, ℕ, List, [], ◌∷◌, ◌++◌, length, drop, set, slice_get, Some}
 use Rattle.ec_units.specs.declared.slave.Place.{Place}
 use Rattle.ec_units.specs.declared.unit.Load.{Load}
-use Rattle.ec_loads.specs.Shape.{Shape, Shapes, split, tick, full, average, open_leaf, no_shapes, more}
+use Rattle.ec_loads.specs.Shape.{Shape, Shapes, split, leaf, open_leaf, no_shapes, more}
 use Rattle.ec_loads.specs.Search.{Prefix, children}
 use Rattle.ec_symmetry.specs.Orders.{prefix_of}
 
@@ -11,9 +11,7 @@ abbrev mutual
   pub leaf_places : List Load → ℕ → Shape → Prefix → List ℕ → List Place → List (List Place)
   leaf_places loads n (split ts) ps [] q = []
   leaf_places loads n (split ts) ps (u ∷ order) q = all_leaf_places loads n ts ps u order q (children loads n ps u)
-  leaf_places loads n (tick t) ps order q = []
-  leaf_places loads n (full t s) ps order q = []
-  leaf_places loads n average ps order q = []
+  leaf_places loads n (leaf l) ps order q = []
   leaf_places loads n open_leaf ps order q = q ∷ []
 
   pub all_leaf_places : List Load → ℕ → Shapes → Prefix → ℕ → List ℕ → List Place → List Place → List (List Place)

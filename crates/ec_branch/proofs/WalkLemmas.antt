@@ -7,7 +7,7 @@ use Rattle.ec_units.specs.declared.unit.Load.{Load}
 use Rattle.ec_loads.specs.Cost.{items, plan_items, tick_cost, IsBusiest, IsFirstBusiest}
 use Rattle.ec_loads.specs.Held.{Held, items_of}
 use Rattle.ec_loads.specs.Legal.{IsLegal, Fits}
-use Rattle.ec_loads.specs.Shape.{Shape, Shapes, tick}
+use Rattle.ec_loads.specs.Shape.{Shape, Shapes, tick, leaf}
 use Rattle.ec_loads.specs.Search.{Prefix, children, TickHolds, TreesWith, HaveShortTicks, HasShortTicks, IsAtMost, open_count, open_counts, node_count, node_counts}
 use Rattle.ec_symmetry.specs.Reached.{In, here, there, IsInRange}
 use Rattle.ec_symmetry.proofs.InLemmas.{children-In}
@@ -16,7 +16,7 @@ use Rattle.ec_cert.specs.Shapes.{shape_of, shapes_of}
 use Rattle.ec_branch.specs.Frames.{Frame, IsFair}
 use Rattle.ec_branch.specs.Walks.{HoldsAt, IsReadyFor, IsClosing, HasCause, IsWalked}
 use Rattle.ec_bounds.proofs.HeldLemmas.{with_place}
-use Rattle.ec_branch.proofs.LeafLemmas.{closing_tick, shape_of-TickLeaf}
+use Rattle.ec_branch.proofs.LeafLemmas.{closing_leaf, shape_of-TickLeaf}
 
 pub IsAtMost-trans : (a b c : Option ℕ) → IsAtMost a b → IsAtMost b c → IsAtMost a c
 IsAtMost-trans (Some a) (Some b) (Some c) h k = le_trans h k
@@ -180,8 +180,8 @@ found_walked f h floor order plan was first had left halted c b t loads_are slot
     let under : IsAtMost (Some b) (Some c) = value.0 in
     let above = below_value h.loads h.slots first h.places c t reached unreached in
     subst (IsWalked h.loads h.slots floor h.places order was had (Some b) left halted) (sym (shape_of-TickLeaf t))
-    (closed_walked h.loads h.slots floor h.places order was (Some b) had left halted (tick t)
-    (closing_tick h.loads h.slots (Some b) h.places t ((b, refl, omega (arith, reached, value.0)), short))
+    (closed_walked h.loads h.slots floor h.places order was (Some b) had left halted (leaf (tick t))
+    (closing_leaf h.loads h.slots (Some b) h.places (tick t) (b, refl, omega (arith, reached, value.0)) short)
     spent
     (IsAtMost-trans (Some b) first was (IsAtMost-trans (Some b) (Some c) first under above) low)
     (λ g. fair_found floor h.loads h.slots plan c b legal top (subst (λ k. min c k ≤ b) floor_is value.1)))

@@ -6,12 +6,12 @@ use Rattle.ec_units.specs.declared.slave.Place.{Place}
 use Rattle.ec_units.specs.declared.unit.Load.{Load}
 use Rattle.ec_units.specs.Load.{periods_of}
 use Rattle.ec_loads.specs.Cost.{items, payload, tick_cost}
-use Rattle.ec_loads.specs.Shape.{Shape, Shapes, split, tick, full, average, open_leaf, no_shapes, more, shape_count}
-use Rattle.ec_loads.specs.Search.{Prefix, children, least_raw, TickHolds, FullHolds, AverageHolds, TreeWith, TreesWith}
+use Rattle.ec_loads.specs.Shape.{Leaf, tick, full, average, Shape, Shapes, split, leaf, open_leaf, no_shapes, more, shape_count}
+use Rattle.ec_loads.specs.Search.{Prefix, children, least_raw, TickHolds, FullHolds, AverageHolds, LeafHolds, TreeWith, TreesWith}
 use Rattle.ec_checker.specs.declared.fault.CheckFault.{CheckFault}
 use Rattle.ec_checker.specs.declared.fault.CheckFault.TheVariants as fault
 use Rattle.ec_checker.specs.Certified.{IsNodeFault}
-use Rattle.ec_checker.specs.Judged.{next, tick_holds, full_holds, average_holds, leaf_judged, then_judged, tree_judged, trees_judged}
+use Rattle.ec_checker.specs.Judged.{next, tick_holds, full_holds, average_holds, leaf_holds, leaf_judged, then_judged, tree_judged, trees_judged}
 
 -- yes where it holds, and else the fault of a node
 abbrev pub Found : Type 0 → Result ℕ CheckFault → Type 0
@@ -58,6 +58,12 @@ found_average loads n (Some b) ps k =
     (λ e. (b, refl, ltb-true (b * m) (least_raw loads n ps m + m) e))
     (λ h. let e : b ≡ h.0 = cc in lt-ltb (b * m) (least_raw loads n ps m + m) (subst (λ w. w * m < least_raw loads n ps m + m) (sym e) h.2))
 
+-- by what closes the leaf
+found_closed : (loads : List Load) (n : ℕ) (v : Option ℕ) (ps : Prefix) (l : Leaf) (k : ℕ) → Found (LeafHolds loads n v ps l) (leaf_judged (leaf_holds loads n v ps l) k)
+found_closed loads n v ps (tick t) k = found_tick loads n v ps t k
+found_closed loads n v ps (full t s) k = found_full loads n ps t s k
+found_closed loads n v ps average k = found_average loads n v ps k
+
 -- as many trees as children
 trees_count : (loads : List Load) (n : ℕ) (v : Option ℕ) (ts : Shapes) (ps : Prefix) (u : ℕ) (order : List ℕ) (places : List Place) → TreesWith closed loads n v ts ps u order places → shape_count ts ≡ length places
 trees_count loads n v no_shapes ps u order [] h = refl
@@ -77,9 +83,7 @@ mutual
       found_split (TreesWith closed loads n v ts ps u order kids) (shape_count ts == length kids) (trees_judged loads n v ts ps u order kids (next k)) k (length kids) (shape_count ts)
       (λ e. found_trees loads n v ts ps u order kids (next k) (eqb-true (shape_count ts) (length kids) e))
       (λ h. eq-eqb (shape_count ts) (length kids) (trees_count loads n v ts ps u order kids h))
-  found_tree loads n v (tick t) ps order k = found_tick loads n v ps t k
-  found_tree loads n v (full t s) ps order k = found_full loads n ps t s k
-  found_tree loads n v average ps order k = found_average loads n v ps k
+  found_tree loads n v (leaf l) ps order k = found_closed loads n v ps l k
   found_tree loads n v open_leaf ps order k = (tt, λ h. h)
 
   found_trees : (loads : List Load) (n : ℕ) (v : Option ℕ) (ts : Shapes) (ps : Prefix) (u : ℕ) (order : List ℕ) (places : List Place) (k : ℕ) → shape_count ts ≡ length places → Found (TreesWith closed loads n v ts ps u order places) (trees_judged loads n v ts ps u order places k)

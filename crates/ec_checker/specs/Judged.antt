@@ -5,7 +5,7 @@ use Rattle.ec_units.specs.declared.slave.Place.{Place}
 use Rattle.ec_units.specs.declared.unit.Load.{Load}
 use Rattle.ec_units.specs.Load.{periods_of}
 use Rattle.ec_loads.specs.Cost.{items, payload, tick_cost}
-use Rattle.ec_loads.specs.Shape.{Shape, Shapes, split, tick, full, average, open_leaf, no_shapes, more, shape_count}
+use Rattle.ec_loads.specs.Shape.{Leaf, tick, full, average, Shape, Shapes, split, leaf, open_leaf, no_shapes, more, shape_count}
 use Rattle.ec_loads.specs.Search.{Prefix, children, least_raw}
 use Rattle.ec_checker.specs.declared.fault.CheckFault.{CheckFault}
 use Rattle.ec_checker.specs.declared.fault.CheckFault.TheVariants as fault
@@ -31,6 +31,12 @@ abbrev pub average_holds : List Load → ℕ → Option ℕ → Prefix → Bool
 average_holds loads n None ps = false
 average_holds loads n (Some b) ps = nat_lt (b * lcm_of (periods_of loads)) (least_raw loads n ps (lcm_of (periods_of loads)) + lcm_of (periods_of loads))
 
+-- the test of a leaf, by what closes it
+abbrev pub leaf_holds : List Load → ℕ → Option ℕ → Prefix → Leaf → Bool
+leaf_holds loads n v ps (tick t) = tick_holds loads n v ps t
+leaf_holds loads n v ps (full t s) = full_holds loads n ps t s
+leaf_holds loads n v ps average = average_holds loads n v ps
+
 abbrev pub leaf_judged : Bool → ℕ → Result ℕ CheckFault
 leaf_judged holds k = if holds then Ok (next k) else Err (fault.Leaf k)
 
@@ -47,9 +53,7 @@ abbrev mutual
       if shape_count ts == length (children loads n ps u)
       then trees_judged loads n v ts ps u order (children loads n ps u) (next k)
       else Err (fault.Children k (length (children loads n ps u)) (shape_count ts))
-  tree_judged loads n v (tick t) ps order k = leaf_judged (tick_holds loads n v ps t) k
-  tree_judged loads n v (full t s) ps order k = leaf_judged (full_holds loads n ps t s) k
-  tree_judged loads n v average ps order k = leaf_judged (average_holds loads n v ps) k
+  tree_judged loads n v (leaf l) ps order k = leaf_judged (leaf_holds loads n v ps l) k
   tree_judged loads n v open_leaf ps order k = Err (fault.Leaf k)
 
   pub trees_judged : List Load → ℕ → Option ℕ → Shapes → Prefix → ℕ → List ℕ → List Place → ℕ → Result ℕ CheckFault

@@ -4,12 +4,12 @@ use Rattle.ec_units.specs.declared.slave.Place.{Place}
 use Rattle.ec_units.specs.declared.unit.Load.{Load}
 use Rattle.ec_loads.specs.Held.{AreLoads, no_places}
 use Rattle.ec_loads.specs.Legal.{IsLegal}
-use Rattle.ec_loads.specs.Shape.{Shape, Shapes, split, tick, full, average, open_leaf, no_shapes, more}
+use Rattle.ec_loads.specs.Shape.{Shape, Shapes, split, leaf, open_leaf, no_shapes, more}
 use Rattle.ec_loads.specs.Search.{Prefix, Extends, nowhere, children, TreeWith, TreesWith, IsTree, HasTick}
 use Rattle.ec_symmetry.specs.Reached.{In, IsCanonical, CostsAlike, EveryPlanIsReached}
 use Rattle.ec_symmetry.proofs.InLemmas.{In-cases}
 use Rattle.ec_symmetry.proofs.CanonLemmas.{Extends-set, Extends-none}
-use Rattle.ec_bounds.proofs.LeafLemmas.{tick-bounds, full-bounds, average_leaf-bounds}
+use Rattle.ec_bounds.proofs.LeafLemmas.{leaf-bounds}
 
 -- no open leaf is allowed
 abbrev closed : Prefix → List ℕ → Type 0
@@ -20,9 +20,7 @@ mutual
   tree-bounds loads n v (split ts) ps [] plan within h e legal reached = absurd h
   tree-bounds loads n v (split ts) ps (u ∷ order) plan within h e legal reached =
       trees-bound loads n v ts ps u order plan (children loads n ps u) within h e legal reached.0 reached.1
-  tree-bounds loads n v (tick t) ps order plan within h e legal reached = tick-bounds loads n v ps plan e t h
-  tree-bounds loads n v (full t s) ps order plan within h e legal reached = absurd (full-bounds loads n ps plan e legal t s h)
-  tree-bounds loads n v average ps order plan within h e legal reached = average_leaf-bounds loads n v ps plan within e legal h
+  tree-bounds loads n v (leaf l) ps order plan within h e legal reached = leaf-bounds loads n v ps l plan within e legal h
   tree-bounds loads n v open_leaf ps order plan within h e legal reached = absurd h
 
   pub trees-bound : (loads : List Load) (n : ℕ) (v : Option ℕ) (ts : Shapes) (ps : Prefix) (u : ℕ) (order : List ℕ) (plan : List Place) (places : List Place) → AreLoads loads → TreesWith closed loads n v ts ps u order places → Extends ps (map Some plan) → IsLegal loads n plan → In (get_or plan u nowhere) places → IsCanonical loads n (set ps u (Some (get_or plan u nowhere))) order plan → HasTick loads n v plan

@@ -6,7 +6,7 @@ use Rattle.ec_units.specs.declared.units.Units.{Units}
 use Rattle.ec_units.specs.declared.unit.Load.{Load}
 use Rattle.ec_units.specs.Load.{loads_of}
 use Rattle.ec_loads.specs.Held.{no_places}
-use Rattle.ec_loads.specs.Shape.{Shape, Shapes, split, tick, full, average, open_leaf, no_shapes, more}
+use Rattle.ec_loads.specs.Shape.{Shape, Shapes, split, leaf, open_leaf, no_shapes, more}
 use Rattle.ec_loads.specs.Search.{Prefix, children, TreeWith, TreesWith, BoundsAll, HasNoPlan}
 use Rattle.ec_cert.specs.declared.lists.UnitLine.{UnitLine}
 use Rattle.ec_cert.specs.declared.cert.Best.{Best}
@@ -28,9 +28,7 @@ mutual
   tree-partial : (loads : List Load) (n : ℕ) (v : Option ℕ) (t : Shape) (ps : Prefix) (order : List ℕ) → TreeWith (λ _ _. ⊥) loads n v t ps order → TreeWith (λ _ _. Unit {0}) loads n v t ps order
   tree-partial loads n v (split ts) ps [] h = absurd h
   tree-partial loads n v (split ts) ps (u ∷ order) h = trees-partial loads n v ts ps u order (children loads n ps u) h
-  tree-partial loads n v (tick t) ps order h = h
-  tree-partial loads n v (full t s) ps order h = h
-  tree-partial loads n v average ps order h = h
+  tree-partial loads n v (leaf l) ps order h = h
   tree-partial loads n v open_leaf ps order h = tt
 
   trees-partial : (loads : List Load) (n : ℕ) (v : Option ℕ) (ts : Shapes) (ps : Prefix) (u : ℕ) (order : List ℕ) (places : List Place) → TreesWith (λ _ _. ⊥) loads n v ts ps u order places → TreesWith (λ _ _. Unit {0}) loads n v ts ps u order places

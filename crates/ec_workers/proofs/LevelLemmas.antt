@@ -4,10 +4,10 @@ use Rattle.std.proofs.lemmas.List.Elements.{All-head, All-tail, All-get_or}
 use Rattle.ec_units.specs.declared.slave.Place.{Place}
 use Rattle.ec_units.specs.declared.unit.Load.{Load}
 use Rattle.ec_loads.specs.Held.{AreLoads}
-use Rattle.ec_loads.specs.Shape.{Shape, Shapes, split, tick, full, average, open_leaf, no_shapes, more, shape_count}
-use Rattle.ec_loads.specs.Search.{Prefix, nobody, used, children, TreeWith, TreesWith, HasShortTicks, HaveShortTicks}
+use Rattle.ec_loads.specs.Shape.{Leaf, tick, full, average, Shape, Shapes, split, leaf, open_leaf, no_shapes, more, shape_count}
+use Rattle.ec_loads.specs.Search.{Prefix, nobody, used, children, LeafHolds, TreeWith, TreesWith, HasShortTick, HasShortTicks, HaveShortTicks}
 use Rattle.ec_symmetry.proofs.ChoiceLemmas.{count_all}
-use Rattle.ec_cert.specs.Text.{HasLevels, HaveLevels}
+use Rattle.ec_cert.specs.Text.{IsLeafLine, HasLevels, HaveLevels}
 
 abbrev closed : Prefix → List ℕ → Type 0
 closed ps order = ⊥
@@ -31,6 +31,12 @@ children-count loads n ps u within some few h =
     let high : min (suc (used ps)) n * l.period ≤ 8 * 60 = mul-le-mul most is.1 in
     (omega (arith, count, low), omega (arith, count, high))
 
+-- a leaf that holds in a tick that is short has a line
+leaf-line : (loads : List Load) (n : ℕ) (v : Option ℕ) (ps : Prefix) (l : Leaf) → n ≤ 8 → HasShortTick l → LeafHolds loads n v ps l → IsLeafLine l
+leaf-line loads n v ps (tick t) few short h = short
+leaf-line loads n v ps (full t s) few short h = (short, omega (arith, h.0))
+leaf-line loads n v ps average few short h = tt
+
 mutual
   pub tree-levels : (loads : List Load) (n : ℕ) (v : Option ℕ) (t : Shape) (ps : Prefix) (order : List ℕ) (d : ℕ) → AreLoads loads → 1 ≤ n → n ≤ 8 → All (λ u. u < length loads) order → length order ≤ d → HasShortTicks t → TreeWith closed loads n v t ps order → HasLevels (suc d) t
   tree-levels loads n v (split ts) ps [] d within some few below deep short h = absurd h
@@ -39,9 +45,7 @@ mutual
       let is = trees-count loads n v ts ps u order (children loads n ps u) h in
       let count = children-count loads n ps u within some few (All-head (λ w. w < length loads) u order below) in
       (omega (arith, is, count.0), omega (arith, is, count.1), trees-levels loads n v ts ps u order (children loads n ps u) d within some few (All-tail (λ w. w < length loads) u order below) (omega arith) short h)
-  tree-levels loads n v (tick t) ps order d within some few below deep short h = short
-  tree-levels loads n v (full t s) ps order d within some few below deep short h = (short, omega (arith, h.0))
-  tree-levels loads n v average ps order d within some few below deep short h = tt
+  tree-levels loads n v (leaf l) ps order d within some few below deep short h = leaf-line loads n v ps l few short h
   tree-levels loads n v open_leaf ps order d within some few below deep short h = absurd h
 
   trees-levels : (loads : List Load) (n : ℕ) (v : Option ℕ) (ts : Shapes) (ps : Prefix) (u : ℕ) (order : List ℕ) (places : List Place) (d : ℕ) → AreLoads loads → 1 ≤ n → n ≤ 8 → All (λ w. w < length loads) order → length order ≤ d → HaveShortTicks ts → TreesWith closed loads n v ts ps u order places → HaveLevels (suc d) ts
