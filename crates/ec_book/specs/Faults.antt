@@ -15,7 +15,7 @@ use Rattle.ec_book.specs.declared.fault.BookFault.{BookFault}
 use Rattle.ec_book.specs.declared.fault.BookFault.TheVariants as fault
 use Rattle.ec_book.specs.declared.taken.Taken.{Taken as Handed}
 use Rattle.ec_book.specs.declared.taken.Taken.TheVariants as handed
-use Rattle.ec_book.specs.Steps.{granted, taken_count}
+use Rattle.ec_book.specs.Steps.{granted, taken_count, IsBelow}
 use Rattle.ec_cert.specs.BestPlan.{value_of}
 use Rattle.ec_book.specs.Views.{BookView, after_took}
 use Rattle.ec_book.specs.Kept.{NoneFreeBelow}
@@ -88,9 +88,9 @@ IsFullFault xs n _ = ⊥
 abbrev pub IsPlanOf : List Load → ℕ → List Place → ℕ → Type 0
 IsPlanOf loads n plan v = IsLegal loads n plan × IsBusiest (plan_items loads plan) n v
 
--- why a plan is refused
+-- why a plan is refused: it isn't legal, else it isn't better, else memory was refused
 abbrev pub IsBetterFault : BookView → List Place → BookFault → Type 0
 IsBetterFault b plan (fault.Illegal i) = IsIllegalBy b.loads b.slots plan i
 IsBetterFault b plan (fault.NotBetter w) = (v : ℕ) × IsPlanOf b.loads b.slots plan v × (value_of b.best ≡ Some w) × (w ≤ v)
-IsBetterFault b plan fault.OutOfMemory = IsLegal b.loads b.slots plan
+IsBetterFault b plan fault.OutOfMemory = (v : ℕ) × IsPlanOf b.loads b.slots plan v × IsBelow v (value_of b.best)
 IsBetterFault b plan _ = ⊥

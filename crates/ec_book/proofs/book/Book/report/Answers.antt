@@ -140,3 +140,10 @@ invariant_of-self-2 c =
           grown-report loads slots order b.pieces.items b.prefixes.items b.reports.items (value_of b.best) b.spent inv.grown p c.args.worker g k count c.args.prefix.now c.args.sub.threshold c.args.sub.tree
           c.add_free.new.pieces.items c.append.new.self.items c.push_reserved-2.new.self.items welcome.held welcome.place welcome.ahead partial c.in-Ok.ensures.nodes count_is pieces_are prefixes_are reports_are;
     })
+
+pub returns-clause-welcome : goal.returns-clause-welcome
+returns-clause-welcome c =
+    let b = c.self.inside in
+    let welcome : IsWelcome b.pieces.items b.prefixes.items (value_of b.best) c.args.worker c.args.piece c.args.prefix.now c.args.sub.threshold (node_count (shape_of c.args.sub.tree)) c.in-Ok.found.0 =
+    rw (c.as_slice.ensures.value, c.as_slice-2.ensures.value, c.value_in-value.ensures) at c.in-Ok.ensures.ok in
+    rw (← c.self.view_is) (c.in-Ok.found.0, welcome)

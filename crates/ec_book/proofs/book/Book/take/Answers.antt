@@ -20,7 +20,7 @@ invariant_of-self-2 c =
       counted =
           counted-took b.nodes b.pieces.items (value_of b.best) b.spent b.held b.taken b.low b.log.items _ inv.counted c.args.worker p g
           (vec_capacity c.push_reserved.new.self) c.push_reserved.new.self.items at.0 at.1
-          (omega (arith, c.min-grant.ensures, c.from.ensures, c.if-left-eq0.false, c.requires)) (omega (arith, c.min-grant.ensures)) log_is
+          (omega (arith, c.min-grant.ensures, c.from.ensures, c.if-left-gt0.true, c.requires)) (omega (arith, c.min-grant.ensures)) log_is
           (omega (arith, c.in-Ok-reserve.ensures.ok, c.in-Some-checked_add.ensures.1, c.push_reserved.ensures.capacity, c.reserve.ensures.len, b.log.ok.0));
       grown = grown-set b.loads.loads b.loads.slots b.order.items b.pieces.items b.prefixes.items b.reports.items (value_of b.best) b.spent inv.grown p Free (Taken c.args.worker g) at.0 refl;
     })
@@ -43,6 +43,6 @@ returns-clause-ok c =
       reached_at b.loads.loads b.loads.slots b.order.items b.prefixes.items p c.new.result place inv.grown.reached,
       c.value_in.ensures,
       omega (arith, c.min-grant.ensures, c.from.ensures, inv.counted.held_is),
-      omega (arith, c.min-grant.ensures, c.from.ensures, c.if-left-eq0.false, c.requires),
+      omega (arith, c.min-grant.ensures, c.from.ensures, c.if-left-gt0.true, c.requires),
       ap (λ w. book_view b.loads.loads b.loads.slots b.order.items b.nodes (set b.pieces.items p (Taken c.args.worker g)) b.prefixes.items b.best b.spent w) log_is,
     )
