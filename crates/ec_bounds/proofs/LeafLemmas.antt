@@ -8,8 +8,8 @@ use Rattle.ec_units.specs.Load.{periods_of}
 use Rattle.ec_loads.specs.Cost.{plan_items}
 use Rattle.ec_loads.specs.Held.{AreLoads}
 use Rattle.ec_loads.specs.Legal.{IsLegal}
-use Rattle.ec_loads.specs.Search.{Prefix, Extends, TickHolds, FullHolds, AverageHolds, LeafHolds, HasTick, IsAtMost}
-use Rattle.ec_loads.specs.Shape.{Leaf, tick, full, average}
+use Rattle.ec_loads.specs.Search.{Prefix, Extends, TickHolds, FullHolds, AverageHolds, HasTick, IsAtMost}
+use Rattle.ec_loads.specs.Shape.{tick, full, average}
 use Rattle.ec_bounds.specs.Laws.{LeavesBound, LeavesFall}
 use Rattle.ec_loads.proofs.ItemLemmas.{DivideAll-loads}
 use Rattle.ec_bounds.proofs.SubLemmas.{Sub-items, payload-Sub, tick_cost-Sub}
@@ -34,9 +34,9 @@ average_leaf-bounds loads n v ps plan within e legal h =
 
 -- by what closes the leaf
 pub leaf-bounds : LeavesBound
-leaf-bounds loads n v ps (tick t) plan within e legal h = tick-bounds loads n v ps plan e t h
-leaf-bounds loads n v ps (full t s) plan within e legal h = absurd (full-bounds loads n ps plan e legal t s h)
-leaf-bounds loads n v ps average plan within e legal h = average_leaf-bounds loads n v ps plan within e legal h
+leaf-bounds line v ps (tick t) plan within e legal h = tick-bounds line.loads line.slots v ps plan e t h
+leaf-bounds line v ps (full t s) plan within e legal h = absurd (full-bounds line.loads line.slots ps plan e legal t s h)
+leaf-bounds line v ps average plan within e legal h = average_leaf-bounds line.loads line.slots v ps plan within e legal h
 
 -- a value that is at most a number is one
 below_some : (v w : Option ℕ) (b : ℕ) → v ≡ Some b → IsAtMost w v → (a : ℕ) × (w ≡ Some a) × (a ≤ b)
@@ -47,11 +47,11 @@ below_some v w b is low = at w (subst (IsAtMost w) is low)
     at None h = absurd h
 
 pub leaf-falls : LeavesFall
-leaf-falls loads n v w ps (tick t) low (b, some, under) =
+leaf-falls line v w ps (tick t) low (b, some, under) =
     let (a, is, less) = below_some v w b some low in
     (a, is, le_trans less under)
-leaf-falls loads n v w ps (full t s) low h = h
-leaf-falls loads n v w ps average low (b, some, under) =
+leaf-falls line v w ps (full t s) low h = h
+leaf-falls line v w ps average low (b, some, under) =
     let (a, is, less) = below_some v w b some low in
-    let times : a * lcm_of (periods_of loads) ≤ b * lcm_of (periods_of loads) = mul-le-mul_right (lcm_of (periods_of loads)) less in
+    let times : a * lcm_of (periods_of line.loads) ≤ b * lcm_of (periods_of line.loads) = mul-le-mul_right (lcm_of (periods_of line.loads)) less in
     (a, is, omega (arith, times, under))

@@ -1,14 +1,14 @@
 -- Leaves that close a prefix at a value, and at each value below it.
-use Rattle.std.proofs.Common.{◌≡◌, ℕ, ◌*◌, ◌%◌, ◌<◌, ◌≤◌, inl, inr, List, Option, Some, None, MatchOption, refl, sym, ◌∙◌, subst, arith, le_trans, rules}
+use Rattle.std.proofs.Common.{◌≡◌, ℕ, ◌%◌, ◌<◌, ◌≤◌, inl, inr, List, Option, Some, None, MatchOption, refl, sym, ◌∙◌, subst, arith, rules}
 use Rattle.std.proofs.lemmas.Bool.{cases_lt}
 use Rattle.std.proofs.lemmas.Nat.{mod_below}
-use Rattle.std.proofs.Math.Nat.{mul-le-mul_right}
 use Rattle.ec_hyper.specs.Lcm.{lcm_of}
 use Rattle.ec_units.specs.declared.unit.Load.{Load}
 use Rattle.ec_units.specs.Load.{periods_of}
 use Rattle.ec_loads.specs.Cost.{items, payload, tick_cost, IsFirstBusiest}
 use Rattle.ec_loads.specs.Held.{Held, AreLoads, items_of}
 use Rattle.ec_loads.specs.Legal.{Fits}
+use Rattle.ec_loads.specs.Line.{Line}
 use Rattle.ec_loads.specs.Search.{Prefix, TickHolds, FullHolds, AverageHolds, LeafHolds, HasShortTick}
 use Rattle.ec_loads.specs.Shape.{Leaf, tick, average, leaf}
 use Rattle.ec_loads.proofs.CostLemmas.{tick_cost-mod, payload-mod}
@@ -69,13 +69,13 @@ fits_from held none t s within =
     ]
 
 -- a leaf that holds, in a short tick, closes the prefix
-pub closing_leaf : (loads : List Load) (n : ℕ) (v : Option ℕ) (ps : Prefix) (l : Leaf) → LeafHolds loads n v ps l → HasShortTick l → IsClosing loads n v ps (leaf l)
-closing_leaf loads n v ps l h short =
+pub closing_leaf : (line : Line) (v : Option ℕ) (ps : Prefix) (l : Leaf) → LeafHolds line v ps l → HasShortTick l → IsClosing line v ps (leaf l)
+closing_leaf line v ps l h short =
     record {
       one = refl;
       whole = refl;
       short = short;
-      holds = λ w low order. leaf-falls loads n v w ps l low h;
+      holds = λ w low order. leaf-falls line v w ps l low h;
     }
 
 pub shape_of-Average : shape_of Average ≡ leaf average
@@ -85,5 +85,5 @@ pub shape_of-TickLeaf : (t : ℕ) → shape_of (TickLeaf t) ≡ leaf (tick t)
 shape_of-TickLeaf t = search (rules, the_lemmas)
 
 -- the average as a leaf in memory
-pub average_leaf : (loads : List Load) (n : ℕ) (v : Option ℕ) (ps : Prefix) → AverageHolds loads n v ps → IsClosing loads n v ps (shape_of Average)
-average_leaf loads n v ps h = subst (IsClosing loads n v ps) (sym shape_of-Average) (closing_leaf loads n v ps average h tt)
+pub average_leaf : (line : Line) (v : Option ℕ) (ps : Prefix) → AverageHolds line.loads line.slots v ps → IsClosing line v ps (shape_of Average)
+average_leaf line v ps h = subst (IsClosing line v ps) (sym shape_of-Average) (closing_leaf line v ps average h tt)
