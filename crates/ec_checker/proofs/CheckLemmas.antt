@@ -6,6 +6,7 @@ use Rattle.ec_units.specs.declared.unit.Load.{Load}
 use Rattle.ec_units.specs.Load.{load_of, loads_of}
 use Rattle.ec_loads.specs.Cost.{plan_items}
 use Rattle.ec_loads.specs.Held.{Held, no_places}
+use Rattle.ec_loads.specs.Line.{slots_alone, line_by}
 use Rattle.ec_loads.specs.Search.{IsTree, BoundsAll}
 use Rattle.ec_loads.proofs.CostLemmas.{one_busiest}
 use Rattle.ec_loads.proofs.ItemLemmas.{AreLoads-loads_of}
@@ -23,10 +24,10 @@ use Rattle.ec_checker.specs.Laws.{FaultsRefute}
 use Rattle.ec_checker.proofs.FoundLemmas.{Found, found_tree}
 
 abbrev IsTreeOf : List Load → ℕ → CertView → Type 0
-IsTreeOf loads n c = IsTree loads n (value_of c.best) c.tree (no_places loads) c.order
+IsTreeOf loads n c = IsTree (line_by slots_alone loads n) (value_of c.best) c.tree (no_places loads) c.order
 
 found_of : (loads : List Load) (n : ℕ) (c : CertView) → Found (IsTreeOf loads n c) (tree_found loads n c)
-found_of loads n c = found_tree loads n (value_of c.best) c.tree (no_places loads) c.order 0
+found_of loads n c = found_tree (line_by slots_alone loads n) (value_of c.best) c.tree (no_places loads) c.order 0
 
 pub tree_from : (loads : List Load) (n : ℕ) (c : CertView) (k : ℕ) → tree_found loads n c ≡ Ok k → IsTreeOf loads n c
 tree_from loads n c k e = subst (Found (IsTreeOf loads n c)) e (found_of loads n c)
@@ -90,5 +91,5 @@ refutes units n c (fault.Leaf k) other h = λ is. (node_from (loads_of units) n 
 refutes units n c (fault.Depth k) other h = λ is. (node_from (loads_of units) n c (fault.Depth k) h.1).1 is.tree
 
 -- what the walk found
-pub found_is : (loads : List Load) (n : ℕ) (c : CertView) (held : Held) (value : Option ℕ) (order : List ℕ) (r : Result ℕ CheckFault) → held ≡ record { loads = loads; slots = n; places = no_places loads } → value ≡ value_of c.best → order ≡ c.order → r ≡ tree_judged held.loads held.slots value c.tree held.places order 0 → r ≡ tree_found loads n c
-found_is loads n c held value order r at val ord is = is ∙ (λ j. tree_judged (at j).loads (at j).slots (val j) c.tree (at j).places (ord j) 0)
+pub found_is : (loads : List Load) (n : ℕ) (c : CertView) (held : Held) (value : Option ℕ) (order : List ℕ) (r : Result ℕ CheckFault) → held ≡ record { loads = loads; slots = n; places = no_places loads } → value ≡ value_of c.best → order ≡ c.order → r ≡ tree_judged (line_by slots_alone held.loads held.slots) value c.tree held.places order 0 → r ≡ tree_found loads n c
+found_is loads n c held value order r at val ord is = is ∙ (λ j. tree_judged (line_by slots_alone (at j).loads (at j).slots) (val j) c.tree (at j).places (ord j) 0)

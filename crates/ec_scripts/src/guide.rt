@@ -1,7 +1,9 @@
 //! A guide for the scripts, and what a search finds with it.
 
 ghost use Rattle.std.specs.Prelude.{◌≡◌, ℕ, ◌≤◌, IsTrue, IfOk, length, drop, [], ◌∷◌};
+ghost use Rattle.std.specs.Option.{ForSome};
 ghost use Rattle.ec_units.specs.Load.{loads_of};
+ghost use Rattle.ec_loads.specs.Line.{slots_alone, line_by};
 ghost use Rattle.ec_loads.specs.Search.{IsPartialTree};
 ghost use Rattle.ec_symmetry.specs.Orders.{IsOrder, IsReachedPrefix, prefix_of};
 ghost use Rattle.ec_cert.specs.Shapes.{shape_of};
@@ -32,21 +34,29 @@ struct Own<'a> {
     stops: bool,
     heard: Heard,
     halted: bool,
+    pub ghost high: { ForSome value (λ v. floor ≤ v) },
+}
+
+/// A value, raised to the floor.
+fn raised(value: Option<u64>, floor: u64) -> Option<u64>
+    ensures { ForSome result (λ v. floor ≤ v) }
+{
+    match value {
+        Some(value) => Some(value.max(floor)),
+        None => None,
+    }
 }
 
 impl<'a> Guide for Own<'a> {
-    ghost use Rattle.std.specs.Prelude.{◌≤◌};
-
     ghost frame = { λ s. record { loads = loads_of s.units.now.units; slots = s.units.now.slots; floor = s.floor } };
 
     ghost halted = { λ s. s.halted };
 
+    ghost known = { λ s. s.value };
+
     fn bound(&mut self) -> Option<u64> {
         self.heard.asked = self.heard.asked.saturating_add(1);
-        match self.value {
-            Some(value) => Some(value.max(self.floor)),
-            None => None,
-        }
+        self.value
     }
 
     fn found(&mut self, _plan: &Plan, cost: u64) -> Option<u64> {
@@ -56,7 +66,7 @@ impl<'a> Guide for Own<'a> {
                 self.heard.dearer = self.heard.dearer.saturating_add(1);
             }
         }
-        if self.stops {
+        if self.stops || cost < self.floor {
             self.halted = true;
             return None;
         }
@@ -73,7 +83,7 @@ impl<'a> Guide for Own<'a> {
 /// Whether the first unit of the order can take this place.
 fn is_first_child(units: &Units, order: &[u8], place: Place) -> bool
     requires { IsOrder (length units.now.units) order.now }
-    ensures { IsTrue result → IsReachedPrefix (loads_of units.now.units) units.now.slots order.now (place ∷ []) }
+    ensures { IsTrue result → IsReachedPrefix (line_by slots_alone (loads_of units.now.units) units.now.slots) order.now (place ∷ []) }
 {
     match order.split_first() {
         None => false,
@@ -87,7 +97,7 @@ fn is_first_child(units: &Units, order: &[u8], place: Place) -> bool
 /// Whether this is no place or one that the first unit can take.
 pub(crate) fn is_reached(units: &Units, order: &[u8], prefix: &[Place]) -> bool
     requires { IsOrder (length units.now.units) order.now }
-    ensures { IsTrue result → IsReachedPrefix (loads_of units.now.units) units.now.slots order.now prefix.now }
+    ensures { IsTrue result → IsReachedPrefix (line_by slots_alone (loads_of units.now.units) units.now.slots) order.now prefix.now }
 {
     match prefix {
         [] => true,
@@ -115,13 +125,13 @@ pub(crate) fn found_below(
     wish: Wish,
 ) -> Result<(Subtree, Heard), AllocError>
     requires order { IsOrder (length units.now.units) order.now }
-    requires reached { IsReachedPrefix (loads_of units.now.units) units.now.slots order.now prefix.now }
+    requires reached { IsReachedPrefix (line_by slots_alone (loads_of units.now.units) units.now.slots) order.now prefix.now }
     requires some { 1 ≤ wish.grant }
-    ensures { IfOk result (λ r. IsPartialTree (loads_of units.now.units) units.now.slots r.0.threshold (shape_of r.0.tree) (prefix_of (loads_of units.now.units) order.now prefix.now) (drop (length prefix.now) order.now)) }
+    ensures { IfOk result (λ r. IsPartialTree (line_by slots_alone (loads_of units.now.units) units.now.slots) r.0.threshold (shape_of r.0.tree) (prefix_of (loads_of units.now.units) order.now prefix.now) (drop (length prefix.now) order.now)) }
 {
     let mut guide = Own {
         units,
-        value: wish.value,
+        value: raised(wish.value, wish.floor),
         floor: wish.floor,
         stops: wish.stops,
         heard: Heard {
