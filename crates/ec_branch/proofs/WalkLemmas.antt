@@ -1,5 +1,5 @@
 -- The walk over the prefixes: a value that falls, nodes that are counted, leaves that hold.
-use Rattle.std.proofs.Common.{◌≡◌, ℕ, zero, suc, ◌+◌, ◌<◌, ◌≤◌, ◌++◌, min, inl, inr, Bool, true, List, [], ◌∷◌, map, length, set, get_or, Option, Some, None, refl, sym, ap, ◌∙◌, subst, arith, le_trans}
+use Rattle.std.proofs.Common.{◌≡◌, ◌⊎◌, ℕ, zero, suc, ◌+◌, ◌-◌, ◌<◌, ◌≤◌, ◌++◌, Vec, Global, min, inl, inr, Bool, true, List, [], ◌∷◌, map, length, set, get_or, Option, Some, None, refl, sym, ap, ◌∙◌, subst, arith, le_trans}
 use Rattle.std.proofs.lemmas.Bool.{cases_lt}
 use Rattle.std.proofs.lemmas.List.{append_assoc}
 use Rattle.ec_units.specs.declared.slave.Place.{Place}
@@ -12,7 +12,8 @@ use Rattle.ec_loads.specs.Shape.{Shape, Shapes, tick, leaf}
 use Rattle.ec_loads.specs.Search.{Prefix, children, TickHolds, TreesWith, HaveShortTicks, HasShortTicks, IsAtMost, open_count, open_counts, node_count, node_counts}
 use Rattle.ec_symmetry.specs.Reached.{In, here, there, IsInRange}
 use Rattle.ec_symmetry.proofs.InLemmas.{children-In}
-use Rattle.ec_cert.specs.declared.tree.Tree.{Tree, TickLeaf}
+use Rattle.ec_cert.proofs.TreeLemmas.{shape_of-Split}
+use Rattle.ec_cert.specs.declared.tree.Tree.{Tree, Split, TickLeaf}
 use Rattle.ec_cert.specs.Shapes.{shape_of, shapes_of}
 use Rattle.ec_branch.specs.Frames.{Frame, IsFair}
 use Rattle.ec_branch.specs.Walks.{HoldsAt, IsReadyFor, IsClosing, HasCause, IsWalked}
@@ -159,7 +160,7 @@ legal_found loads n ps order found ready none same fits =
     }
 
 -- a cost that no tick of the value reaches is below it
-below_value : (loads : List Load) (n : ℕ) (v : Option ℕ) (ps : Prefix) (c t : ℕ) → tick_cost (items loads ps) n t ≡ c → ((i : ℕ) → ¬ (TickHolds loads n v ps i)) → IsAtMost (Some c) v
+pub below_value : (loads : List Load) (n : ℕ) (v : Option ℕ) (ps : Prefix) (c t : ℕ) → tick_cost (items loads ps) n t ≡ c → ((i : ℕ) → ¬ (TickHolds loads n v ps i)) → IsAtMost (Some c) v
 below_value loads n (Some b) ps c t at none =
     elim (cases_lt c b) [
       | inl less ↦ omega (arith, less)
@@ -201,6 +202,38 @@ loop_more args cur placed floor later u p before was now now2 had left left2 hal
     let one = subst (λ (w : Held). IsWalked (line_of slots_alone w) floor w.places later now left now2 left2 halted2 (shape_of t)) whole step in
     subst (IsWalking (line_of slots_alone args) floor args.places u later (before ++ p ∷ []) was had now2 left2 halted2) (sym pushed)
     (walking_more (line_of slots_alone args) floor args.places u later before p was now now2 had left left2 halted halted2 ts t so_far one stays)
+
+-- the lesser of a fair value and one that a guide answers is fair
+pub fair_lesser : (floor : ℕ) (loads : List Load) (n : ℕ) (was first asked : Option ℕ) → (first ≡ was) ⊎ (first ≡ asked) → ((b : ℕ) → asked ≡ Some b → floor ≤ b) → IsFair floor loads n was → IsFair floor loads n first
+fair_lesser floor loads n was first asked (inl same) high fair = subst (IsFair floor loads n) (sym same) fair
+fair_lesser floor loads n was first None (inr same) high fair = subst (IsFair floor loads n) (sym same) (λ x low bounds. tt)
+fair_lesser floor loads n was first (Some b) (inr same) high fair = subst (IsFair floor loads n) (sym same) (λ x low bounds. let least = high b refl in omega (arith, low, least))
+
+append_none : (xs : List Place) → xs ++ [] ≡ xs
+append_none [] = refl
+append_none (x ∷ xs) = ap (λ w. x ∷ w) (append_none xs)
+
+-- a split of all children
+pub split_walked :
+    (loads : List Load) (n floor : ℕ) (ps : Prefix) (order later : List ℕ) (k u : ℕ) (done rest : List Place)
+    (was first : Option ℕ) (had : ℕ) (now : Option ℕ) (left : ℕ) (halted : Bool) (v : Vec Tree Global) →
+    order ≡ k ∷ later → u ≡ k → done ++ rest ≡ children loads n ps u → rest ≡ [] → 1 ≤ had → IsAtMost first was → (IsFair floor loads n was → IsFair floor loads n first) →
+    IsWalking loads n floor ps u later done first (had - 1) now left halted v.items →
+    IsWalked loads n floor ps order was had now left halted (shape_of (Split v))
+split_walked loads n floor ps order later k u done rest was first had now left halted v from is kids none some low keeps all =
+    let whole : order ≡ u ∷ later = from ∙ ap (λ w. w ∷ later) (sym is) in
+    let every : done ≡ children loads n ps u = sym (append_none done) ∙ ap (λ w. done ++ w) (sym none) ∙ kids in
+    let count = all.count in
+    subst (λ w. IsWalked loads n floor ps w was had now left halted (shape_of (Split v))) (sym whole)
+    (subst (IsWalked loads n floor ps (u ∷ later) was had now left halted) (sym (shape_of-Split v))
+    (record {
+      holds = λ w k. subst (RowHolds loads n w (shapes_of v.items) ps u later) every (all.holds w k);
+      short = all.short;
+      lower = IsAtMost-trans now first was all.lower low;
+      fair = λ f. all.fair (keeps f);
+      count = omega (arith, count, some);
+      cause = all.cause;
+    }))
 
 pub none_left : (xs : List ℕ) → length xs ≡ 0 → xs ≡ []
 none_left [] h = refl

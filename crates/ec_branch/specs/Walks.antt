@@ -1,5 +1,5 @@
 -- What a walk below a prefix gives.
-use Rattle.std.specs.Prelude.{◌≡◌, ℕ, ◌+◌, ◌<◌, ◌⊎◌, List, [], ◌∷◌, map, set, get_or, slice_get, Option, Some, None, Bool, true}
+use Rattle.std.specs.Prelude.{◌≡◌, ℕ, ◌+◌, ◌<◌, ◌⊎◌, List, [], ◌∷◌, map, set, get_or, slice_get, Option, Some, None, Bool, true, false}
 use Rattle.ec_units.specs.declared.slave.Place.{Place}
 use Rattle.ec_units.specs.declared.unit.Load.{Load}
 use Rattle.ec_loads.specs.Line.{Line}
@@ -38,3 +38,10 @@ pub record IsWalked (line : Line) (floor : ℕ) (ps : Prefix) (order : List ℕ)
   pub fair : IsFair floor line.loads line.slots was → IsFair floor line.loads line.slots now
   pub count : node_count tree + left ≡ had
   pub cause : HasCause (open_count tree) left halted
+
+-- a walk from the value `was`, where the guide knew `knew`, to the value `now`, where it knows `knows`: what is known only falls; the value falls no lower than
+-- what the guide knows, and is no higher once it was asked
+pub record FollowsGuide (had : ℕ) (halted : Bool) (was knew now knows : Option ℕ) : Type 0 where
+  pub falls : IsAtMost knows knew
+  pub least : IsAtMost knew was → IsAtMost knows now
+  pub most : ((0 < had) × (halted ≡ false)) ⊎ IsAtMost was knew → IsAtMost now knows

@@ -8,7 +8,7 @@ use Rattle.ec_units.specs.Load.{loads_of}
 use Rattle.ec_loads.specs.Held.{no_places}
 use Rattle.ec_loads.specs.Line.{slots_alone, Line, line_by}
 use Rattle.ec_loads.specs.Shape.{Shape, Shapes, split, leaf, open_leaf, no_shapes, more}
-use Rattle.ec_loads.specs.Search.{Prefix, children, TreeWith, TreesWith, BoundsAll, HasNoPlan}
+use Rattle.ec_loads.specs.Search.{Prefix, children, TreeWith, TreesWith, BoundsAll, HasNoPlan, open_count}
 use Rattle.ec_cert.specs.declared.lists.UnitLine.{UnitLine}
 use Rattle.ec_cert.specs.declared.cert.Best.{Best}
 use Rattle.ec_cert.specs.BestPlan.{value_of}
@@ -76,7 +76,7 @@ optimal refute law us order best tree lines c b plan found is said copied made =
     }))
 
 -- where not even the certificate's plan could be copied
-pub uncopied : (us : List SyncUnit) (n nodes : ℕ) (order : List ℕ) (best given : Option Best) (tree : Shape) → IsFound us n order best tree → best ≡ given → IsUnproved us n nodes given order tree cut.Memory
-uncopied us n nodes order best given tree found is =
+pub uncopied : (us : List SyncUnit) (n nodes : ℕ) (order : List ℕ) (best given : Option Best) (tree : Shape) → IsFound us n order best tree → open_count tree ≡ 0 → best ≡ given → IsUnproved us n nodes given order tree cut.Memory
+uncopied us n nodes order best given tree found closed is =
     let now : IsFound us n order given tree = subst (λ b. IsFound us n order b tree) is found in
-    record { order_is = now.order_is; best_is = now.best_is; tree_is = (tree-partial (line_by slots_alone (loads_of us) n) (value_of given) tree (no_places (loads_of us)) order now.tree_is, now.short); cut_is = tt }
+    record { order_is = now.order_is; best_is = now.best_is; tree_is = (tree-partial (line_by slots_alone (loads_of us) n) (value_of given) tree (no_places (loads_of us)) order now.tree_is, now.short); cut_is = λ _. closed }

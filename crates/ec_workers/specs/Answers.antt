@@ -16,11 +16,11 @@ use Rattle.ec_workers.specs.declared.outcome.Outcome.{Outcome}
 use Rattle.ec_workers.specs.declared.outcome.Outcome.TheVariants as outcome
 use Rattle.ec_workers.specs.Outcomes.{IsOptimal, IsWithoutPlan}
 
--- why a search of one worker ended without a proof: all nodes are spent and a leaf is open, or memory was refused; never because notes disagree
+-- why a search of one worker ended without a proof: all nodes are spent and a leaf is open, else memory was refused; never because notes disagree
 abbrev pub IsCut : ℕ → Shape → Cut → Type 0
 IsCut nodes tree cut.Journal = ⊥
 IsCut nodes tree cut.Budget = (node_count tree ≡ nodes) × (0 < open_count tree)
-IsCut nodes tree cut.Memory = Unit {0}
+IsCut nodes tree cut.Memory = node_count tree ≡ nodes → open_count tree ≡ 0
 
 -- the best plan, if any, is legal and costs what is stated, and the tree is a partial one at that value
 pub record IsUnproved (units : List SyncUnit) (n nodes : ℕ) (best : Option Best) (order : List ℕ) (tree : Shape) (why : Cut) : Type 0 where

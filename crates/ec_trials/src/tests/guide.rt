@@ -28,6 +28,8 @@ impl<'a> Guide for Own<'a> {
 
     ghost halted = { λ s. s.halted };
 
+    ghost known = { λ s. s.value };
+
     fn bound(&mut self) -> Option<u64> {
         self.value
     }
