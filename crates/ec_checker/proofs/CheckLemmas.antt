@@ -1,5 +1,5 @@
 -- From what is found in a certificate to what the checker answers.
-use Rattle.std.proofs.Common.{◌≡◌, ℕ, ◌<◌, List, length, Option, Some, None, Result, Ok, Err, All, refl, ap, sym, subst, ◌∙◌}
+use Rattle.std.proofs.Common.{◌≡◌, ℕ, List, length, Option, Some, None, Result, Ok, Err, refl, ap, sym, subst, ◌∙◌}
 use Rattle.std.proofs.lemmas.List.{length-map}
 use Rattle.ec_units.specs.declared.unit.Unit.{Unit as SyncUnit}
 use Rattle.ec_units.specs.declared.unit.Load.{Load}
@@ -12,6 +12,7 @@ use Rattle.ec_loads.proofs.CostLemmas.{one_busiest}
 use Rattle.ec_loads.proofs.ItemLemmas.{AreLoads-loads_of}
 use Rattle.ec_cert.specs.declared.cert.Best.{Best}
 use Rattle.ec_cert.specs.Shapes.{CertView}
+use Rattle.ec_symmetry.specs.Orders.{IsOrder}
 use Rattle.ec_tree.specs.Trees.{TreesBound}
 use Rattle.ec_checker.specs.declared.fault.CheckFault.{CheckFault}
 use Rattle.ec_checker.specs.declared.fault.CheckFault.TheVariants as fault
@@ -65,8 +66,8 @@ claim_of loads n (Some b) bounds right = (record { plan = b.plan.places; legal =
 pub claim_from : TreesBound → (units : List SyncUnit) (n : ℕ) (c : CertView) (v : Verdict) → IsCertified units n c → v ≡ verdict_of c.best → IsClaim (loads_of units) n c.best v
 claim_from law units n c v is said =
     let loads = loads_of units in
-    let below : All (λ u. u < length loads) c.order = subst (λ k. All (λ u. u < k) c.order) (sym (length-map units load_of)) is.head.order.below in
-    subst (IsClaim loads n c.best) (sym said) (claim_of loads n c.best (law loads n (value_of c.best) c.tree c.order (AreLoads-loads_of units) below is.tree) is.head.best)
+    let order : IsOrder (length loads) c.order = subst (λ k. IsOrder k c.order) (sym (length-map units load_of)) is.head.order in
+    subst (IsClaim loads n c.best) (sym said) (claim_of loads n c.best (law (line_by slots_alone loads n) (value_of c.best) c.tree c.order (AreLoads-loads_of units) order is.tree) is.head.best)
 
 pub plan_refutes : (loads : List Load) (n : ℕ) (best : Option Best) (e : CheckFault) → IsPlanFault loads n best e → ¬ (IsBestPlan loads n best)
 plan_refutes loads n best fault.OutOfMemory h right = absurd h

@@ -40,6 +40,10 @@ EveryPlanIsReached =
     (loads : List Load) (n : ℕ) (order : List ℕ) (plan : List Place) → All (λ u. u < length loads) order → IsLegal loads n plan →
     (other : List Place) × IsLegal loads n other × CostsAlike loads n other plan × IsReached (line_by slots_alone loads n) order other
 
+-- each tick of the one plan costs what some tick of the other costs
+abbrev pub CostsWithin : List Load → ℕ → List Place → List Place → Type 0
+CostsWithin loads n a b = (t : ℕ) → (i : ℕ) × (tick_cost (plan_items loads a) n t ≡ tick_cost (plan_items loads b) n i)
+
 -- a prefix where the units of the order got the plan's places, too
 abbrev pub placed : Prefix → List ℕ → List Place → Prefix
 placed ps [] plan = ps

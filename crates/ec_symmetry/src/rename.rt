@@ -59,8 +59,8 @@ fn rename(places: &mut [Place], order: &[u8])
     }
 }
 
-/// A plan of equal cost in every tick that the children reach, unit by unit in this order: the plan with its slots
-/// renamed by their first use in the order. It is legal where the plan is. Units are numbered in file order.
+/// A plan of equal cost in every tick that the children by slots alone reach, unit by unit in this order: the plan
+/// with its slots renamed by their first use in the order. It is legal where the plan is. Units are numbered in file order.
 pub fn canonical(
     alloc: Global,
     plan: &Plan,

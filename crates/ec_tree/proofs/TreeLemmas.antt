@@ -1,16 +1,18 @@
 -- A tree that holds at a prefix bounds every legal plan that the children reach from it.
-use Rattle.std.proofs.Common.{ℕ, ◌<◌, ◌≤◌, List, [], ◌∷◌, map, length, set, get_or, Option, Some, All, sym, subst, inl, inr}
+use Rattle.std.proofs.Common.{ℕ, ◌≤◌, List, [], ◌∷◌, map, set, get_or, Option, Some, sym, subst, inl, inr}
 use Rattle.ec_units.specs.declared.slave.Place.{Place}
 use Rattle.ec_units.specs.declared.unit.Load.{Load}
 use Rattle.ec_loads.specs.Held.{AreLoads, no_places}
 use Rattle.ec_loads.specs.Legal.{IsLegal}
-use Rattle.ec_loads.specs.Line.{slots_alone, Line, line_by}
+use Rattle.ec_loads.specs.Line.{Line}
 use Rattle.ec_loads.specs.Shape.{Shape, Shapes, split, leaf, open_leaf, no_shapes, more}
-use Rattle.ec_loads.specs.Search.{Prefix, Extends, nowhere, children, TreeWith, TreesWith, IsTree, HasTick}
-use Rattle.ec_symmetry.specs.Reached.{In, IsCanonical, CostsAlike, EveryPlanIsReached}
+use Rattle.ec_loads.specs.Search.{Prefix, Extends, nowhere, children, TreeWith, TreesWith, HasTick}
+use Rattle.ec_symmetry.specs.Orders.{EveryPlanIsReachedBy}
+use Rattle.ec_symmetry.specs.Reached.{In, IsCanonical, CostsWithin}
 use Rattle.ec_symmetry.proofs.InLemmas.{In-cases}
 use Rattle.ec_symmetry.proofs.CanonLemmas.{Extends-set, Extends-none}
 use Rattle.ec_bounds.proofs.LeafLemmas.{leaf-bounds}
+use Rattle.ec_tree.specs.Trees.{TreesBound}
 
 -- no open leaf is allowed
 abbrev closed : Prefix → List ℕ → Type 0
@@ -37,12 +39,12 @@ mutual
         | inr later ↦ trees-bound line v ts ps u order plan rest within h.1 e legal later reached
       ]
 
--- what one plan costs, the other does
-pub HasTick-alike : (loads : List Load) (n : ℕ) (v : Option ℕ) (a b : List Place) → CostsAlike loads n a b → HasTick loads n v a → HasTick loads n v b
-HasTick-alike loads n v a b alike h = (h.0, h.1, h.2, subst (λ w. h.0 ≤ w) (alike h.2) h.3)
+-- a tick of the one plan is some tick of the other
+HasTick-within : (loads : List Load) (n : ℕ) (v : Option ℕ) (a b : List Place) → CostsWithin loads n a b → HasTick loads n v a → HasTick loads n v b
+HasTick-within loads n v a b costs h = let i = costs h.2 in (h.0, h.1, i.0, subst (λ w. h.0 ≤ w) i.1 h.3)
 
 -- a tree at the empty prefix bounds every legal plan
-pub tree-bounds-all : EveryPlanIsReached → (loads : List Load) (n : ℕ) (v : Option ℕ) (tree : Shape) (order : List ℕ) → AreLoads loads → All (λ u. u < length loads) order → IsTree (line_by slots_alone loads n) v tree (no_places loads) order → (plan : List Place) → IsLegal loads n plan → HasTick loads n v plan
-tree-bounds-all every loads n v tree order within all h plan legal =
-    let r = every loads n order plan all legal in
-    HasTick-alike loads n v r.0 plan r.2 (tree-bounds (line_by slots_alone loads n) v tree (no_places loads) order r.0 within h (Extends-none loads r.0 r.1.whole) r.1 r.3)
+pub tree-bounds-all : EveryPlanIsReachedBy → TreesBound
+tree-bounds-all every line v tree order within is h plan legal =
+    let r = every line order plan within is legal in
+    HasTick-within line.loads line.slots v r.0 plan r.2 (tree-bounds line v tree (no_places line.loads) order r.0 within h (Extends-none line.loads r.0 r.1.whole) r.1 r.3)

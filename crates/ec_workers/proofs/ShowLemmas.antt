@@ -16,6 +16,7 @@ use Rattle.ec_loads.specs.Line.{slots_alone, line_by}
 use Rattle.ec_loads.specs.Shape.{Shape}
 use Rattle.ec_loads.specs.Search.{BoundsAll}
 use Rattle.ec_loads.proofs.ItemLemmas.{AreLoads-loads_of}
+use Rattle.ec_symmetry.specs.Orders.{IsOrder}
 use Rattle.ec_cert.specs.declared.cert.Best.{Best}
 use Rattle.ec_cert.specs.Shapes.{CertView}
 use Rattle.ec_cert.specs.Text.{IsUnitLine, IsPlaceLine, IsBestOrNone, IsWellFormed}
@@ -128,5 +129,5 @@ shows refute us n order best tree few found = record {
 
 pub bounds : TreesBound → (us : List SyncUnit) (n : ℕ) (order : List ℕ) (best : Option Best) (tree : Shape) → IsFound us n order best tree → BoundsAll (loads_of us) n (value_of best)
 bounds law us n order best tree found =
-    law (loads_of us) n (value_of best) tree order (AreLoads-loads_of us)
-    (subst (λ k. All (λ u. u < k) order) (sym (length-map us load_of)) found.order_is.below) found.tree_is
+    law (line_by slots_alone (loads_of us) n) (value_of best) tree order (AreLoads-loads_of us)
+    (subst (λ k. IsOrder k order) (sym (length-map us load_of)) found.order_is) found.tree_is
