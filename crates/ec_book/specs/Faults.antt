@@ -7,6 +7,7 @@ use Rattle.ec_loads.specs.Legal.{IsLegal, IsIllegalBy, IsFirstFull}
 use Rattle.ec_loads.specs.declared.item.Item.{Item}
 use Rattle.ec_loads.specs.declared.plan.Illegal.{Illegal}
 use Rattle.ec_loads.specs.declared.plan.Illegal.TheVariants as illegal
+use Rattle.ec_loads.specs.Line.{slots_alone, line_by}
 use Rattle.ec_loads.specs.Search.{IsAtMost}
 use Rattle.ec_symmetry.specs.Orders.{IsReachedPrefix}
 use Rattle.ec_book.specs.declared.piece.Piece.{Piece}
@@ -36,7 +37,7 @@ HasNothing b = NoneFreeBelow b.pieces (length b.pieces) ⊎ (left_of b ≡ 0)
 -- left; nothing yet, where a piece is taken; or that the search is done
 abbrev pub IsHandedOut : BookView → ℕ → ℕ → Handed → BookView → Type 0
 IsHandedOut old worker most (handed.Piece t) new =
-    IsLowestFree old.pieces t.piece × (slice_get old.prefixes t.piece ≡ Some t.prefix) × IsReachedPrefix old.loads old.slots old.order t.prefix × (t.value ≡ value_of old.best)
+    IsLowestFree old.pieces t.piece × (slice_get old.prefixes t.piece ≡ Some t.prefix) × IsReachedPrefix (line_by slots_alone old.loads old.slots) old.order t.prefix × (t.value ≡ value_of old.best)
     × (t.grant ≡ min most (left_of old)) × (1 ≤ t.grant) × (new ≡ after_took old worker t.piece t.grant)
 IsHandedOut old worker most handed.Later new = HasNothing old × (0 < taken_count old.pieces) × (new ≡ old)
 IsHandedOut old worker most handed.Done new = HasNothing old × (taken_count old.pieces ≡ 0) × (new ≡ old)

@@ -3,6 +3,7 @@
 ghost use Rattle.std.specs.Prelude.{◌≡◌, ◌≢◌, ℕ, ◌+◌, ◌<◌, ◌≤◌, ◌^◌, ◌++◌, ◌∷◌, [], IfOk, IfSome, IfErr, OnOk, OnErr, OnSome, IfNone, ◌↔◌, MatchOption, None, Some, length, slice_get, replicate, drop, vec_capacity, vec_len};
 ghost use Rattle.ec_units.specs.Load.{loads_of};
 ghost use Rattle.ec_loads.specs.Held.{no_places};
+ghost use Rattle.ec_loads.specs.Line.{slots_alone, line_by};
 ghost use Rattle.ec_loads.specs.Search.{IsTree, IsPartialTree, node_count as node_count_of, open_count};
 ghost use Rattle.ec_cert.specs.Shapes.{shape_of};
 ghost use Rattle.ec_symmetry.specs.Orders.{IsOrder, prefix_of};
@@ -257,10 +258,10 @@ impl Book {
         prefix: &[Place],
         sub: Subtree,
     ) -> Result<(), (BookFault, Subtree)>
-        requires tree { IsPartialTree self.old.loads self.old.slots sub.threshold (shape_of sub.tree) (prefix_of self.old.loads self.old.order prefix.now) (drop (length prefix.now) self.old.order) }
+        requires tree { IsPartialTree (line_by slots_alone self.old.loads self.old.slots) sub.threshold (shape_of sub.tree) (prefix_of self.old.loads self.old.order prefix.now) (drop (length prefix.now) self.old.order) }
         requires some { 0 < node_count_of (shape_of sub.tree) }
         ensures welcome { OnOk result ((g : ℕ) × IsWelcome self.old.pieces self.old.prefixes (value_of self.old.best) worker piece prefix.now sub.threshold (node_count_of (shape_of sub.tree)) g) }
-        ensures ok { OnOk result (self.new ≡ after_report self.old worker piece (node_count_of (shape_of sub.tree)) (open_places self.old.loads self.old.slots self.old.order (shape_of sub.tree) prefix.now)) }
+        ensures ok { OnOk result (self.new ≡ after_report self.old worker piece (node_count_of (shape_of sub.tree)) (open_places (line_by slots_alone self.old.loads self.old.slots) self.old.order (shape_of sub.tree) prefix.now)) }
         ensures err { IfErr result (λ e. IsReportFault self.old.pieces self.old.prefixes (value_of self.old.best) worker piece prefix.now sub.threshold (node_count_of (shape_of sub.tree)) e.0
             × (e.1 ≡ sub) × (self.new ≡ self.old)) }
     {
@@ -341,8 +342,8 @@ impl Book {
     /// handed back.
     pub fn finish(self) -> Result<Finished, (Book, AllocError)>
         ensures best { IfOk result (λ f. (f.best ≡ self.best) × IsBestPlan self.loads self.slots f.best) }
-        ensures tree { IfOk result (λ f. IsPartialTree self.loads self.slots (value_of self.best) (shape_of f.tree) (no_places self.loads) self.order) }
-        ensures closed { IfOk result (λ f. live_count self.pieces ≡ 0 → IsTree self.loads self.slots (value_of self.best) (shape_of f.tree) (no_places self.loads) self.order) }
+        ensures tree { IfOk result (λ f. IsPartialTree (line_by slots_alone self.loads self.slots) (value_of self.best) (shape_of f.tree) (no_places self.loads) self.order) }
+        ensures closed { IfOk result (λ f. live_count self.pieces ≡ 0 → IsTree (line_by slots_alone self.loads self.slots) (value_of self.best) (shape_of f.tree) (no_places self.loads) self.order) }
         ensures pieces { IfOk result (λ f. ShowsPieces self (shape_of f.tree)) }
         ensures nodes { IfOk result (λ f. (f.spent ≡ self.spent) × (node_count_of (shape_of f.tree) ≡ self.spent)) }
         ensures open { IfOk result (λ f. open_count (shape_of f.tree) ≡ live_count self.pieces) }

@@ -2,6 +2,7 @@
 
 ghost use Rattle.std.specs.Prelude.{◌≡◌, ℕ, ◌≤◌, IsTrue, IfOk, length, drop, [], ◌∷◌};
 ghost use Rattle.ec_units.specs.Load.{loads_of};
+ghost use Rattle.ec_loads.specs.Line.{slots_alone, line_by};
 ghost use Rattle.ec_loads.specs.Search.{IsPartialTree};
 ghost use Rattle.ec_symmetry.specs.Orders.{IsOrder, IsReachedPrefix, prefix_of};
 ghost use Rattle.ec_cert.specs.Shapes.{shape_of};
@@ -52,7 +53,7 @@ impl<'a> Guide for Own<'a> {
 /// Whether the first unit of the order can take this place.
 fn is_first_child(units: &Units, order: &[u8], place: Place) -> bool
     requires { IsOrder (length units.now.units) order.now }
-    ensures { IsTrue result → IsReachedPrefix (loads_of units.now.units) units.now.slots order.now (place ∷ []) }
+    ensures { IsTrue result → IsReachedPrefix (line_by slots_alone (loads_of units.now.units) units.now.slots) order.now (place ∷ []) }
 {
     match order.split_first() {
         None => false,
@@ -66,7 +67,7 @@ fn is_first_child(units: &Units, order: &[u8], place: Place) -> bool
 /// Whether this is no place or one that the first unit can take.
 pub(crate) fn is_reached(units: &Units, order: &[u8], prefix: &[Place]) -> bool
     requires { IsOrder (length units.now.units) order.now }
-    ensures { IsTrue result → IsReachedPrefix (loads_of units.now.units) units.now.slots order.now prefix.now }
+    ensures { IsTrue result → IsReachedPrefix (line_by slots_alone (loads_of units.now.units) units.now.slots) order.now prefix.now }
 {
     match prefix {
         [] => true,
@@ -86,9 +87,9 @@ pub(crate) fn found_below(
     grant: u32,
 ) -> Result<(Subtree, u32), AllocError>
     requires order { IsOrder (length units.now.units) order.now }
-    requires reached { IsReachedPrefix (loads_of units.now.units) units.now.slots order.now prefix.now }
+    requires reached { IsReachedPrefix (line_by slots_alone (loads_of units.now.units) units.now.slots) order.now prefix.now }
     requires some { 1 ≤ grant }
-    ensures { IfOk result (λ r. IsPartialTree (loads_of units.now.units) units.now.slots r.0.threshold (shape_of r.0.tree) (prefix_of (loads_of units.now.units) order.now prefix.now) (drop (length prefix.now) order.now)) }
+    ensures { IfOk result (λ r. IsPartialTree (line_by slots_alone (loads_of units.now.units) units.now.slots) r.0.threshold (shape_of r.0.tree) (prefix_of (loads_of units.now.units) order.now prefix.now) (drop (length prefix.now) order.now)) }
 {
     let mut guide = Own {
         units,

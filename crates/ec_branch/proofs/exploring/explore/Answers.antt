@@ -1,5 +1,6 @@
 use Rattle.std.proofs.Common.{length, rules, None}
 use Rattle.ec_units.specs.Load.{loads_of}
+use Rattle.ec_loads.specs.Line.{slots_alone, line_by}
 use Rattle.ec_loads.specs.Held.{no_places}
 use Rattle.ec_cert.specs.Shapes.{shape_of}
 use Rattle.ec_bounds.proofs.HeldLemmas.{empty_rest}
@@ -10,7 +11,7 @@ use Rattle.ec_branch.proofs.exploring.explore.Goals as goal
 pub place_all-requires-clause-long : goal.place_all-requires-clause-long
 place_all-requires-clause-long g c =
     let loads = loads_of c.args.units.now.units in
-    children_long loads c.args.units.now.slots (no_places loads) c.args.order.now c.args.prefix.now c.requires.reached
+    children_long (line_by slots_alone loads c.args.units.now.slots) (no_places loads) c.args.order.now c.args.prefix.now c.requires.reached
 
 pub place_all-requires-clause-left : goal.place_all-requires-clause-left
 place_all-requires-clause-left g c =
@@ -19,12 +20,12 @@ place_all-requires-clause-left g c =
 pub slice_bounds-later-count : goal.slice_bounds-later-count
 slice_bounds-later-count g c =
     let loads = loads_of c.args.units.now.units in
-    children_long loads c.args.units.now.slots (no_places loads) c.args.order.now c.args.prefix.now c.requires.reached
+    children_long (line_by slots_alone loads c.args.units.now.slots) (no_places loads) c.args.order.now c.args.prefix.now c.requires.reached
 
 pub slice_bounds-later-start : goal.slice_bounds-later-start
 slice_bounds-later-start g c =
     let loads = loads_of c.args.units.now.units in
-    children_long loads c.args.units.now.slots (no_places loads) c.args.order.now c.args.prefix.now c.requires.reached
+    children_long (line_by slots_alone loads c.args.units.now.slots) (no_places loads) c.args.order.now c.args.prefix.now c.requires.reached
 
 pub walk-requires-clause-ready : goal.walk-requires-clause-ready
 walk-requires-clause-ready g c =

@@ -1,6 +1,7 @@
 use Rattle.std.proofs.Common.{rules, ◌≡◌, ◌-◌, ◌<◌, ◌++◌, [], ◌∷◌, length, slice_get, Some, None, ap, sym, subst, ◌∙◌, arith}
 use Rattle.std.proofs.lemmas.Option.{slice_get_within}
 use Rattle.ec_loads.specs.Held.{Held}
+use Rattle.ec_loads.specs.Line.{slots_alone, line_of}
 use Rattle.ec_loads.specs.Search.{children}
 use Rattle.ec_cert.specs.Shapes.{shape_of}
 use Rattle.ec_branch.specs.Frames.{Frame}
@@ -74,7 +75,7 @@ walk-requires g t c κs within =
     let frame : g.G.Guide.frame c.loop-place.guide ≡ g.G.Guide.frame c.args.guide.now = c.loop-place.invariant.frame ∙ c.bound.ensures.frame in
     let ready = ready_at h.loads h.slots h.places c.args.order.now later c.in-Some-split_first.unit.now u c.requires.ready c.in-Some-split_first.ensures.cases.0 c.from-unit.ensures in
     let walking = c.loop-place.invariant.walking in
-    let kids = next_kids walking.0 c.next.new.self c.loop-place.places (children h.loads h.slots h.places u) p c.in-Some-next.ensures.steps walking.1 in
+    let kids = next_kids walking.0 c.next.new.self c.loop-place.places (children (line_of slots_alone h) h.places u) p c.in-Some-next.ensures.steps walking.1 in
     let first = g.G.Guide.frame c.args.guide.now in
     let now = g.G.Guide.frame c.loop-place.guide in (
       search rules,
@@ -134,12 +135,12 @@ loop-place-preserved g t c =
       stays = λ k. walked.stays (c.loop-place.invariant.stays k);
       walking = (
         walking.0 ++ p ∷ [],
-        kids_more walking.0 c.next.new.self c.loop-place.places (children h.loads h.slots h.places u) p c.in-Some-next.ensures.steps walking.1,
+        kids_more walking.0 c.next.new.self c.loop-place.places (children (line_of slots_alone h) h.places u) p c.in-Some-next.ensures.steps walking.1,
         loop_more h c.loop-place.loads c.place.new.self (g.G.Guide.frame c.bound.new.self).floor later u p walking.0
             c.lesser-search.result c.loop-place.search.value c.walk.new.search.value (c.args.search.now.left - 1) c.loop-place.search.left c.walk.new.search.left
             (g.G.Guide.halted c.loop-place.guide) (g.G.Guide.halted c.walk.new.guide) c.loop-place.trees.items c.push.new.self.items c.in_ok-tree-in-Some-split_first.tree
             at c.place.ensures walking.2
-            (subst (λ (f : Frame). IsWalked c.place.new.self.loads c.place.new.self.slots f.floor c.place.new.self.places later c.loop-place.search.value c.loop-place.search.left c.walk.new.search.value c.walk.new.search.left (g.G.Guide.halted c.walk.new.guide) (shape_of c.in_ok-tree-in-Some-split_first.tree)) c.loop-place.invariant.frame walked.walked)
+            (subst (λ (f : Frame). IsWalked (line_of slots_alone c.place.new.self) f.floor c.place.new.self.places later c.loop-place.search.value c.loop-place.search.left c.walk.new.search.value c.walk.new.search.left (g.G.Guide.halted c.walk.new.guide) (shape_of c.in_ok-tree-in-Some-split_first.tree)) c.loop-place.invariant.frame walked.walked)
             walked.stays c.in_ok-push-in-Some-split_first.ensures.items,
       );
     }

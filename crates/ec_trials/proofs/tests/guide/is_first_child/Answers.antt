@@ -6,18 +6,19 @@ use Rattle.ec_units.specs.declared.slave.Place.{Place}
 use Rattle.ec_units.specs.declared.unit.Unit.{Unit as SyncUnit}
 use Rattle.ec_units.specs.Load.{load_of, loads_of}
 use Rattle.ec_loads.specs.Held.{no_places}
+use Rattle.ec_loads.specs.Line.{slots_alone, line_by}
 use Rattle.ec_loads.specs.Search.{nobody}
 use Rattle.ec_symmetry.specs.Orders.{IsOrder, IsReachedPrefix}
 use Rattle.ec_symmetry.proofs.InLemmas.{In-children}
 use Rattle.ec_trials.proofs.tests.guide.is_first_child.Goals as goal
 
 -- a first unit at a place within its ranges is a child
-first_child : (us : List SyncUnit) (n : ℕ) (order later : List ℕ) (k u : ℕ) (unit : SyncUnit) (p : Place) → IsOrder (length us) order → order ≡ k ∷ later → u ≡ k → unit ≡ get_or us u unit → p.phase < unit.period → p.slot ≡ 0 → 1 ≤ n → IsReachedPrefix (loads_of us) n order (p ∷ [])
+first_child : (us : List SyncUnit) (n : ℕ) (order later : List ℕ) (k u : ℕ) (unit : SyncUnit) (p : Place) → IsOrder (length us) order → order ≡ k ∷ later → u ≡ k → unit ≡ get_or us u unit → p.phase < unit.period → p.slot ≡ 0 → 1 ≤ n → IsReachedPrefix (line_by slots_alone (loads_of us) n) order (p ∷ [])
 first_child us n order later k u unit p each from is at phase slot some =
     let first : order ≡ u ∷ later = from ∙ ap (λ w. w ∷ later) (sym is) in
     let within : u < length us = All-head (λ w. w < length us) u later (subst (All (λ w. w < length us)) first each.below) in
     let load : get_or (loads_of us) u nobody ≡ load_of unit = get_or-map load_of us u unit nobody within ∙ ap load_of (sym at) in
-    subst (λ o. IsReachedPrefix (loads_of us) n o (p ∷ [])) (sym first)
+    subst (λ o. IsReachedPrefix (line_by slots_alone (loads_of us) n) o (p ∷ [])) (sym first)
     (In-children (loads_of us) n (no_places (loads_of us)) u p (subst (λ l. p.phase < l.period) (sym load) phase) (omega (arith, slot)) (omega (arith, slot, some)), tt)
 
 pub returns-then-place-as_slice : goal.returns-then-place-as_slice
