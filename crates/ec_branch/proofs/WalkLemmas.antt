@@ -215,19 +215,19 @@ append_none (x ∷ xs) = ap (λ w. x ∷ w) (append_none xs)
 
 -- a split of all children
 pub split_walked :
-    (loads : List Load) (n floor : ℕ) (ps : Prefix) (order later : List ℕ) (k u : ℕ) (done rest : List Place)
+    (line : Line) (floor : ℕ) (ps : Prefix) (order later : List ℕ) (k u : ℕ) (done rest : List Place)
     (was first : Option ℕ) (had : ℕ) (now : Option ℕ) (left : ℕ) (halted : Bool) (v : Vec Tree Global) →
-    order ≡ k ∷ later → u ≡ k → done ++ rest ≡ children loads n ps u → rest ≡ [] → 1 ≤ had → IsAtMost first was → (IsFair floor loads n was → IsFair floor loads n first) →
-    IsWalking loads n floor ps u later done first (had - 1) now left halted v.items →
-    IsWalked loads n floor ps order was had now left halted (shape_of (Split v))
-split_walked loads n floor ps order later k u done rest was first had now left halted v from is kids none some low keeps all =
+    order ≡ k ∷ later → u ≡ k → done ++ rest ≡ children line ps u → rest ≡ [] → 1 ≤ had → IsAtMost first was → (IsFair floor line.loads line.slots was → IsFair floor line.loads line.slots first) →
+    IsWalking line floor ps u later done first (had - 1) now left halted v.items →
+    IsWalked line floor ps order was had now left halted (shape_of (Split v))
+split_walked line floor ps order later k u done rest was first had now left halted v from is kids none some low keeps all =
     let whole : order ≡ u ∷ later = from ∙ ap (λ w. w ∷ later) (sym is) in
-    let every : done ≡ children loads n ps u = sym (append_none done) ∙ ap (λ w. done ++ w) (sym none) ∙ kids in
+    let every : done ≡ children line ps u = sym (append_none done) ∙ ap (λ w. done ++ w) (sym none) ∙ kids in
     let count = all.count in
-    subst (λ w. IsWalked loads n floor ps w was had now left halted (shape_of (Split v))) (sym whole)
-    (subst (IsWalked loads n floor ps (u ∷ later) was had now left halted) (sym (shape_of-Split v))
+    subst (λ w. IsWalked line floor ps w was had now left halted (shape_of (Split v))) (sym whole)
+    (subst (IsWalked line floor ps (u ∷ later) was had now left halted) (sym (shape_of-Split v))
     (record {
-      holds = λ w k. subst (RowHolds loads n w (shapes_of v.items) ps u later) every (all.holds w k);
+      holds = λ w k. subst (RowHolds line w (shapes_of v.items) ps u later) every (all.holds w k);
       short = all.short;
       lower = IsAtMost-trans now first was all.lower low;
       fair = λ f. all.fair (keeps f);

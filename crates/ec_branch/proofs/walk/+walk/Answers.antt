@@ -36,11 +36,11 @@ returns-clause-walked g t c =
     let halted = g.G.Guide.halted c.loop-place.guide in
     let floor = (g.G.Guide.frame c.args.guide.now).floor in
     let same = ap (λ (f : Frame). f.floor) c.bound.ensures.frame in
-    split_walked h.loads h.slots floor h.places c.args.order.now later c.in-Some-split_first.unit.now u walking.0 c.loop-place.places
+    split_walked (line_of slots_alone h) floor h.places c.args.order.now later c.in-Some-split_first.unit.now u walking.0 c.loop-place.places
     c.args.search.now.value c.lesser-search.result c.args.search.now.left c.loop-place.search.value c.loop-place.search.left halted c.loop-place.trees
     c.in-Some-split_first.ensures.cases.0 c.from-unit.ensures walking.1 c.in_default-next.ensures.steps.0 (let some = c.if-search-eq0.false in omega arith) c.lesser-search.ensures.first
     (fair_lesser floor h.loads h.slots c.args.search.now.value c.lesser-search.result c.bound.result c.lesser-search.ensures.one c.bound.ensures.value)
-    (subst (λ f. IsWalking h.loads h.slots f h.places u later walking.0 c.lesser-search.result (c.args.search.now.left - 1) c.loop-place.search.value c.loop-place.search.left halted c.loop-place.trees.items) same walking.2)
+    (subst (λ f. IsWalking (line_of slots_alone h) f h.places u later walking.0 c.lesser-search.result (c.args.search.now.left - 1) c.loop-place.search.value c.loop-place.search.left halted c.loop-place.trees.items) same walking.2)
 
 pub children_of-places-requires : goal.children_of-places-requires
 children_of-places-requires g t c =
