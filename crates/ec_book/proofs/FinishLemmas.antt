@@ -1,7 +1,7 @@
 -- What the tree of a finished book is.
 use Rattle.std.proofs.Common.{◌≡◌, ℕ, arith, ap, ◌∙◌, sym, replicate, length, subst, List, Option}
 use Rattle.ec_units.specs.declared.slave.Place.{Place}
-use Rattle.ec_units.specs.declared.unit.Load.{Load}
+use Rattle.ec_loads.specs.Line.{Line}
 use Rattle.ec_loads.specs.Shape.{Shape, open_leaf}
 use Rattle.ec_loads.specs.Search.{IsTree, IsPartialTree, node_count, open_count}
 use Rattle.ec_loads.specs.Held.{no_places}
@@ -16,8 +16,8 @@ use Rattle.ec_book.specs.Kept.{IsGrown}
 use Rattle.ec_book.proofs.DrawLemmas.{draw-same, shape_at-open, grown-below}
 use Rattle.ec_book.proofs.TreeLemmas.{numbered-plain, gaps-plain, size-plain, tree-closed}
 
-module _ (loads : List Load) (slots : ℕ) (order : List ℕ) (pieces : List Piece) (prefixes : List (List Place)) (reports : List Report) (value : Option ℕ) (spent : ℕ)
-    (h : IsGrown loads slots order pieces prefixes reports value spent) where
+module _ (line : Line) (order : List ℕ) (pieces : List Piece) (prefixes : List (List Place)) (reports : List Report) (value : Option ℕ) (spent : ℕ)
+    (h : IsGrown line order pieces prefixes reports value spent) where
   abbrev tree : Numbered
   tree = grown (gap 0) reports
 
@@ -27,14 +27,14 @@ module _ (loads : List Load) (slots : ℕ) (order : List ℕ) (pieces : List Pie
       is ∙ ap (λ w. draw (shape_at w) tree) opened
       ∙ draw-same (shape_at (replicate count OpenLeaf)) (λ _. open_leaf) (length pieces) (λ m _. shape_at-open count m) tree (grown-below 1 reports (length pieces) (gap 0) h.chain (omega arith))
 
-  pub drawn-partial : (shape : Shape) → shape ≡ plain tree → IsPartialTree loads slots value shape (no_places loads) order
-  drawn-partial shape is = subst (λ s. IsPartialTree loads slots value s (no_places loads) order) (sym is) (numbered-plain (StandsAt loads order prefixes) loads slots value tree (no_places loads) order h.tree)
+  pub drawn-partial : (shape : Shape) → shape ≡ plain tree → IsPartialTree line value shape (no_places line.loads) order
+  drawn-partial shape is = subst (λ s. IsPartialTree line value s (no_places line.loads) order) (sym is) (numbered-plain (StandsAt line.loads order prefixes) line value tree (no_places line.loads) order h.tree)
 
   pub drawn-nodes : (shape : Shape) → shape ≡ plain tree → node_count shape ≡ spent
   drawn-nodes shape is = ap node_count is ∙ size-plain tree ∙ h.pieces_are.spent_is
 
   pub drawn-open : (shape : Shape) → shape ≡ plain tree → open_count shape ≡ live_count pieces
-  drawn-open shape is = ap open_count is ∙ gaps-plain (StandsAt loads order prefixes) loads slots value tree (no_places loads) order h.tree ∙ h.pieces_are.count_is
+  drawn-open shape is = ap open_count is ∙ gaps-plain (StandsAt line.loads order prefixes) line value tree (no_places line.loads) order h.tree ∙ h.pieces_are.count_is
 
-  pub drawn-closed : (shape : Shape) → shape ≡ plain tree → live_count pieces ≡ 0 → IsTree loads slots value shape (no_places loads) order
-  drawn-closed shape is none = tree-closed (λ _ _. Unit {0}) (λ _ _. ⊥) loads slots value shape (no_places loads) order (drawn-open shape is ∙ none) (drawn-partial shape is).0
+  pub drawn-closed : (shape : Shape) → shape ≡ plain tree → live_count pieces ≡ 0 → IsTree line value shape (no_places line.loads) order
+  drawn-closed shape is none = tree-closed (λ _ _. Unit {0}) (λ _ _. ⊥) line value shape (no_places line.loads) order (drawn-open shape is ∙ none) (drawn-partial shape is).0

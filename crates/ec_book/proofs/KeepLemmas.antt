@@ -4,8 +4,8 @@ use Rattle.std.proofs.lemmas.List.{length-replicate}
 use Rattle.std.proofs.lemmas.Option.{get_or_from_slice_get, slice_get_within}
 use Rattle.std.proofs.lemmas.List.Elements.{All-append}
 use Rattle.ec_units.specs.declared.slave.Place.{Place}
-use Rattle.ec_units.specs.declared.unit.Load.{Load}
 use Rattle.ec_loads.specs.Held.{no_places}
+use Rattle.ec_loads.specs.Line.{Line}
 use Rattle.ec_loads.specs.Search.{IsAtMost, IsPartialTree, open_count, node_count}
 use Rattle.ec_cert.specs.Shapes.{shape_of}
 use Rattle.ec_cert.specs.declared.tree.Tree.{Tree}
@@ -67,8 +67,8 @@ taken-not-free w g e = cc
 ended-not-free : Ended ≢ Free
 ended-not-free e = cc
 
-pub reached_at : (loads : List Load) (slots : ℕ) (order : List ℕ) (xs : List (List Place)) (p : ℕ) (q : List Place) → slice_get xs p ≡ Some q → All (IsReachedPrefix loads slots order) xs → IsReachedPrefix loads slots order q
-reached_at loads slots order xs p q at all = subst (IsReachedPrefix loads slots order) (get_or_from_slice_get xs p q q at) (all p q (slice_get_within xs p q at))
+pub reached_at : (line : Line) (order : List ℕ) (xs : List (List Place)) (p : ℕ) (q : List Place) → slice_get xs p ≡ Some q → All (IsReachedPrefix line order) xs → IsReachedPrefix line order q
+reached_at line order xs p q at all = subst (IsReachedPrefix line order) (get_or_from_slice_get xs p q q at) (all p q (slice_get_within xs p q at))
 
 module _ (nodes : ℕ) (ps : List Piece) (value : Option ℕ) (spent held taken low : ℕ) (log : List Step) (room : ℕ) (h : IsCounted nodes ps value spent held taken low log room) where
   abbrev now : PiecesState
@@ -145,9 +145,9 @@ module _ (nodes : ℕ) (ps : List Piece) (value : Option ℕ) (spent held taken 
         low_in = omega (arith, long, size, low_in);
       })
 
-module _ (loads : List Load) (slots : ℕ) (order : List ℕ) (ps : List Piece) (prefixes : List (List Place)) (reports : List Report) (value : Option ℕ) (spent : ℕ) (h : IsGrown loads slots order ps prefixes reports value spent) where
+module _ (line : Line) (order : List ℕ) (ps : List Piece) (prefixes : List (List Place)) (reports : List Report) (value : Option ℕ) (spent : ℕ) (h : IsGrown line order ps prefixes reports value spent) where
   -- a piece that is taken or given back
-  pub grown-set : (p : ℕ) (old new : Piece) → slice_get ps p ≡ Some old → live_one (Some old) ≡ live_one (Some new) → IsGrown loads slots order (set ps p new) prefixes reports value spent
+  pub grown-set : (p : ℕ) (old new : Piece) → slice_get ps p ≡ Some old → live_one (Some old) ≡ live_one (Some new) → IsGrown line order (set ps p new) prefixes reports value spent
   grown-set p old new at same = record {
     chain = subst (λ w. Chain 1 reports w) (sym (length-set' ps p new)) h.chain;
     each = h.each ∙ sym (length-set' ps p new);
@@ -156,13 +156,13 @@ module _ (loads : List Load) (slots : ℕ) (order : List ℕ) (ps : List Piece) 
     tree = h.tree;
   }
 
-  pub grown-better : (v : ℕ) → IsBelow v value → IsGrown loads slots order ps prefixes reports (Some v) spent
+  pub grown-better : (v : ℕ) → IsBelow v value → IsGrown line order ps prefixes reports (Some v) spent
   grown-better v below = record {
     chain = h.chain;
     each = h.each;
     reached = h.reached;
     pieces_are = h.pieces_are;
-    tree = numbered-lower (StandsAt loads order prefixes) loads slots value (Some v) (at_most v value below) (grown (gap 0) reports) (no_places loads) order h.tree;
+    tree = numbered-lower (StandsAt line.loads order prefixes) line value (Some v) (at_most v value below) (grown (gap 0) reports) (no_places line.loads) order h.tree;
   }
     where
       at_most : (v : ℕ) (value : Option ℕ) → IsBelow v value → IsAtMost (Some v) value
@@ -171,29 +171,29 @@ module _ (loads : List Load) (slots : ℕ) (order : List ℕ) (ps : List Piece) 
 
   pub grown-report : (p w g k count : ℕ) (prefix : List Place) (threshold : Option ℕ) (tree : Tree) (new_ps : List Piece) (new_prefixes : List (List Place)) (new_reports : List Report)
       → slice_get ps p ≡ Some (Taken w g) → slice_get prefixes p ≡ Some prefix → IsAtMost value threshold
-      → IsPartialTree loads slots threshold (shape_of tree) (prefix_of loads order prefix) (drop (length prefix) order)
-      → k ≡ node_count (shape_of tree) → count ≡ length (open_places loads slots order (shape_of tree) prefix)
-      → new_ps ≡ set ps p Ended ++ replicate count Free → new_prefixes ≡ prefixes ++ open_places loads slots order (shape_of tree) prefix
+      → IsPartialTree line threshold (shape_of tree) (prefix_of line.loads order prefix) (drop (length prefix) order)
+      → k ≡ node_count (shape_of tree) → count ≡ length (open_places line order (shape_of tree) prefix)
+      → new_ps ≡ set ps p Ended ++ replicate count Free → new_prefixes ≡ prefixes ++ open_places line order (shape_of tree) prefix
       → new_reports ≡ reports ++ (record { piece = p; first = length ps; tree = tree }) ∷ []
-      → IsGrown loads slots order new_ps new_prefixes new_reports value (spent + k)
+      → IsGrown line order new_ps new_prefixes new_reports value (spent + k)
   grown-report p w g k count prefix threshold tree new_ps new_prefixes new_reports at place ahead partial k_is count_is ps_are prefixes_are reports_are =
-      let ps0 = prefix_of loads order prefix in
+      let ps0 = prefix_of line.loads order prefix in
       let rest = drop (length prefix) order in
-      let opened = open_places loads slots order (shape_of tree) prefix in
-      let opens : length opened ≡ open_count (shape_of tree) = length-leaves (λ _ _. Unit {0}) loads slots threshold (shape_of tree) ps0 rest prefix partial.0 in
+      let opened = open_places line order (shape_of tree) prefix in
+      let opens : length opened ≡ open_count (shape_of tree) = length-leaves (λ _ _. Unit {0}) line threshold (shape_of tree) ps0 rest prefix partial.0 in
       let count_opens : count ≡ open_count (shape_of tree) = count_is ∙ opens in
       let made = is-tree-report (grown (gap 0) reports) ps spent p (Taken w g) (shape_of tree) h.pieces_are at refl in
       let r : Report = record { piece = p; first = length ps; tree = tree } in
       let size : length (set ps p Ended ++ replicate count Free) ≡ length ps + count =
       length-append (set ps p Ended) (replicate count Free) ∙ (λ j. length-set' ps p Ended j + length-replicate count Free j) in
       let chain : Chain 1 (reports ++ r ∷ []) (length ps + open_count (shape_of tree)) = chain-push 1 reports (length ps) r h.chain refl (within ps p (Taken w g) at) in
-      let lower : IsPartialTree loads slots value (shape_of tree) ps0 rest = (tree-lower (λ _ _. Unit {0}) loads slots threshold value ahead (shape_of tree) ps0 rest partial.0, partial.1) in
-      let grown_tree = numbered-report loads slots value order prefixes p prefix (shape_of tree) ps0 rest place (refl, refl) lower (grown (gap 0) reports) (no_places loads) order h.tree in
-      let more_reached = reached-leaves loads slots order (shape_of tree) ps0 rest prefix (refl, refl) (reached_at loads slots order prefixes p prefix place h.reached) in
+      let lower : IsPartialTree line value (shape_of tree) ps0 rest = (tree-lower (λ _ _. Unit {0}) line threshold value ahead (shape_of tree) ps0 rest partial.0, partial.1) in
+      let grown_tree = numbered-report line value order prefixes p prefix (shape_of tree) ps0 rest place (refl, refl) lower (grown (gap 0) reports) (no_places line.loads) order h.tree in
+      let more_reached = reached-leaves line order (shape_of tree) ps0 rest prefix (refl, refl) (reached_at line order prefixes p prefix place h.reached) in
       rw (ps_are, prefixes_are, reports_are) (record {
         chain = subst (λ e. Chain 1 (reports ++ r ∷ []) e) (ap (λ x. length ps + x) (sym count_opens) ∙ sym size) chain;
         each = length-append prefixes opened ∙ (λ j. h.each j + (sym count_is) j) ∙ sym size;
-        reached = All-append (IsReachedPrefix loads slots order) prefixes opened h.reached more_reached;
+        reached = All-append (IsReachedPrefix line order) prefixes opened h.reached more_reached;
         pieces_are = rw (grown-push (gap 0) reports r, count_opens, k_is) made;
-        tree = rw (grown-push (gap 0) reports r) (subst (λ x. NumberedTree (StandsAt loads order (prefixes ++ opened)) loads slots value (plug p (numbered x (shape_of tree)) (grown (gap 0) reports)) (no_places loads) order) h.each grown_tree);
+        tree = rw (grown-push (gap 0) reports r) (subst (λ x. NumberedTree (StandsAt line.loads order (prefixes ++ opened)) line value (plug p (numbered x (shape_of tree)) (grown (gap 0) reports)) (no_places line.loads) order) h.each grown_tree);
       })

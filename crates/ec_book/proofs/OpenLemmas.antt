@@ -3,61 +3,64 @@ use Rattle.std.proofs.Common.{◌≡◌, ℕ, ◌+◌, ◌-◌, ◌<◌, ◌≤�
 use Rattle.std.proofs.lemmas.List.{drop_more, drop_all}
 use Rattle.ec_units.specs.declared.slave.Place.{Place}
 use Rattle.ec_units.specs.declared.unit.Load.{Load}
+use Rattle.ec_loads.specs.Line.{slots_alone, Line, line_by}
 use Rattle.ec_loads.specs.Search.{nobody, places_for, different_numbers, children}
 use Rattle.ec_loads.specs.Shape.{split, more}
 use Rattle.ec_cert.specs.declared.tree.Tree.{Tree, Split}
 use Rattle.ec_cert.specs.Shapes.{shape_of, shapes_of}
 use Rattle.ec_cert.proofs.TreeLemmas.{shape_of-Split, shapes_of-drop}
 use Rattle.ec_symmetry.specs.Orders.{IsOrder, prefix_of}
+use Rattle.ec_symmetry.proofs.InLemmas.{children-is}
 use Rattle.ec_symmetry.proofs.SlotLemmas.{slots_of}
 use Rattle.ec_symmetry.proofs.ReachLemmas.{used-same}
 use Rattle.ec_book.specs.Open.{leaf_places, all_leaf_places, open_places}
 use Rattle.ec_book.proofs.OrderLemmas.{slots-prefix, leads-more}
 
 -- what these trees leave open, for these children of the unit
-abbrev pub opened_from : List Load → ℕ → List ℕ → List Tree → ℕ → List Place → List Place → List (List Place)
-opened_from loads n order ts u q kids = all_leaf_places loads n (shapes_of ts) (prefix_of loads order q) u (drop (length q + 1) order) q kids
+abbrev pub opened_from : Line → List ℕ → List Tree → ℕ → List Place → List Place → List (List Place)
+opened_from line order ts u q kids = all_leaf_places line (shapes_of ts) (prefix_of line.loads order q) u (drop (length q + 1) order) q kids
 
 -- what all trees of a split leave open
-abbrev pub opened_all : List Load → ℕ → List ℕ → List Tree → ℕ → List Place → List (List Place)
-opened_all loads n order ts u q = opened_from loads n order ts u q (children loads n (prefix_of loads order q) u)
+abbrev pub opened_all : Line → List ℕ → List Tree → ℕ → List Place → List (List Place)
+opened_all line order ts u q = opened_from line order ts u q (children line (prefix_of line.loads order q) u)
 
 -- the children after the places of a path are those of its prefix
 kids-after : (loads : List Load) (n : ℕ) (order : List ℕ) (u : ℕ) (q kids : List Place) → IsOrder (length loads) order → length q ≤ length order
-    → kids ≡ places_for (get_or loads u nobody).period n (different_numbers (slots_of q)) → kids ≡ children loads n (prefix_of loads order q) u
+    → kids ≡ places_for (get_or loads u nobody).period n (different_numbers (slots_of q)) → kids ≡ children (line_by slots_alone loads n) (prefix_of loads order q) u
 kids-after loads n order u q kids is short e =
     e ∙ ap (places_for (get_or loads u nobody).period n) (sym (used-same (prefix_of loads order q) q (slots-prefix loads order q is short)))
+    ∙ sym (children-is loads n (prefix_of loads order q) u)
 
 -- before the walk over them all trees of the split are left
 pub opened_first : (loads : List Load) (n : ℕ) (order : List ℕ) (ts : List Tree) (u : ℕ) (q path kids : List Place) (out : List (List Place)) → IsOrder (length loads) order → length q ≤ length order → path ≡ q
-    → kids ≡ places_for (get_or loads u nobody).period n (different_numbers (slots_of path)) → out ++ opened_from loads n order ts u q kids ≡ out ++ opened_all loads n order ts u q
+    → kids ≡ places_for (get_or loads u nobody).period n (different_numbers (slots_of path)) → out ++ opened_from (line_by slots_alone loads n) order ts u q kids ≡ out ++ opened_all (line_by slots_alone loads n) order ts u q
 opened_first loads n order ts u q path kids out is short same e =
-    ap (λ w. out ++ opened_from loads n order ts u q w) (kids-after loads n order u q kids is short (e ∙ ap (λ w. places_for (get_or loads u nobody).period n (different_numbers (slots_of w))) same))
+    ap (λ w. out ++ opened_from (line_by slots_alone loads n) order ts u q w) (kids-after loads n order u q kids is short (e ∙ ap (λ w. places_for (get_or loads u nobody).period n (different_numbers (slots_of w))) same))
 
 pub leads-here : (loads : List Load) (order : List ℕ) (q : List Place) (u : ℕ) → length q < length order → u ≡ get_or order (length q) 0 → u ∷ drop (length q + 1) order ≡ drop (length q) order
 leads-here loads order q u h is = (λ j. is j ∷ drop (length q + 1) order) ∙ sym (drop_more order (length q) 0 h)
 
-pub split_opened : (loads : List Load) (n : ℕ) (order : List ℕ) (tree : Tree) (trees : Vec Tree Global) (u : ℕ) (q : List Place) → tree ≡ Split trees → length q < length order → u ≡ get_or order (length q) 0
-    → open_places loads n order (shape_of tree) q ≡ opened_all loads n order trees.items u q
-split_opened loads n order tree trees u q is h at =
+pub split_opened : (line : Line) (order : List ℕ) (tree : Tree) (trees : Vec Tree Global) (u : ℕ) (q : List Place) → tree ≡ Split trees → length q < length order → u ≡ get_or order (length q) 0
+    → open_places line order (shape_of tree) q ≡ opened_all line order trees.items u q
+split_opened line order tree trees u q is h at =
     let whole : shape_of tree ≡ split (shapes_of trees.items) = ap shape_of is ∙ shape_of-Split trees in
-    λ j. leaf_places loads n (whole j) (prefix_of loads order q) (sym (leads-here loads order q u h at) j) q
+    λ j. leaf_places line (whole j) (prefix_of line.loads order q) (sym (leads-here line.loads order q u h at) j) q
 
-pub child_opened : (loads : List Load) (n : ℕ) (order : List ℕ) (ts : List Tree) (u : ℕ) (q : List Place) (kids rest : List Place) (p : Place) (i : ℕ) (t : Tree)
+pub child_opened : (line : Line) (order : List ℕ) (ts : List Tree) (u : ℕ) (q : List Place) (kids rest : List Place) (p : Place) (i : ℕ) (t : Tree)
     → length q < length order → u ≡ get_or order (length q) 0 → i < length ts → t ≡ get_or ts i t → kids ≡ p ∷ rest
-    → opened_from loads n order (drop i ts) u q kids ≡ open_places loads n order (shape_of t) (q ++ p ∷ []) ++ opened_from loads n order (drop (i + 1) ts) u q rest
-child_opened loads n order ts u q kids rest p i t short at h is first =
-    let leads = leads-more loads order q (prefix_of loads order q) u (drop (length q + 1) order) p (refl, leads-here loads order q u short at) in
+    → opened_from line order (drop i ts) u q kids ≡ open_places line order (shape_of t) (q ++ p ∷ []) ++ opened_from line order (drop (i + 1) ts) u q rest
+child_opened line order ts u q kids rest p i t short at h is first =
+    let leads = leads-more line.loads order q (prefix_of line.loads order q) u (drop (length q + 1) order) p (refl, leads-here line.loads order q u short at) in
     let shapes_are : shapes_of (drop i ts) ≡ more (shape_of t) (shapes_of (drop (i + 1) ts)) = shapes_of-drop ts i t h ∙ ap (λ x. more (shape_of x) (shapes_of (drop (i + 1) ts))) (sym is) in
-    (λ j. all_leaf_places loads n (shapes_are j) (prefix_of loads order q) u (drop (length q + 1) order) q (first j))
-    ∙ (λ j. leaf_places loads n (shape_of t) (leads.0 j) (leads.1 j) (q ++ p ∷ []) ++ opened_from loads n order (drop (i + 1) ts) u q rest)
+    (λ j. all_leaf_places line (shapes_are j) (prefix_of line.loads order q) u (drop (length q + 1) order) q (first j))
+    ∙ (λ j. leaf_places line (shape_of t) (leads.0 j) (leads.1 j) (q ++ p ∷ []) ++ opened_from line order (drop (i + 1) ts) u q rest)
 
-pub opened_end : (loads : List Load) (n : ℕ) (order : List ℕ) (ts : List Tree) (u : ℕ) (q : List Place) (kids : List Place) (i : ℕ) → length ts ≤ i → opened_from loads n order (drop i ts) u q kids ≡ []
-opened_end loads n order ts u q kids i h = ap (λ w. opened_from loads n order w u q kids) (drop_all i ts h)
+pub opened_end : (line : Line) (order : List ℕ) (ts : List Tree) (u : ℕ) (q : List Place) (kids : List Place) (i : ℕ) → length ts ≤ i → opened_from line order (drop i ts) u q kids ≡ []
+opened_end line order ts u q kids i h = ap (λ w. opened_from line order w u q kids) (drop_all i ts h)
 
-pub no_kids : (loads : List Load) (n : ℕ) (order : List ℕ) (ts : List Tree) (u : ℕ) (q : List Place) (kids : List Place) → kids ≡ [] → opened_from loads n order ts u q kids ≡ []
-no_kids loads n order [] u q kids e = refl
-no_kids loads n order (t ∷ ts) u q kids e = ap (λ w. opened_from loads n order (t ∷ ts) u q w) e
+pub no_kids : (line : Line) (order : List ℕ) (ts : List Tree) (u : ℕ) (q : List Place) (kids : List Place) → kids ≡ [] → opened_from line order ts u q kids ≡ []
+no_kids line order [] u q kids e = refl
+no_kids line order (t ∷ ts) u q kids e = ap (λ w. opened_from line order (t ∷ ts) u q w) e
 
 assoc : (a b c : List (List Place)) → (a ++ b) ++ c ≡ a ++ (b ++ c)
 assoc [] b c = refl

@@ -5,6 +5,7 @@ use Rattle.std.proofs.lemmas.Bool.{or_parts}
 use Rattle.ec_units.specs.declared.slave.Place.{Place}
 use Rattle.ec_units.specs.declared.unit.Load.{Load}
 use Rattle.ec_loads.specs.Held.{no_places}
+use Rattle.ec_loads.specs.Line.{Line}
 use Rattle.ec_loads.specs.Search.{Prefix, children}
 use Rattle.ec_symmetry.specs.Reached.{In}
 use Rattle.ec_symmetry.specs.Orders.{has_repeat, IsOrder, with_places, prefix_of, AreChildren, IsReachedPrefix}
@@ -49,21 +50,21 @@ pub leads-more : (loads : List Load) (order : List ℕ) (q : List Place) (ps : P
 leads-more loads order q ps u rest p h =
     (ap (λ w. set w u (Some p)) h.0 ∙ sym (with-more (no_places loads) order q p u rest h.1), drop-more order q p u rest h.1)
 
-children-along : (loads : List Load) (n : ℕ) (ps : Prefix) (us : List ℕ) (q : List Place) (p : Place) (u : ℕ) (rest : List ℕ) → u ∷ rest ≡ drop (length q) us → AreChildren loads n ps us q → In p (children loads n (with_places ps us q) u) → AreChildren loads n ps us (q ++ p ∷ [])
-children-along loads n ps [] [] p u rest e all is = absurd (cc)
-children-along loads n ps (w ∷ us) [] p u rest e all is = let same : u ≡ w = cc in (subst (λ x. In p (children loads n ps x)) same is, tt)
-children-along loads n ps [] (r ∷ q) p u rest e all is = absurd (cc)
-children-along loads n ps (w ∷ us) (r ∷ q) p u rest e all is = (all.0, children-along loads n (set ps w (Some r)) us q p u rest e all.1 is)
+children-along : (line : Line) (ps : Prefix) (us : List ℕ) (q : List Place) (p : Place) (u : ℕ) (rest : List ℕ) → u ∷ rest ≡ drop (length q) us → AreChildren line ps us q → In p (children line (with_places ps us q) u) → AreChildren line ps us (q ++ p ∷ [])
+children-along line ps [] [] p u rest e all is = absurd (cc)
+children-along line ps (w ∷ us) [] p u rest e all is = let same : u ≡ w = cc in (subst (λ x. In p (children line ps x)) same is, tt)
+children-along line ps [] (r ∷ q) p u rest e all is = absurd (cc)
+children-along line ps (w ∷ us) (r ∷ q) p u rest e all is = (all.0, children-along line (set ps w (Some r)) us q p u rest e all.1 is)
 
 -- and is reached, where its place is a child
-pub reached-more : (loads : List Load) (n : ℕ) (order : List ℕ) (q : List Place) (ps : Prefix) (u : ℕ) (rest : List ℕ) (p : Place) → LeadsTo loads order q ps (u ∷ rest) → IsReachedPrefix loads n order q → In p (children loads n ps u) → IsReachedPrefix loads n order (q ++ p ∷ [])
-reached-more loads n order q ps u rest p h all is = children-along loads n (no_places loads) order q p u rest h.1 all (subst (λ w. In p (children loads n w u)) h.0 is)
+pub reached-more : (line : Line) (order : List ℕ) (q : List Place) (ps : Prefix) (u : ℕ) (rest : List ℕ) (p : Place) → LeadsTo line.loads order q ps (u ∷ rest) → IsReachedPrefix line order q → In p (children line ps u) → IsReachedPrefix line order (q ++ p ∷ [])
+reached-more line order q ps u rest p h all is = children-along line (no_places line.loads) order q p u rest h.1 all (subst (λ w. In p (children line w u)) h.0 is)
 
-along-short : (loads : List Load) (n : ℕ) (ps : Prefix) (us : List ℕ) (q : List Place) → AreChildren loads n ps us q → length q ≤ length us
-along-short loads n ps us [] all = omega arith
-along-short loads n ps [] (r ∷ q) all = absurd all
-along-short loads n ps (w ∷ us) (r ∷ q) all = let rest = along-short loads n (set ps w (Some r)) us q all.1 in omega arith
+along-short : (line : Line) (ps : Prefix) (us : List ℕ) (q : List Place) → AreChildren line ps us q → length q ≤ length us
+along-short line ps us [] all = omega arith
+along-short line ps [] (r ∷ q) all = absurd all
+along-short line ps (w ∷ us) (r ∷ q) all = let rest = along-short line (set ps w (Some r)) us q all.1 in omega arith
 
 -- a prefix that is reached isn't longer than the order
-pub reached-short : (loads : List Load) (n : ℕ) (order : List ℕ) (q : List Place) → IsReachedPrefix loads n order q → length q ≤ length order
-reached-short loads n order q all = along-short loads n (no_places loads) order q all
+pub reached-short : (line : Line) (order : List ℕ) (q : List Place) → IsReachedPrefix line order q → length q ≤ length order
+reached-short line order q all = along-short line (no_places line.loads) order q all

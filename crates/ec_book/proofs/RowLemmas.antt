@@ -3,7 +3,7 @@ use Rattle.std.proofs.Common.{◌≡◌, ℕ, ◌+◌, ◌<◌, ◌≤◌, refl,
 use Rattle.std.proofs.lemmas.Grind.{common_steps}
 use Rattle.std.proofs.Common.{true, false, ltb}
 use Rattle.std.proofs.lemmas.Bool.{ltb-true, ltb-false}
-use Rattle.ec_loads.specs.Shape.{Shape, Shapes, split, tick, full, average, open_leaf, no_shapes, more}
+use Rattle.ec_loads.specs.Shape.{Shape, Shapes, split, leaf, open_leaf, no_shapes, more}
 use Rattle.ec_loads.specs.Search.{open_count, open_counts, node_count, node_counts}
 use Rattle.ec_book.specs.Numbered.{numbered, all_numbered, size, sizes, gaps, all_gaps, times, all_times, gap}
 use Rattle.ec_book.proofs.PlugLemmas.{Below, AllBelow}
@@ -11,9 +11,7 @@ use Rattle.ec_book.proofs.PlugLemmas.{Below, AllBelow}
 mutual
   pub size-numbered : (k : ℕ) (tree : Shape) → size (numbered k tree) ≡ node_count tree
   size-numbered k (split rows) = let rest_is = size-rows k rows in omega (arith, rest_is)
-  size-numbered k (tick t) = refl
-  size-numbered k (full t z) = refl
-  size-numbered k average = refl
+  size-numbered k (leaf l) = refl
   size-numbered k open_leaf = refl
 
   size-rows : (k : ℕ) (rows : Shapes) → sizes (all_numbered k rows) ≡ node_counts rows
@@ -32,9 +30,7 @@ gap-mid k m h l = let same : m ≡ k = omega arith in grind (arith, common_steps
 mutual
   pub times-low : (k : ℕ) (tree : Shape) (m : ℕ) → m < k → times m (numbered k tree) ≡ 0
   times-low k (split rows) m h = times-low-rows k rows m h
-  times-low k (tick t) m h = refl
-  times-low k (full t z) m h = refl
-  times-low k average m h = refl
+  times-low k (leaf l) m h = refl
   times-low k open_leaf m h = gap-low k m h
 
   times-low-rows : (k : ℕ) (rows : Shapes) (m : ℕ) → m < k → all_times m (all_numbered k rows) ≡ 0
@@ -44,9 +40,7 @@ mutual
 mutual
   pub times-high : (k : ℕ) (tree : Shape) (m : ℕ) → k + open_count tree ≤ m → times m (numbered k tree) ≡ 0
   times-high k (split rows) m h = times-high-rows k rows m h
-  times-high k (tick t) m h = refl
-  times-high k (full t z) m h = refl
-  times-high k average m h = refl
+  times-high k (leaf l) m h = refl
   times-high k open_leaf m h = gap-high k m h
 
   times-high-rows : (k : ℕ) (rows : Shapes) (m : ℕ) → k + open_counts rows ≤ m → all_times m (all_numbered k rows) ≡ 0
@@ -56,9 +50,7 @@ mutual
 mutual
   pub times-mid : (k : ℕ) (tree : Shape) (m : ℕ) → k ≤ m → m < k + open_count tree → times m (numbered k tree) ≡ 1
   times-mid k (split rows) m h l = times-mid-rows k rows m h l
-  times-mid k (tick t) m h l = absurd (omega arith)
-  times-mid k (full t z) m h l = absurd (omega arith)
-  times-mid k average m h l = absurd (omega arith)
+  times-mid k (leaf z) m h l = absurd (omega arith)
   times-mid k open_leaf m h l = gap-mid k m h l
 
   times-mid-rows : (k : ℕ) (rows : Shapes) (m : ℕ) → k ≤ m → m < k + open_counts rows → all_times m (all_numbered k rows) ≡ 1
@@ -72,9 +64,7 @@ mutual
 mutual
   pub Below-numbered : (k : ℕ) (tree : Shape) (c : ℕ) → k + open_count tree ≤ c → Below c (numbered k tree)
   Below-numbered k (split rows) c h = Below-rows k rows c h
-  Below-numbered k (tick t) c h = tt
-  Below-numbered k (full t z) c h = tt
-  Below-numbered k average c h = tt
+  Below-numbered k (leaf l) c h = tt
   Below-numbered k open_leaf c h = omega arith
 
   Below-rows : (k : ℕ) (rows : Shapes) (c : ℕ) → k + open_counts rows ≤ c → AllBelow c (all_numbered k rows)
@@ -84,9 +74,7 @@ mutual
 mutual
   pub gaps-numbered : (k : ℕ) (tree : Shape) → gaps (numbered k tree) ≡ open_count tree
   gaps-numbered k (split rows) = gaps-rows k rows
-  gaps-numbered k (tick t) = refl
-  gaps-numbered k (full t z) = refl
-  gaps-numbered k average = refl
+  gaps-numbered k (leaf l) = refl
   gaps-numbered k open_leaf = refl
 
   gaps-rows : (k : ℕ) (rows : Shapes) → all_gaps (all_numbered k rows) ≡ open_counts rows

@@ -1,149 +1,127 @@
 -- Laws of trees with numbers at their open leaves.
-use Rattle.std.proofs.Common.{◌≡◌, ℕ, zero, suc, ◌+◌, ◌≤◌, ◌==◌, if◌then◌else◌, Bool, true, false, eqb, All, List, [], ◌∷◌, ◌++◌, length, set, drop, Option, Some, None, slice_get, refl, sym, ap, ◌∙◌, subst, arith, length-append}
+use Rattle.std.proofs.Common.{◌≡◌, ℕ, zero, suc, ◌+◌, ◌==◌, if◌then◌else◌, Bool, true, false, eqb, All, List, [], ◌∷◌, ◌++◌, length, set, drop, Option, Some, slice_get, refl, sym, ap, ◌∙◌, subst, arith, length-append}
 use Rattle.std.proofs.lemmas.List.Elements.{All-append}
-use Rattle.std.proofs.lemmas.Nat.{mul-le}
-use Rattle.ec_hyper.specs.Lcm.{lcm_of}
-use Rattle.ec_units.specs.Load.{periods_of}
 use Rattle.ec_units.specs.declared.slave.Place.{Place}
-use Rattle.ec_units.specs.declared.unit.Load.{Load}
-use Rattle.ec_loads.specs.Shape.{Shape, Shapes, split, tick, full, average, open_leaf, no_shapes, more}
-use Rattle.ec_loads.specs.Search.{Prefix, children, TreeWith, TreesWith, IsTree, IsPartialTree, HasShortTicks, HaveShortTicks, IsAtMost, TickHolds, AverageHolds, open_count, open_counts, node_count, node_counts}
+use Rattle.ec_loads.specs.Line.{Line}
+use Rattle.ec_loads.specs.Shape.{Shape, Shapes, split, leaf, open_leaf, no_shapes, more}
+use Rattle.ec_loads.specs.Search.{Prefix, children, TreeWith, TreesWith, IsTree, IsPartialTree, HasShortTicks, HaveShortTicks, IsAtMost, open_count, open_counts, node_count, node_counts}
+use Rattle.ec_bounds.proofs.LeafLemmas.{leaf-falls}
 use Rattle.ec_symmetry.specs.Reached.{In, here, there}
 use Rattle.ec_symmetry.specs.Orders.{IsReachedPrefix, prefix_of}
 use Rattle.ec_book.specs.Numbered.{Numbered, Numbereds, branch, closed, gap, last, next, numbered, all_numbered, fill, fills, plug, plain, draws, size, sizes, gaps, all_gaps, NumberedTree, NumberedTrees}
 use Rattle.ec_book.specs.Open.{leaf_places, all_leaf_places, LeadsTo, StandsAt}
 use Rattle.ec_book.proofs.OrderLemmas.{leads-more, reached-more}
 
-tick-lower : (loads : List Load) (n : ℕ) (v w : Option ℕ) (ps : Prefix) (t : ℕ) → IsAtMost w v → TickHolds loads n v ps t → TickHolds loads n w ps t
-tick-lower loads n v None ps t low h = absurd (subst (λ x. IsAtMost None x) h.1 low)
-tick-lower loads n v (Some b) ps t low h = let le : b ≤ h.0 = subst (λ x. IsAtMost (Some b) x) h.1 low in let was = h.2 in (b, refl, omega (arith, le, was))
-
-average-lower : (loads : List Load) (n : ℕ) (v w : Option ℕ) (ps : Prefix) → IsAtMost w v → AverageHolds loads n v ps → AverageHolds loads n w ps
-average-lower loads n v None ps low h = absurd (subst (λ x. IsAtMost None x) h.1 low)
-average-lower loads n v (Some b) ps low h =
-    let le : b ≤ h.0 = subst (λ x. IsAtMost (Some b) x) h.1 low in
-    let was = h.2 in
-    let more = mul-le b (lcm_of (periods_of loads)) h.0 (lcm_of (periods_of loads)) le (omega arith) in
-    (b, refl, omega (arith, more, was))
-
 -- a tree at a value is a tree at each smaller one
-module _ (is : Prefix → List ℕ → Type 0) (loads : List Load) (n : ℕ) (v w : Option ℕ) (low : IsAtMost w v) where
+module _ (is : Prefix → List ℕ → Type 0) (line : Line) (v w : Option ℕ) (low : IsAtMost w v) where
   mutual
-    pub tree-lower : (s : Shape) (ps : Prefix) (order : List ℕ) → TreeWith is loads n v s ps order → TreeWith is loads n w s ps order
+    pub tree-lower : (s : Shape) (ps : Prefix) (order : List ℕ) → TreeWith is line v s ps order → TreeWith is line w s ps order
     tree-lower (split ts) ps [] h = h
-    tree-lower (split ts) ps (u ∷ order) h = trees-lower ts ps u order (children loads n ps u) h
-    tree-lower (tick t) ps order h = tick-lower loads n v w ps t low h
-    tree-lower (full t s) ps order h = h
-    tree-lower average ps order h = average-lower loads n v w ps low h
+    tree-lower (split ts) ps (u ∷ order) h = trees-lower ts ps u order (children line ps u) h
+    tree-lower (leaf l) ps order h = leaf-falls line v w ps l low h
     tree-lower open_leaf ps order h = h
 
-    trees-lower : (ts : Shapes) (ps : Prefix) (u : ℕ) (order : List ℕ) (kids : List Place) → TreesWith is loads n v ts ps u order kids → TreesWith is loads n w ts ps u order kids
+    trees-lower : (ts : Shapes) (ps : Prefix) (u : ℕ) (order : List ℕ) (kids : List Place) → TreesWith is line v ts ps u order kids → TreesWith is line w ts ps u order kids
     trees-lower no_shapes ps u order [] h = h
     trees-lower no_shapes ps u order (p ∷ kids) h = h
     trees-lower (more t ts) ps u order [] h = h
     trees-lower (more t ts) ps u order (p ∷ kids) h = (tree-lower t (set ps u (Some p)) order h.0, trees-lower ts ps u order kids h.1)
 
-module _ (is : ℕ → Prefix → List ℕ → Type 0) (loads : List Load) (n : ℕ) (v w : Option ℕ) (low : IsAtMost w v) where
+module _ (is : ℕ → Prefix → List ℕ → Type 0) (line : Line) (v w : Option ℕ) (low : IsAtMost w v) where
   mutual
-    pub numbered-lower : (t : Numbered) (ps : Prefix) (order : List ℕ) → NumberedTree is loads n v t ps order → NumberedTree is loads n w t ps order
+    pub numbered-lower : (t : Numbered) (ps : Prefix) (order : List ℕ) → NumberedTree is line v t ps order → NumberedTree is line w t ps order
     numbered-lower (branch ts) ps [] h = h
-    numbered-lower (branch ts) ps (u ∷ order) h = all-lower ts ps u order (children loads n ps u) h
-    numbered-lower (closed s) ps order h = (tree-lower (λ _ _. ⊥) loads n v w low s ps order h.0, h.1)
+    numbered-lower (branch ts) ps (u ∷ order) h = all-lower ts ps u order (children line ps u) h
+    numbered-lower (closed s) ps order h = (tree-lower (λ _ _. ⊥) line v w low s ps order h.0, h.1)
     numbered-lower (gap m) ps order h = h
 
-    all-lower : (ts : Numbereds) (ps : Prefix) (u : ℕ) (order : List ℕ) (kids : List Place) → NumberedTrees is loads n v ts ps u order kids → NumberedTrees is loads n w ts ps u order kids
+    all-lower : (ts : Numbereds) (ps : Prefix) (u : ℕ) (order : List ℕ) (kids : List Place) → NumberedTrees is line v ts ps u order kids → NumberedTrees is line w ts ps u order kids
     all-lower last ps u order [] h = h
     all-lower last ps u order (p ∷ kids) h = h
     all-lower (next t ts) ps u order [] h = h
     all-lower (next t ts) ps u order (p ∷ kids) h = (numbered-lower t (set ps u (Some p)) order h.0, all-lower ts ps u order kids h.1)
 
 -- less is asked of the open leaves
-module _ (is is2 : Prefix → List ℕ → Type 0) (each : (ps : Prefix) (order : List ℕ) → is ps order → is2 ps order) (loads : List Load) (n : ℕ) (v : Option ℕ) where
+module _ (is is2 : Prefix → List ℕ → Type 0) (each : (ps : Prefix) (order : List ℕ) → is ps order → is2 ps order) (line : Line) (v : Option ℕ) where
   mutual
-    pub tree-weaker : (s : Shape) (ps : Prefix) (order : List ℕ) → TreeWith is loads n v s ps order → TreeWith is2 loads n v s ps order
+    pub tree-weaker : (s : Shape) (ps : Prefix) (order : List ℕ) → TreeWith is line v s ps order → TreeWith is2 line v s ps order
     tree-weaker (split ts) ps [] h = h
-    tree-weaker (split ts) ps (u ∷ order) h = trees-weaker ts ps u order (children loads n ps u) h
-    tree-weaker (tick t) ps order h = h
-    tree-weaker (full t s) ps order h = h
-    tree-weaker average ps order h = h
+    tree-weaker (split ts) ps (u ∷ order) h = trees-weaker ts ps u order (children line ps u) h
+    tree-weaker (leaf l) ps order h = h
     tree-weaker open_leaf ps order h = each ps order h
 
-    trees-weaker : (ts : Shapes) (ps : Prefix) (u : ℕ) (order : List ℕ) (kids : List Place) → TreesWith is loads n v ts ps u order kids → TreesWith is2 loads n v ts ps u order kids
+    trees-weaker : (ts : Shapes) (ps : Prefix) (u : ℕ) (order : List ℕ) (kids : List Place) → TreesWith is line v ts ps u order kids → TreesWith is2 line v ts ps u order kids
     trees-weaker no_shapes ps u order [] h = h
     trees-weaker no_shapes ps u order (p ∷ kids) h = h
     trees-weaker (more t ts) ps u order [] h = h
     trees-weaker (more t ts) ps u order (p ∷ kids) h = (tree-weaker t (set ps u (Some p)) order h.0, trees-weaker ts ps u order kids h.1)
 
 -- a tree without open leaves
-module _ (is is2 : Prefix → List ℕ → Type 0) (loads : List Load) (n : ℕ) (v : Option ℕ) where
+module _ (is is2 : Prefix → List ℕ → Type 0) (line : Line) (v : Option ℕ) where
   mutual
-    pub tree-closed : (s : Shape) (ps : Prefix) (order : List ℕ) → open_count s ≡ 0 → TreeWith is loads n v s ps order → TreeWith is2 loads n v s ps order
+    pub tree-closed : (s : Shape) (ps : Prefix) (order : List ℕ) → open_count s ≡ 0 → TreeWith is line v s ps order → TreeWith is2 line v s ps order
     tree-closed (split ts) ps [] e h = h
-    tree-closed (split ts) ps (u ∷ order) e h = trees-closed ts ps u order (children loads n ps u) e h
-    tree-closed (tick t) ps order e h = h
-    tree-closed (full t s) ps order e h = h
-    tree-closed average ps order e h = h
+    tree-closed (split ts) ps (u ∷ order) e h = trees-closed ts ps u order (children line ps u) e h
+    tree-closed (leaf l) ps order e h = h
     tree-closed open_leaf ps order e h = absurd (omega (arith, e))
 
-    trees-closed : (ts : Shapes) (ps : Prefix) (u : ℕ) (order : List ℕ) (kids : List Place) → open_counts ts ≡ 0 → TreesWith is loads n v ts ps u order kids → TreesWith is2 loads n v ts ps u order kids
+    trees-closed : (ts : Shapes) (ps : Prefix) (u : ℕ) (order : List ℕ) (kids : List Place) → open_counts ts ≡ 0 → TreesWith is line v ts ps u order kids → TreesWith is2 line v ts ps u order kids
     trees-closed no_shapes ps u order [] e h = h
     trees-closed no_shapes ps u order (p ∷ kids) e h = h
     trees-closed (more t ts) ps u order [] e h = h
     trees-closed (more t ts) ps u order (p ∷ kids) e h = (tree-closed t (set ps u (Some p)) order (omega (arith, e)) h.0, trees-closed ts ps u order kids (omega (arith, e)) h.1)
 
-module _ (loads : List Load) (n : ℕ) (v : Option ℕ) where
+module _ (line : Line) (v : Option ℕ) where
   mutual
-    pub no-open : (s : Shape) (ps : Prefix) (order : List ℕ) → IsTree loads n v s ps order → open_count s ≡ 0
+    pub no-open : (s : Shape) (ps : Prefix) (order : List ℕ) → IsTree line v s ps order → open_count s ≡ 0
     no-open (split ts) ps [] h = absurd h
-    no-open (split ts) ps (u ∷ order) h = none-open ts ps u order (children loads n ps u) h
-    no-open (tick t) ps order h = refl
-    no-open (full t s) ps order h = refl
-    no-open average ps order h = refl
+    no-open (split ts) ps (u ∷ order) h = none-open ts ps u order (children line ps u) h
+    no-open (leaf l) ps order h = refl
     no-open open_leaf ps order h = absurd h
 
-    none-open : (ts : Shapes) (ps : Prefix) (u : ℕ) (order : List ℕ) (kids : List Place) → TreesWith (λ _ _. ⊥) loads n v ts ps u order kids → open_counts ts ≡ 0
+    none-open : (ts : Shapes) (ps : Prefix) (u : ℕ) (order : List ℕ) (kids : List Place) → TreesWith (λ _ _. ⊥) line v ts ps u order kids → open_counts ts ≡ 0
     none-open no_shapes ps u order kids h = refl
     none-open (more t ts) ps u order [] h = absurd h
     none-open (more t ts) ps u order (p ∷ kids) h = let one = no-open t (set ps u (Some p)) order h.0 in let rest = none-open ts ps u order kids h.1 in omega (arith, one, rest)
 
 -- other trees in place of the open leaves
-module _ (is is2 : ℕ → Prefix → List ℕ → Type 0) (loads : List Load) (n : ℕ) (v : Option ℕ) (f : ℕ → Numbered) (each : (m : ℕ) (ps : Prefix) (order : List ℕ) → is m ps order → NumberedTree is2 loads n v (f m) ps order) where
+module _ (is is2 : ℕ → Prefix → List ℕ → Type 0) (line : Line) (v : Option ℕ) (f : ℕ → Numbered) (each : (m : ℕ) (ps : Prefix) (order : List ℕ) → is m ps order → NumberedTree is2 line v (f m) ps order) where
   mutual
-    pub numbered-fill : (t : Numbered) (ps : Prefix) (order : List ℕ) → NumberedTree is loads n v t ps order → NumberedTree is2 loads n v (fill f t) ps order
+    pub numbered-fill : (t : Numbered) (ps : Prefix) (order : List ℕ) → NumberedTree is line v t ps order → NumberedTree is2 line v (fill f t) ps order
     numbered-fill (branch ts) ps [] h = h
-    numbered-fill (branch ts) ps (u ∷ order) h = all-fill ts ps u order (children loads n ps u) h
+    numbered-fill (branch ts) ps (u ∷ order) h = all-fill ts ps u order (children line ps u) h
     numbered-fill (closed s) ps order h = h
     numbered-fill (gap m) ps order h = each m ps order h
 
-    all-fill : (ts : Numbereds) (ps : Prefix) (u : ℕ) (order : List ℕ) (kids : List Place) → NumberedTrees is loads n v ts ps u order kids → NumberedTrees is2 loads n v (fills f ts) ps u order kids
+    all-fill : (ts : Numbereds) (ps : Prefix) (u : ℕ) (order : List ℕ) (kids : List Place) → NumberedTrees is line v ts ps u order kids → NumberedTrees is2 line v (fills f ts) ps u order kids
     all-fill last ps u order [] h = h
     all-fill last ps u order (p ∷ kids) h = h
     all-fill (next t ts) ps u order [] h = h
     all-fill (next t ts) ps u order (p ∷ kids) h = (numbered-fill t (set ps u (Some p)) order h.0, all-fill ts ps u order kids h.1)
 
 -- without numbers it is a partial tree, with as many nodes and open leaves
-module _ (is : ℕ → Prefix → List ℕ → Type 0) (loads : List Load) (n : ℕ) (v : Option ℕ) where
+module _ (is : ℕ → Prefix → List ℕ → Type 0) (line : Line) (v : Option ℕ) where
   mutual
-    pub numbered-plain : (t : Numbered) (ps : Prefix) (order : List ℕ) → NumberedTree is loads n v t ps order → IsPartialTree loads n v (plain t) ps order
+    pub numbered-plain : (t : Numbered) (ps : Prefix) (order : List ℕ) → NumberedTree is line v t ps order → IsPartialTree line v (plain t) ps order
     numbered-plain (branch ts) ps [] h = absurd h
-    numbered-plain (branch ts) ps (u ∷ order) h = all-plain ts ps u order (children loads n ps u) h
-    numbered-plain (closed s) ps order h = (tree-weaker (λ _ _. ⊥) (λ _ _. Unit {0}) (λ _ _ no. absurd no) loads n v s ps order h.0, h.1)
+    numbered-plain (branch ts) ps (u ∷ order) h = all-plain ts ps u order (children line ps u) h
+    numbered-plain (closed s) ps order h = (tree-weaker (λ _ _. ⊥) (λ _ _. Unit {0}) (λ _ _ no. absurd no) line v s ps order h.0, h.1)
     numbered-plain (gap m) ps order h = (tt, tt)
 
-    all-plain : (ts : Numbereds) (ps : Prefix) (u : ℕ) (order : List ℕ) (kids : List Place) → NumberedTrees is loads n v ts ps u order kids → TreesWith (λ _ _. Unit {0}) loads n v (draws (λ _. open_leaf) ts) ps u order kids × HaveShortTicks (draws (λ _. open_leaf) ts)
+    all-plain : (ts : Numbereds) (ps : Prefix) (u : ℕ) (order : List ℕ) (kids : List Place) → NumberedTrees is line v ts ps u order kids → TreesWith (λ _ _. Unit {0}) line v (draws (λ _. open_leaf) ts) ps u order kids × HaveShortTicks (draws (λ _. open_leaf) ts)
     all-plain last ps u order [] h = (tt, tt)
     all-plain last ps u order (p ∷ kids) h = absurd h
     all-plain (next t ts) ps u order [] h = absurd h
     all-plain (next t ts) ps u order (p ∷ kids) h = let one = numbered-plain t (set ps u (Some p)) order h.0 in let rest = all-plain ts ps u order kids h.1 in ((one.0, rest.0), (one.1, rest.1))
 
   mutual
-    pub gaps-plain : (t : Numbered) (ps : Prefix) (order : List ℕ) → NumberedTree is loads n v t ps order → open_count (plain t) ≡ gaps t
+    pub gaps-plain : (t : Numbered) (ps : Prefix) (order : List ℕ) → NumberedTree is line v t ps order → open_count (plain t) ≡ gaps t
     gaps-plain (branch ts) ps [] h = absurd h
-    gaps-plain (branch ts) ps (u ∷ order) h = all_gaps-plain ts ps u order (children loads n ps u) h
-    gaps-plain (closed s) ps order h = no-open loads n v s ps order h.0
+    gaps-plain (branch ts) ps (u ∷ order) h = all_gaps-plain ts ps u order (children line ps u) h
+    gaps-plain (closed s) ps order h = no-open line v s ps order h.0
     gaps-plain (gap m) ps order h = refl
 
-    all_gaps-plain : (ts : Numbereds) (ps : Prefix) (u : ℕ) (order : List ℕ) (kids : List Place) → NumberedTrees is loads n v ts ps u order kids → open_counts (draws (λ _. open_leaf) ts) ≡ all_gaps ts
+    all_gaps-plain : (ts : Numbereds) (ps : Prefix) (u : ℕ) (order : List ℕ) (kids : List Place) → NumberedTrees is line v ts ps u order kids → open_counts (draws (λ _. open_leaf) ts) ≡ all_gaps ts
     all_gaps-plain last ps u order kids h = refl
     all_gaps-plain (next t ts) ps u order [] h = absurd h
     all_gaps-plain (next t ts) ps u order (p ∷ kids) h = let one = gaps-plain t (set ps u (Some p)) order h.0 in let rest = all_gaps-plain ts ps u order kids h.1 in omega (arith, one, rest)
@@ -169,41 +147,37 @@ All-one P q holds (suc k) d h = absurd (omega arith)
 abbrev Inside : List Place → List Place → Type 0
 Inside xs ys = (p : Place) → In p ys → In p xs
 
-module _ (is : Prefix → List ℕ → Type 0) (loads : List Load) (n : ℕ) (v : Option ℕ) where
+module _ (is : Prefix → List ℕ → Type 0) (line : Line) (v : Option ℕ) where
   mutual
-    pub length-leaves : (s : Shape) (ps : Prefix) (order : List ℕ) (q : List Place) → TreeWith is loads n v s ps order → length (leaf_places loads n s ps order q) ≡ open_count s
+    pub length-leaves : (s : Shape) (ps : Prefix) (order : List ℕ) (q : List Place) → TreeWith is line v s ps order → length (leaf_places line s ps order q) ≡ open_count s
     length-leaves (split ts) ps [] q h = absurd h
-    length-leaves (split ts) ps (u ∷ order) q h = length-all ts ps u order q (children loads n ps u) h
-    length-leaves (tick t) ps order q h = refl
-    length-leaves (full t s) ps order q h = refl
-    length-leaves average ps order q h = refl
+    length-leaves (split ts) ps (u ∷ order) q h = length-all ts ps u order q (children line ps u) h
+    length-leaves (leaf l) ps order q h = refl
     length-leaves open_leaf ps order q h = refl
 
-    length-all : (ts : Shapes) (ps : Prefix) (u : ℕ) (order : List ℕ) (q : List Place) (kids : List Place) → TreesWith is loads n v ts ps u order kids → length (all_leaf_places loads n ts ps u order q kids) ≡ open_counts ts
+    length-all : (ts : Shapes) (ps : Prefix) (u : ℕ) (order : List ℕ) (q : List Place) (kids : List Place) → TreesWith is line v ts ps u order kids → length (all_leaf_places line ts ps u order q kids) ≡ open_counts ts
     length-all no_shapes ps u order q kids h = refl
     length-all (more t ts) ps u order q [] h = absurd h
     length-all (more t ts) ps u order q (p ∷ kids) h =
         let one = length-leaves t (set ps u (Some p)) order (q ++ p ∷ []) h.0 in
         let rest = length-all ts ps u order q kids h.1 in
-        let whole = length-append (leaf_places loads n t (set ps u (Some p)) order (q ++ p ∷ [])) (all_leaf_places loads n ts ps u order q kids) in
+        let whole = length-append (leaf_places line t (set ps u (Some p)) order (q ++ p ∷ [])) (all_leaf_places line ts ps u order q kids) in
         omega (arith, one, rest, whole)
 
-module _ (loads : List Load) (n : ℕ) (whole : List ℕ) where
+module _ (line : Line) (whole : List ℕ) where
   mutual
-    pub reached-leaves : (s : Shape) (ps : Prefix) (order : List ℕ) (q : List Place) → LeadsTo loads whole q ps order → IsReachedPrefix loads n whole q → All (IsReachedPrefix loads n whole) (leaf_places loads n s ps order q)
-    reached-leaves (split ts) ps [] q leads all = All-none (IsReachedPrefix loads n whole)
-    reached-leaves (split ts) ps (u ∷ order) q leads all = reached-all ts ps u order q (children loads n ps u) leads all (λ p is. is)
-    reached-leaves (tick t) ps order q leads all = All-none (IsReachedPrefix loads n whole)
-    reached-leaves (full t s) ps order q leads all = All-none (IsReachedPrefix loads n whole)
-    reached-leaves average ps order q leads all = All-none (IsReachedPrefix loads n whole)
-    reached-leaves open_leaf ps order q leads all = All-one (IsReachedPrefix loads n whole) q all
+    pub reached-leaves : (s : Shape) (ps : Prefix) (order : List ℕ) (q : List Place) → LeadsTo line.loads whole q ps order → IsReachedPrefix line whole q → All (IsReachedPrefix line whole) (leaf_places line s ps order q)
+    reached-leaves (split ts) ps [] q leads all = All-none (IsReachedPrefix line whole)
+    reached-leaves (split ts) ps (u ∷ order) q leads all = reached-all ts ps u order q (children line ps u) leads all (λ p is. is)
+    reached-leaves (leaf l) ps order q leads all = All-none (IsReachedPrefix line whole)
+    reached-leaves open_leaf ps order q leads all = All-one (IsReachedPrefix line whole) q all
 
-    reached-all : (ts : Shapes) (ps : Prefix) (u : ℕ) (order : List ℕ) (q : List Place) (kids : List Place) → LeadsTo loads whole q ps (u ∷ order) → IsReachedPrefix loads n whole q → Inside (children loads n ps u) kids → All (IsReachedPrefix loads n whole) (all_leaf_places loads n ts ps u order q kids)
-    reached-all no_shapes ps u order q kids leads all inside = All-none (IsReachedPrefix loads n whole)
-    reached-all (more t ts) ps u order q [] leads all inside = All-none (IsReachedPrefix loads n whole)
+    reached-all : (ts : Shapes) (ps : Prefix) (u : ℕ) (order : List ℕ) (q : List Place) (kids : List Place) → LeadsTo line.loads whole q ps (u ∷ order) → IsReachedPrefix line whole q → Inside (children line ps u) kids → All (IsReachedPrefix line whole) (all_leaf_places line ts ps u order q kids)
+    reached-all no_shapes ps u order q kids leads all inside = All-none (IsReachedPrefix line whole)
+    reached-all (more t ts) ps u order q [] leads all inside = All-none (IsReachedPrefix line whole)
     reached-all (more t ts) ps u order q (p ∷ kids) leads all inside =
-        All-append (IsReachedPrefix loads n whole) (leaf_places loads n t (set ps u (Some p)) order (q ++ p ∷ [])) (all_leaf_places loads n ts ps u order q kids)
-        (reached-leaves t (set ps u (Some p)) order (q ++ p ∷ []) (leads-more loads whole q ps u order p leads) (reached-more loads n whole q ps u order p leads all (inside p here)))
+        All-append (IsReachedPrefix line whole) (leaf_places line t (set ps u (Some p)) order (q ++ p ∷ [])) (all_leaf_places line ts ps u order q kids)
+        (reached-leaves t (set ps u (Some p)) order (q ++ p ∷ []) (leads-more line.loads whole q ps u order p leads) (reached-more line whole q ps u order p leads all (inside p here)))
         (reached-all ts ps u order q kids leads all (λ r is. inside r (there is)))
 
 assoc : (a b c : List (List Place)) → (a ++ b) ++ c ≡ a ++ (b ++ c)
@@ -215,30 +189,28 @@ seam [] x ys = refl
 seam (z ∷ xs) x ys = seam xs x ys
 
 -- where the places of its open leaves stand from k on in a list, a tree whose open leaves are numbered from k on has each at its place
-module _ (loads : List Load) (n : ℕ) (v : Option ℕ) (whole : List ℕ) (xs : List (List Place)) where
+module _ (line : Line) (v : Option ℕ) (whole : List ℕ) (xs : List (List Place)) where
   mutual
-    pub numbered-stands : (s : Shape) (ps : Prefix) (order : List ℕ) (q : List Place) (k : ℕ) (front back : List (List Place)) → k ≡ length front → xs ≡ front ++ (leaf_places loads n s ps order q ++ back) → LeadsTo loads whole q ps order
-        → TreeWith (λ _ _. Unit {0}) loads n v s ps order → HasShortTicks s → NumberedTree (StandsAt loads whole xs) loads n v (numbered k s) ps order
+    pub numbered-stands : (s : Shape) (ps : Prefix) (order : List ℕ) (q : List Place) (k : ℕ) (front back : List (List Place)) → k ≡ length front → xs ≡ front ++ (leaf_places line s ps order q ++ back) → LeadsTo line.loads whole q ps order
+        → TreeWith (λ _ _. Unit {0}) line v s ps order → HasShortTicks s → NumberedTree (StandsAt line.loads whole xs) line v (numbered k s) ps order
     numbered-stands (split ts) ps [] q k front back e is leads h short = h
-    numbered-stands (split ts) ps (u ∷ order) q k front back e is leads h short = all-stands ts ps u order q (children loads n ps u) k front back e is leads h short
-    numbered-stands (tick t) ps order q k front back e is leads h short = (h, short)
-    numbered-stands (full t s) ps order q k front back e is leads h short = (h, short)
-    numbered-stands average ps order q k front back e is leads h short = (h, short)
+    numbered-stands (split ts) ps (u ∷ order) q k front back e is leads h short = all-stands ts ps u order q (children line ps u) k front back e is leads h short
+    numbered-stands (leaf l) ps order q k front back e is leads h short = (h, short)
     numbered-stands open_leaf ps order q k front back e is leads h short = (q, rw (e, is) (seam front q back), leads)
 
-    all-stands : (ts : Shapes) (ps : Prefix) (u : ℕ) (order : List ℕ) (q : List Place) (kids : List Place) (k : ℕ) (front back : List (List Place)) → k ≡ length front → xs ≡ front ++ (all_leaf_places loads n ts ps u order q kids ++ back) → LeadsTo loads whole q ps (u ∷ order)
-        → TreesWith (λ _ _. Unit {0}) loads n v ts ps u order kids → HaveShortTicks ts → NumberedTrees (StandsAt loads whole xs) loads n v (all_numbered k ts) ps u order kids
+    all-stands : (ts : Shapes) (ps : Prefix) (u : ℕ) (order : List ℕ) (q : List Place) (kids : List Place) (k : ℕ) (front back : List (List Place)) → k ≡ length front → xs ≡ front ++ (all_leaf_places line ts ps u order q kids ++ back) → LeadsTo line.loads whole q ps (u ∷ order)
+        → TreesWith (λ _ _. Unit {0}) line v ts ps u order kids → HaveShortTicks ts → NumberedTrees (StandsAt line.loads whole xs) line v (all_numbered k ts) ps u order kids
     all-stands no_shapes ps u order q [] k front back e is leads h short = tt
     all-stands no_shapes ps u order q (p ∷ kids) k front back e is leads h short = h
     all-stands (more t ts) ps u order q [] k front back e is leads h short = h
     all-stands (more t ts) ps u order q (p ∷ kids) k front back e is leads h short =
-        let first_places = leaf_places loads n t (set ps u (Some p)) order (q ++ p ∷ []) in
-        let later = all_leaf_places loads n ts ps u order q kids in
-        let count = length-leaves (λ _ _. Unit {0}) loads n v t (set ps u (Some p)) order (q ++ p ∷ []) h.0 in
+        let first_places = leaf_places line t (set ps u (Some p)) order (q ++ p ∷ []) in
+        let later = all_leaf_places line ts ps u order q kids in
+        let count = length-leaves (λ _ _. Unit {0}) line v t (set ps u (Some p)) order (q ++ p ∷ []) h.0 in
         let long : k + open_count t ≡ length (front ++ first_places) = omega (arith, e, length-append front first_places, count) in
         let first : xs ≡ front ++ (first_places ++ (later ++ back)) = is ∙ ap (λ w. front ++ w) (assoc first_places later back) in
         let second : xs ≡ (front ++ first_places) ++ (later ++ back) = first ∙ sym (assoc front first_places (later ++ back)) in (
-          numbered-stands t (set ps u (Some p)) order (q ++ p ∷ []) k front (later ++ back) e first (leads-more loads whole q ps u order p leads) h.0 short.0,
+          numbered-stands t (set ps u (Some p)) order (q ++ p ∷ []) k front (later ++ back) e first (leads-more line.loads whole q ps u order p leads) h.0 short.0,
           all-stands ts ps u order q kids (k + open_count t) (front ++ first_places) back long second leads h.1 short.1,
         )
 
@@ -258,28 +230,28 @@ abbrev choose : Bool → Numbered → ℕ → Numbered
 choose b s m = if b then s else gap m
 
 -- a report at its piece's place
-module _ (loads : List Load) (n : ℕ) (v : Option ℕ) (whole : List ℕ) (xs : List (List Place)) (p : ℕ) (q : List Place) (s : Shape) (ps : Prefix) (order : List ℕ)
-    (at : slice_get xs p ≡ Some q) (leads : LeadsTo loads whole q ps order) (h : IsPartialTree loads n v s ps order) where
+module _ (line : Line) (v : Option ℕ) (whole : List ℕ) (xs : List (List Place)) (p : ℕ) (q : List Place) (s : Shape) (ps : Prefix) (order : List ℕ)
+    (at : slice_get xs p ≡ Some q) (leads : LeadsTo line.loads whole q ps order) (h : IsPartialTree line v s ps order) where
   abbrev new : List (List Place)
-  new = xs ++ leaf_places loads n s ps order q
+  new = xs ++ leaf_places line s ps order q
 
-  sub : NumberedTree (StandsAt loads whole new) loads n v (numbered (length xs) s) ps order
-  sub = numbered-stands loads n v whole new s ps order q (length xs) xs [] refl (ap (λ w. xs ++ w) (sym (append-nil (leaf_places loads n s ps order q)))) leads h.0 h.1
+  sub : NumberedTree (StandsAt line.loads whole new) line v (numbered (length xs) s) ps order
+  sub = numbered-stands line v whole new s ps order q (length xs) xs [] refl (ap (λ w. xs ++ w) (sym (append-nil (leaf_places line s ps order q)))) leads h.0 h.1
 
-  plugged : (m : ℕ) (ps2 : Prefix) (order2 : List ℕ) → StandsAt loads whole xs m ps2 order2 → NumberedTree (StandsAt loads whole new) loads n v (choose (m == p) (numbered (length xs) s) m) ps2 order2
+  plugged : (m : ℕ) (ps2 : Prefix) (order2 : List ℕ) → StandsAt line.loads whole xs m ps2 order2 → NumberedTree (StandsAt line.loads whole new) line v (choose (m == p) (numbered (length xs) s) m) ps2 order2
   plugged m ps2 order2 stands =
-      (elim (eqb m p) as (λ b. eqb m p ≡ b → NumberedTree (StandsAt loads whole new) loads n v (choose b (numbered (length xs) s) m) ps2 order2) [
+      (elim (eqb m p) as (λ b. eqb m p ≡ b → NumberedTree (StandsAt line.loads whole new) line v (choose b (numbered (length xs) s) m) ps2 order2) [
         | true ↦ λ e.
             let same : m ≡ p = grind arith in
             let place : q ≡ stands.0 = same-place q stands.0 (sym at ∙ ap (slice_get xs) (sym same) ∙ stands.1) in
-            let prefix : ps ≡ ps2 = leads.0 ∙ ap (λ w. prefix_of loads whole w) place ∙ sym stands.2.0 in
+            let prefix : ps ≡ ps2 = leads.0 ∙ ap (λ w. prefix_of line.loads whole w) place ∙ sym stands.2.0 in
             let rest : order ≡ order2 = leads.1 ∙ ap (λ w. drop (length w) whole) place ∙ sym stands.2.1 in
-            subst (λ w. NumberedTree (StandsAt loads whole new) loads n v (numbered (length xs) s) w order2) prefix
-            (subst (λ w. NumberedTree (StandsAt loads whole new) loads n v (numbered (length xs) s) ps w) rest sub)
-        | false ↦ λ e. (stands.0, get-front xs (leaf_places loads n s ps order q) m stands.0 stands.1, stands.2)
+            subst (λ w. NumberedTree (StandsAt line.loads whole new) line v (numbered (length xs) s) w order2) prefix
+            (subst (λ w. NumberedTree (StandsAt line.loads whole new) line v (numbered (length xs) s) ps w) rest sub)
+        | false ↦ λ e. (stands.0, get-front xs (leaf_places line s ps order q) m stands.0 stands.1, stands.2)
       ]) refl
 
-  pub numbered-report : (t : Numbered) (ps0 : Prefix) (order0 : List ℕ) → NumberedTree (StandsAt loads whole xs) loads n v t ps0 order0
-      → NumberedTree (StandsAt loads whole new) loads n v (plug p (numbered (length xs) s) t) ps0 order0
+  pub numbered-report : (t : Numbered) (ps0 : Prefix) (order0 : List ℕ) → NumberedTree (StandsAt line.loads whole xs) line v t ps0 order0
+      → NumberedTree (StandsAt line.loads whole new) line v (plug p (numbered (length xs) s) t) ps0 order0
   numbered-report t ps0 order0 w =
-      numbered-fill (StandsAt loads whole xs) (StandsAt loads whole new) loads n v (λ m. if m == p then numbered (length xs) s else gap m) plugged t ps0 order0 w
+      numbered-fill (StandsAt line.loads whole xs) (StandsAt line.loads whole new) line v (λ m. if m == p then numbered (length xs) s else gap m) plugged t ps0 order0 w

@@ -7,6 +7,7 @@ use Rattle.ec_loads.specs.Legal.{IsLegal, IsIllegalBy, IsFirstFull}
 use Rattle.ec_loads.specs.declared.item.Item.{Item}
 use Rattle.ec_loads.specs.declared.plan.Illegal.{Illegal}
 use Rattle.ec_loads.specs.declared.plan.Illegal.TheVariants as illegal
+use Rattle.ec_loads.specs.Line.{slots_alone, line_by}
 use Rattle.ec_loads.specs.Search.{IsAtMost}
 use Rattle.ec_symmetry.specs.Orders.{IsReachedPrefix}
 use Rattle.ec_book.specs.declared.piece.Piece.{Piece}
@@ -15,7 +16,7 @@ use Rattle.ec_book.specs.declared.fault.BookFault.{BookFault}
 use Rattle.ec_book.specs.declared.fault.BookFault.TheVariants as fault
 use Rattle.ec_book.specs.declared.taken.Taken.{Taken as Handed}
 use Rattle.ec_book.specs.declared.taken.Taken.TheVariants as handed
-use Rattle.ec_book.specs.Steps.{granted, taken_count}
+use Rattle.ec_book.specs.Steps.{granted, taken_count, IsBelow}
 use Rattle.ec_cert.specs.BestPlan.{value_of}
 use Rattle.ec_book.specs.Views.{BookView, after_took}
 use Rattle.ec_book.specs.Kept.{NoneFreeBelow}
@@ -36,7 +37,7 @@ HasNothing b = NoneFreeBelow b.pieces (length b.pieces) ⊎ (left_of b ≡ 0)
 -- left; nothing yet, where a piece is taken; or that the search is done
 abbrev pub IsHandedOut : BookView → ℕ → ℕ → Handed → BookView → Type 0
 IsHandedOut old worker most (handed.Piece t) new =
-    IsLowestFree old.pieces t.piece × (slice_get old.prefixes t.piece ≡ Some t.prefix) × IsReachedPrefix old.loads old.slots old.order t.prefix × (t.value ≡ value_of old.best)
+    IsLowestFree old.pieces t.piece × (slice_get old.prefixes t.piece ≡ Some t.prefix) × IsReachedPrefix (line_by slots_alone old.loads old.slots) old.order t.prefix × (t.value ≡ value_of old.best)
     × (t.grant ≡ min most (left_of old)) × (1 ≤ t.grant) × (new ≡ after_took old worker t.piece t.grant)
 IsHandedOut old worker most handed.Later new = HasNothing old × (0 < taken_count old.pieces) × (new ≡ old)
 IsHandedOut old worker most handed.Done new = HasNothing old × (taken_count old.pieces ≡ 0) × (new ≡ old)
@@ -88,9 +89,9 @@ IsFullFault xs n _ = ⊥
 abbrev pub IsPlanOf : List Load → ℕ → List Place → ℕ → Type 0
 IsPlanOf loads n plan v = IsLegal loads n plan × IsBusiest (plan_items loads plan) n v
 
--- why a plan is refused
+-- why a plan is refused: it isn't legal, else it isn't better, else memory was refused
 abbrev pub IsBetterFault : BookView → List Place → BookFault → Type 0
 IsBetterFault b plan (fault.Illegal i) = IsIllegalBy b.loads b.slots plan i
 IsBetterFault b plan (fault.NotBetter w) = (v : ℕ) × IsPlanOf b.loads b.slots plan v × (value_of b.best ≡ Some w) × (w ≤ v)
-IsBetterFault b plan fault.OutOfMemory = IsLegal b.loads b.slots plan
+IsBetterFault b plan fault.OutOfMemory = (v : ℕ) × IsPlanOf b.loads b.slots plan v × IsBelow v (value_of b.best)
 IsBetterFault b plan _ = ⊥

@@ -1,6 +1,7 @@
 -- What a finished book gives.
 use Rattle.std.specs.Prelude.{◌≡◌}
 use Rattle.ec_loads.specs.Held.{no_places}
+use Rattle.ec_loads.specs.Line.{slots_alone, line_by}
 use Rattle.ec_loads.specs.Shape.{Shape}
 use Rattle.ec_book.specs.Numbered.{Numbered, plain, NumberedTree}
 use Rattle.ec_book.specs.Open.{StandsAt}
@@ -12,4 +13,4 @@ use Rattle.ec_book.specs.Views.{BookView}
 abbrev pub ShowsPieces : BookView → Shape → Type 0
 ShowsPieces b shape =
     (t : Numbered) × (shape ≡ plain t) × HasPieces t b.pieces b.spent
-    × NumberedTree (StandsAt b.loads b.order b.prefixes) b.loads b.slots (value_of b.best) t (no_places b.loads) b.order
+    × NumberedTree (StandsAt b.loads b.order b.prefixes) (line_by slots_alone b.loads b.slots) (value_of b.best) t (no_places b.loads) b.order

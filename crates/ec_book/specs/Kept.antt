@@ -1,8 +1,8 @@
 -- What is true of each book.
 use Rattle.std.specs.Prelude.{◌≡◌, ◌≢◌, ℕ, ◌+◌, ◌<◌, ◌≤◌, List, Option, Some, length, slice_get, All}
 use Rattle.ec_units.specs.declared.slave.Place.{Place}
-use Rattle.ec_units.specs.declared.unit.Load.{Load}
 use Rattle.ec_loads.specs.Held.{Held, no_places}
+use Rattle.ec_loads.specs.Line.{slots_alone, Line, line_by}
 use Rattle.ec_cert.specs.declared.cert.Best.{Best}
 use Rattle.ec_cert.specs.BestPlan.{value_of, IsBestPlan}
 use Rattle.ec_symmetry.specs.Orders.{IsOrder, IsReachedPrefix}
@@ -36,15 +36,15 @@ pub record IsCounted (nodes : ℕ) (pieces : List Piece) (value : Option ℕ) (s
   pub low_in : low ≤ length pieces
 
 -- the tree that the reports made, whose open leaves are the pieces that are free or taken
-pub record IsGrown (loads : List Load) (slots : ℕ) (order : List ℕ) (pieces : List Piece) (prefixes : List (List Place)) (reports : List Report) (value : Option ℕ) (spent : ℕ) : Type 0 where
+pub record IsGrown (line : Line) (order : List ℕ) (pieces : List Piece) (prefixes : List (List Place)) (reports : List Report) (value : Option ℕ) (spent : ℕ) : Type 0 where
   pub chain : Chain 1 reports (length pieces)
   pub each : length prefixes ≡ length pieces
-  pub reached : All (IsReachedPrefix loads slots order) prefixes
+  pub reached : All (IsReachedPrefix line order) prefixes
   pub pieces_are : HasPieces (grown (gap 0) reports) pieces spent
-  pub tree : NumberedTree (StandsAt loads order prefixes) loads slots value (grown (gap 0) reports) (no_places loads) order
+  pub tree : NumberedTree (StandsAt line.loads order prefixes) line value (grown (gap 0) reports) (no_places line.loads) order
 
 pub record IsKept (held : Held) (order : List ℕ) (nodes : ℕ) (pieces : List Piece) (prefixes : List (List Place)) (reports : List Report) (best : Option Best)
     (spent granted taken low : ℕ) (log : List Step) (room : ℕ) : Type 0 where
   pub for : IsFor held order best
   pub counted : IsCounted nodes pieces (value_of best) spent granted taken low log room
-  pub grown : IsGrown held.loads held.slots order pieces prefixes reports (value_of best) spent
+  pub grown : IsGrown (line_by slots_alone held.loads held.slots) order pieces prefixes reports (value_of best) spent

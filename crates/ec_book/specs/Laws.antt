@@ -1,6 +1,6 @@
 -- Laws of books.
 use Rattle.std.specs.Prelude.{◌≡◌, ◌⊎◌, ℕ, ◌≤◌, List, Option}
-use Rattle.ec_units.specs.declared.unit.Load.{Load}
+use Rattle.ec_loads.specs.Line.{Line}
 use Rattle.ec_loads.specs.Shape.{Shape}
 use Rattle.ec_loads.specs.Search.{Prefix, IsPartialTree, IsAtMost}
 use Rattle.ec_book.specs.declared.step.Step.{Step}
@@ -10,7 +10,7 @@ use Rattle.ec_book.specs.Faults.{HasNothing}
 
 -- a partial tree at a value is one at each smaller value
 abbrev pub TreesFall : Type 0
-TreesFall = (loads : List Load) (n : ℕ) (v w : Option ℕ) (s : Shape) (ps : Prefix) (order : List ℕ) → IsAtMost w v → IsPartialTree loads n v s ps order → IsPartialTree loads n w s ps order
+TreesFall = (line : Line) (v w : Option ℕ) (s : Shape) (ps : Prefix) (order : List ℕ) → IsAtMost w v → IsPartialTree line v s ps order → IsPartialTree line w s ps order
 
 -- the replay of a legal history is its last state
 abbrev pub HistoriesReplay : Type 0

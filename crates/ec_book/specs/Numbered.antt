@@ -1,8 +1,8 @@
 -- Search trees whose open leaves have numbers.
 use Rattle.std.specs.Prelude.{ℕ, ◌+◌, ◌==◌, if◌then◌else◌, List, [], ◌∷◌, Option, Some, set}
 use Rattle.ec_units.specs.declared.slave.Place.{Place}
-use Rattle.ec_units.specs.declared.unit.Load.{Load}
-use Rattle.ec_loads.specs.Shape.{Shape, Shapes, split, tick, full, average, open_leaf, no_shapes, more}
+use Rattle.ec_loads.specs.Line.{Line}
+use Rattle.ec_loads.specs.Shape.{Shape, Shapes, split, leaf, open_leaf, no_shapes, more}
 use Rattle.ec_loads.specs.Search.{Prefix, children, IsTree, HasShortTicks, node_count, open_count}
 
 mutual
@@ -19,9 +19,7 @@ mutual
 abbrev mutual
   pub numbered : ℕ → Shape → Numbered
   numbered k (split ts) = branch (all_numbered k ts)
-  numbered k (tick t) = closed (tick t)
-  numbered k (full t s) = closed (full t s)
-  numbered k average = closed average
+  numbered k (leaf l) = closed (leaf l)
   numbered k open_leaf = gap k
 
   pub all_numbered : ℕ → Shapes → Numbereds
@@ -93,15 +91,15 @@ abbrev mutual
 
 -- a tree for a prefix at a value, by the units that are left; of an open leaf the first argument says, by its number, what it has to be
 abbrev mutual
-  pub NumberedTree : (ℕ → Prefix → List ℕ → Type 0) → List Load → ℕ → Option ℕ → Numbered → Prefix → List ℕ → Type 0
-  NumberedTree is loads n v (branch ts) ps [] = ⊥
-  NumberedTree is loads n v (branch ts) ps (u ∷ order) = NumberedTrees is loads n v ts ps u order (children loads n ps u)
-  NumberedTree is loads n v (closed s) ps order = IsTree loads n v s ps order × HasShortTicks s
-  NumberedTree is loads n v (gap m) ps order = is m ps order
+  pub NumberedTree : (ℕ → Prefix → List ℕ → Type 0) → Line → Option ℕ → Numbered → Prefix → List ℕ → Type 0
+  NumberedTree is line v (branch ts) ps [] = ⊥
+  NumberedTree is line v (branch ts) ps (u ∷ order) = NumberedTrees is line v ts ps u order (children line ps u)
+  NumberedTree is line v (closed s) ps order = IsTree line v s ps order × HasShortTicks s
+  NumberedTree is line v (gap m) ps order = is m ps order
 
-  pub NumberedTrees : (ℕ → Prefix → List ℕ → Type 0) → List Load → ℕ → Option ℕ → Numbereds → Prefix → ℕ → List ℕ → List Place → Type 0
-  NumberedTrees is loads n v last ps u order [] = Unit {0}
-  NumberedTrees is loads n v last ps u order (p ∷ rest) = ⊥
-  NumberedTrees is loads n v (next t ts) ps u order [] = ⊥
-  NumberedTrees is loads n v (next t ts) ps u order (p ∷ rest) =
-      NumberedTree is loads n v t (set ps u (Some p)) order × NumberedTrees is loads n v ts ps u order rest
+  pub NumberedTrees : (ℕ → Prefix → List ℕ → Type 0) → Line → Option ℕ → Numbereds → Prefix → ℕ → List ℕ → List Place → Type 0
+  NumberedTrees is line v last ps u order [] = Unit {0}
+  NumberedTrees is line v last ps u order (p ∷ rest) = ⊥
+  NumberedTrees is line v (next t ts) ps u order [] = ⊥
+  NumberedTrees is line v (next t ts) ps u order (p ∷ rest) =
+      NumberedTree is line v t (set ps u (Some p)) order × NumberedTrees is line v ts ps u order rest

@@ -2,29 +2,28 @@
 use Rattle.std.specs.Prelude.{◌≡◌, ℕ, List, [], ◌∷◌, ◌++◌, length, drop, set, slice_get, Some}
 use Rattle.ec_units.specs.declared.slave.Place.{Place}
 use Rattle.ec_units.specs.declared.unit.Load.{Load}
-use Rattle.ec_loads.specs.Shape.{Shape, Shapes, split, tick, full, average, open_leaf, no_shapes, more}
+use Rattle.ec_loads.specs.Line.{Line}
+use Rattle.ec_loads.specs.Shape.{Shape, Shapes, split, leaf, open_leaf, no_shapes, more}
 use Rattle.ec_loads.specs.Search.{Prefix, children}
 use Rattle.ec_symmetry.specs.Orders.{prefix_of}
 
 -- in preorder, the places of the units that lead to each open leaf, where `q` leads to the tree; by the prefix and the units that are left
 abbrev mutual
-  pub leaf_places : List Load → ℕ → Shape → Prefix → List ℕ → List Place → List (List Place)
-  leaf_places loads n (split ts) ps [] q = []
-  leaf_places loads n (split ts) ps (u ∷ order) q = all_leaf_places loads n ts ps u order q (children loads n ps u)
-  leaf_places loads n (tick t) ps order q = []
-  leaf_places loads n (full t s) ps order q = []
-  leaf_places loads n average ps order q = []
-  leaf_places loads n open_leaf ps order q = q ∷ []
+  pub leaf_places : Line → Shape → Prefix → List ℕ → List Place → List (List Place)
+  leaf_places line (split ts) ps [] q = []
+  leaf_places line (split ts) ps (u ∷ order) q = all_leaf_places line ts ps u order q (children line ps u)
+  leaf_places line (leaf l) ps order q = []
+  leaf_places line open_leaf ps order q = q ∷ []
 
-  pub all_leaf_places : List Load → ℕ → Shapes → Prefix → ℕ → List ℕ → List Place → List Place → List (List Place)
-  all_leaf_places loads n no_shapes ps u order q places = []
-  all_leaf_places loads n (more t ts) ps u order q [] = []
-  all_leaf_places loads n (more t ts) ps u order q (p ∷ rest) =
-      leaf_places loads n t (set ps u (Some p)) order (q ++ p ∷ []) ++ all_leaf_places loads n ts ps u order q rest
+  pub all_leaf_places : Line → Shapes → Prefix → ℕ → List ℕ → List Place → List Place → List (List Place)
+  all_leaf_places line no_shapes ps u order q places = []
+  all_leaf_places line (more t ts) ps u order q [] = []
+  all_leaf_places line (more t ts) ps u order q (p ∷ rest) =
+      leaf_places line t (set ps u (Some p)) order (q ++ p ∷ []) ++ all_leaf_places line ts ps u order q rest
 
 -- the places that lead to each open leaf of a tree to which `q` leads, by the units in their order
-abbrev pub open_places : List Load → ℕ → List ℕ → Shape → List Place → List (List Place)
-open_places loads n order t q = leaf_places loads n t (prefix_of loads order q) (drop (length q) order) q
+abbrev pub open_places : Line → List ℕ → Shape → List Place → List (List Place)
+open_places line order t q = leaf_places line t (prefix_of line.loads order q) (drop (length q) order) q
 
 -- the prefix and the units that are left are those to which `q` leads
 abbrev pub LeadsTo : List Load → List ℕ → List Place → Prefix → List ℕ → Type 0

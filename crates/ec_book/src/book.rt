@@ -3,6 +3,7 @@
 ghost use Rattle.std.specs.Prelude.{◌≡◌, ◌≢◌, ℕ, ◌+◌, ◌<◌, ◌≤◌, ◌^◌, ◌++◌, ◌∷◌, [], IfOk, IfSome, IfErr, OnOk, OnErr, OnSome, IfNone, ◌↔◌, MatchOption, None, Some, length, slice_get, replicate, drop, vec_capacity, vec_len};
 ghost use Rattle.ec_units.specs.Load.{loads_of};
 ghost use Rattle.ec_loads.specs.Held.{no_places};
+ghost use Rattle.ec_loads.specs.Line.{slots_alone, line_by};
 ghost use Rattle.ec_loads.specs.Search.{IsTree, IsPartialTree, node_count as node_count_of, open_count};
 ghost use Rattle.ec_cert.specs.Shapes.{shape_of};
 ghost use Rattle.ec_symmetry.specs.Orders.{IsOrder, prefix_of};
@@ -12,7 +13,7 @@ ghost use Rattle.ec_book.specs.Open.{open_places};
 ghost use Rattle.ec_cert.specs.BestPlan.{value_of, IsBestPlan};
 ghost use Rattle.ec_book.specs.Views.{book_view, state_of, after_back, after_better, after_report};
 ghost use Rattle.ec_book.specs.Kept.{NoneFreeBelow};
-ghost use Rattle.ec_book.specs.Faults.{IsLowestFree, IsHandedOut, IsHoldFault, IsBetterFault, IsPlanOf, IsReportFault, IsTakenBy};
+ghost use Rattle.ec_book.specs.Faults.{IsLowestFree, IsHandedOut, IsHoldFault, IsBetterFault, IsPlanOf, IsReportFault, IsTakenBy, IsWelcome};
 ghost use Rattle.ec_book.specs.Steps.{IsBelow};
 ghost use Rattle.ec_book.specs.Finishing.{ShowsPieces};
 ghost use Rattle.ec_book.specs.declared.fault.BookFault.TheVariants.{OutOfMemory};
@@ -167,20 +168,11 @@ impl Book {
         ensures err { IfErr result (λ e. (e ≡ OutOfMemory) × (self.new ≡ self.old)) }
     {
         let left = self.nodes - self.spent - self.held;
-        let Some(at) = lowest_free(self.pieces.as_slice(), self.low) else {
-            return Ok(if self.taken == 0 {
-                Taken::Done
-            } else {
-                Taken::Later
-            });
+        let at = match lowest_free(self.pieces.as_slice(), self.low) {
+            Some(at) if left > 0 => at,
+            _ if self.taken == 0 => return Ok(Taken::Done),
+            _ => return Ok(Taken::Later),
         };
-        if left == 0 {
-            return Ok(if self.taken == 0 {
-                Taken::Done
-            } else {
-                Taken::Later
-            });
-        }
         let grant = left.min(u64::from(most)) as u32;
         let alloc = *self.log.allocator();
         let Ok(prefix) = Vec::from_slice(alloc, self.prefixes[at].as_slice()) else {
@@ -266,9 +258,10 @@ impl Book {
         prefix: &[Place],
         sub: Subtree,
     ) -> Result<(), (BookFault, Subtree)>
-        requires tree { IsPartialTree self.old.loads self.old.slots sub.threshold (shape_of sub.tree) (prefix_of self.old.loads self.old.order prefix.now) (drop (length prefix.now) self.old.order) }
+        requires tree { IsPartialTree (line_by slots_alone self.old.loads self.old.slots) sub.threshold (shape_of sub.tree) (prefix_of self.old.loads self.old.order prefix.now) (drop (length prefix.now) self.old.order) }
         requires some { 0 < node_count_of (shape_of sub.tree) }
-        ensures ok { OnOk result (self.new ≡ after_report self.old worker piece (node_count_of (shape_of sub.tree)) (open_places self.old.loads self.old.slots self.old.order (shape_of sub.tree) prefix.now)) }
+        ensures welcome { OnOk result ((g : ℕ) × IsWelcome self.old.pieces self.old.prefixes (value_of self.old.best) worker piece prefix.now sub.threshold (node_count_of (shape_of sub.tree)) g) }
+        ensures ok { OnOk result (self.new ≡ after_report self.old worker piece (node_count_of (shape_of sub.tree)) (open_places (line_by slots_alone self.old.loads self.old.slots) self.old.order (shape_of sub.tree) prefix.now)) }
         ensures err { IfErr result (λ e. IsReportFault self.old.pieces self.old.prefixes (value_of self.old.best) worker piece prefix.now sub.threshold (node_count_of (shape_of sub.tree)) e.0
             × (e.1 ≡ sub) × (self.new ≡ self.old)) }
     {
@@ -324,7 +317,8 @@ impl Book {
 
     /// The log: every step so far.
     pub fn log(&self) -> &[Step]
-        ensures { result.now ≡ self.now.log }
+        ensures value { result.now ≡ self.now.log }
+        ensures history { IsHistory self.now.nodes start result.now (state_of self.now) }
     {
         self.log.as_slice()
     }
@@ -348,8 +342,8 @@ impl Book {
     /// handed back.
     pub fn finish(self) -> Result<Finished, (Book, AllocError)>
         ensures best { IfOk result (λ f. (f.best ≡ self.best) × IsBestPlan self.loads self.slots f.best) }
-        ensures tree { IfOk result (λ f. IsPartialTree self.loads self.slots (value_of self.best) (shape_of f.tree) (no_places self.loads) self.order) }
-        ensures closed { IfOk result (λ f. live_count self.pieces ≡ 0 → IsTree self.loads self.slots (value_of self.best) (shape_of f.tree) (no_places self.loads) self.order) }
+        ensures tree { IfOk result (λ f. IsPartialTree (line_by slots_alone self.loads self.slots) (value_of self.best) (shape_of f.tree) (no_places self.loads) self.order) }
+        ensures closed { IfOk result (λ f. live_count self.pieces ≡ 0 → IsTree (line_by slots_alone self.loads self.slots) (value_of self.best) (shape_of f.tree) (no_places self.loads) self.order) }
         ensures pieces { IfOk result (λ f. ShowsPieces self (shape_of f.tree)) }
         ensures nodes { IfOk result (λ f. (f.spent ≡ self.spent) × (node_count_of (shape_of f.tree) ≡ self.spent)) }
         ensures open { IfOk result (λ f. open_count (shape_of f.tree) ≡ live_count self.pieces) }

@@ -181,7 +181,7 @@ weight-extends (l ∷ ls) (Some p ∷ ps) [] h e = elim e [ ]
 weight-extends (l ∷ ls) (None ∷ ps) (q ∷ qs) h (free e) = let rest = weight-extends ls ps qs h e in omega arith
 weight-extends (l ∷ ls) (Some p ∷ ps) (q ∷ qs) h (same e) = let rest = weight-extends ls ps qs h e in omega arith
 
-raw_cost-le : (xs : List Item) (n t : ℕ) → raw_cost xs n t ≤ tick_cost xs n t
+pub raw_cost-le : (xs : List Item) (n t : ℕ) → raw_cost xs n t ≤ tick_cost xs n t
 unfolding raw_cost tick_cost
 raw_cost-le xs n t = sum_below-le (slot_raw xs t) (slot_cost xs t) n (λ s _.
     elim (list_any (is_sent t s) xs) as (λ b. cond b (raw_of (2 + payload xs t s)) 0 ≤ cond b (wire_of (2 + payload xs t s)) 0) [ true ↦ omega arith | false ↦ omega arith ])

@@ -1,15 +1,27 @@
--- What a leaf that holds means for the plans that extend its prefix.
-use Rattle.std.specs.Prelude.{ℕ, ◌<◌, List, map, Option, Some}
+-- What a leaf that holds means for the plans that extend its prefix, and for smaller values.
+use Rattle.std.specs.Prelude.{ℕ, ◌<◌, ◌≤◌, List, map, Option, Some}
 use Rattle.ec_units.specs.declared.slave.Place.{Place}
-use Rattle.ec_units.specs.declared.unit.Load.{Load}
+use Rattle.ec_loads.specs.declared.item.Item.{Item}
+use Rattle.ec_loads.specs.Cost.{raw_cost, tick_cost}
 use Rattle.ec_loads.specs.Held.{Held, AreLoads}
 use Rattle.ec_loads.specs.Legal.{IsLegal}
-use Rattle.ec_loads.specs.Search.{Prefix, Extends, TickHolds, FullHolds, AverageHolds, HasTick}
+use Rattle.ec_loads.specs.Line.{Line}
+use Rattle.ec_loads.specs.Search.{Prefix, Extends, FullHolds, LeafHolds, HasTick, IsAtMost}
+use Rattle.ec_loads.specs.Shape.{Leaf}
 
--- every legal plan that extends the prefix has a tick that costs at least the value; none is legal where a slot is too full
+-- where a leaf holds, every legal plan that extends the prefix has a tick that costs at least the value; at no value, none is legal
 abbrev pub LeavesBound : Type 0
-LeavesBound = (loads : List Load) (n : ℕ) (v : Option ℕ) (ps : Prefix) (plan : List Place) → AreLoads loads → Extends ps (map Some plan) → IsLegal loads n plan →
-    ((t : ℕ) → TickHolds loads n v ps t → HasTick loads n v plan) × ((t s : ℕ) → FullHolds loads n ps t s → ⊥) × (AverageHolds loads n v ps → HasTick loads n v plan)
+LeavesBound =
+    (line : Line) (v : Option ℕ) (ps : Prefix) (l : Leaf) (plan : List Place) → AreLoads line.loads → Extends ps (map Some plan) → IsLegal line.loads line.slots plan →
+    LeafHolds line v ps l → HasTick line.loads line.slots v plan
+
+-- a leaf that holds at a value holds at every smaller one
+abbrev pub LeavesFall : Type 0
+LeavesFall = (line : Line) (v w : Option ℕ) (ps : Prefix) (l : Leaf) → IsAtMost w v → LeafHolds line v ps l → LeafHolds line w ps l
+
+-- what a tick costs without the padding is at most what it costs
+abbrev pub RawAtMostCost : Type 0
+RawAtMostCost = (xs : List Item) (n t : ℕ) → raw_cost xs n t ≤ tick_cost xs n t
 
 -- a slot is too full, and none in an earlier tick or before it in this one
 abbrev pub IsFirstFullLeaf : Held → ℕ → ℕ → Type 0

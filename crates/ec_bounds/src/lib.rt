@@ -6,5 +6,5 @@ mod law;
 mod rest;
 
 pub use bound::{average_bound, full_bound, tick_bound};
-pub use law::leaves_bound;
+pub use law::{leaves_bound, leaves_fall, raw_at_most_cost};
 pub use rest::Rest;

@@ -8,6 +8,7 @@ use Rattle.ec_units.specs.declared.unit.Load.{Load}
 use Rattle.ec_loads.specs.Cost.{items, payload, IsBusiest}
 use Rattle.ec_loads.specs.Held.{Held, items_of, no_places}
 use Rattle.ec_loads.specs.Legal.{Fits}
+use Rattle.ec_loads.specs.Line.{slots_alone, line_of}
 use Rattle.ec_loads.specs.Search.{Prefix, children}
 use Rattle.ec_loads.proofs.CostLemmas.{one_busiest}
 use Rattle.ec_symmetry.specs.Reached.{In}
@@ -146,8 +147,8 @@ pub placing_more : (args cur placed : Held) (order : List ℕ) (i u d : ℕ) (p 
 placing_more args cur placed order i u d p within is made best placing =
     let next = next_units order i u d within is in
     let ready = placing_ready args cur order i u d within is placing in
-    let kid : In p (children cur.loads cur.slots cur.places u) = subst (In p) (sym best.child) (In-mid best.before p best.after) in
-    let range = children-In cur.loads cur.slots cur.places u p kid in
+    let kid : In p (children (line_of slots_alone cur) cur.places u) = subst (In p) (sym best.child) (In-mid best.before p best.after) in
+    let range = children-In (line_of slots_alone cur) cur.places u p kid in
     subst (λ (w : Held). IsPlacing args w order (i + 1)) (sym made)
     (record {
       loads = placing.loads;
@@ -159,7 +160,7 @@ placing_more args cur placed order i u d p within is made best placing =
     })
 
 -- every child of it is too full
-pub placing_stuck : (args cur : Held) (order : List ℕ) (i u d : ℕ) → i < length order → u ≡ get_or order i d → All (IsTooFull cur.loads cur.slots cur.places u) (children cur.loads cur.slots cur.places u) → IsPlacing args cur order i → IsStuck args.loads args.slots args.places order
+pub placing_stuck : (args cur : Held) (order : List ℕ) (i u d : ℕ) → i < length order → u ≡ get_or order i d → All (IsTooFull cur.loads cur.slots cur.places u) (children (line_of slots_alone cur) cur.places u) → IsPlacing args cur order i → IsStuck args.loads args.slots args.places order
 placing_stuck args cur order i u d within is full placing = placing.stuck (subst (IsStuck cur.loads cur.slots cur.places) (sym (next_units order i u d within is)) (inl full))
 
 -- nothing is sent where no unit has a place

@@ -1,19 +1,20 @@
 -- Leaves that close a prefix at a value, and at each value below it.
-use Rattle.std.proofs.Common.{◌≡◌, ℕ, ◌*◌, ◌%◌, ◌<◌, ◌≤◌, inl, inr, List, Option, Some, None, MatchOption, refl, sym, ◌∙◌, subst, arith, le_trans, rules}
+use Rattle.std.proofs.Common.{◌≡◌, ℕ, ◌%◌, ◌<◌, ◌≤◌, inl, inr, List, Option, Some, None, MatchOption, refl, sym, ◌∙◌, subst, arith, rules}
 use Rattle.std.proofs.lemmas.Bool.{cases_lt}
 use Rattle.std.proofs.lemmas.Nat.{mod_below}
-use Rattle.std.proofs.Math.Nat.{mul-le-mul_right}
 use Rattle.ec_hyper.specs.Lcm.{lcm_of}
 use Rattle.ec_units.specs.declared.unit.Load.{Load}
 use Rattle.ec_units.specs.Load.{periods_of}
 use Rattle.ec_loads.specs.Cost.{items, payload, tick_cost, IsFirstBusiest}
 use Rattle.ec_loads.specs.Held.{Held, AreLoads, items_of}
 use Rattle.ec_loads.specs.Legal.{Fits}
-use Rattle.ec_loads.specs.Search.{Prefix, TickHolds, FullHolds, AverageHolds, IsAtMost}
-use Rattle.ec_loads.specs.Shape.{tick, average}
+use Rattle.ec_loads.specs.Line.{Line}
+use Rattle.ec_loads.specs.Search.{Prefix, TickHolds, FullHolds, AverageHolds, LeafHolds, HasShortTick}
+use Rattle.ec_loads.specs.Shape.{Leaf, tick, average, leaf}
 use Rattle.ec_loads.proofs.CostLemmas.{tick_cost-mod, payload-mod}
 use Rattle.ec_loads.proofs.ItemLemmas.{DivideAll-loads}
 use Rattle.ec_bounds.specs.Laws.{IsFirstFullLeaf}
+use Rattle.ec_bounds.proofs.LeafLemmas.{leaf-falls}
 use Rattle.ec_cert.specs.Shapes.{shape_of}
 use Rattle.ec_cert.specs.declared.tree.Tree.{TickLeaf, Average, the_lemmas}
 use Rattle.ec_branch.specs.Walks.{IsClosing}
@@ -67,44 +68,22 @@ fits_from held none t s within =
       | inr low ↦ low
     ]
 
--- a value that is at most a number is one
-below_some : (v w : Option ℕ) (b : ℕ) → v ≡ Some b → IsAtMost w v → (a : ℕ) × (w ≡ Some a) × (a ≤ b)
-below_some v w b is low = at w (subst (IsAtMost w) is low)
-  where
-    at : (w : Option ℕ) → IsAtMost w (Some b) → (a : ℕ) × (w ≡ Some a) × (a ≤ b)
-    at (Some a) h = (a, refl, h)
-    at None h = absurd h
-
-pub closing_tick : (loads : List Load) (n : ℕ) (v : Option ℕ) (ps : Prefix) (t : ℕ) → TickHolds loads n v ps t × (t ≤ 1023) → IsClosing loads n v ps (tick t)
-closing_tick loads n v ps t h =
+-- a leaf that holds, in a short tick, closes the prefix
+pub closing_leaf : (line : Line) (v : Option ℕ) (ps : Prefix) (l : Leaf) → LeafHolds line v ps l → HasShortTick l → IsClosing line v ps (leaf l)
+closing_leaf line v ps l h short =
     record {
       one = refl;
       whole = refl;
-      short = h.1;
-      holds = λ w low order.
-          let (b, some, under) = h.0 in
-          let (a, is, less) = below_some v w b some low in
-          (a, is, le_trans less under);
+      short = short;
+      holds = λ w low order. leaf-falls line v w ps l low h;
     }
 
-pub closing_average : (loads : List Load) (n : ℕ) (v : Option ℕ) (ps : Prefix) → AverageHolds loads n v ps → IsClosing loads n v ps average
-closing_average loads n v ps (b, some, under) =
-    record {
-      one = refl;
-      whole = refl;
-      short = tt;
-      holds = λ w low order.
-          let (a, is, less) = below_some v w b some low in
-          let times : a * lcm_of (periods_of loads) ≤ b * lcm_of (periods_of loads) = mul-le-mul_right (lcm_of (periods_of loads)) less in
-          (a, is, omega (arith, times, under));
-    }
-
-pub shape_of-Average : shape_of Average ≡ average
+pub shape_of-Average : shape_of Average ≡ leaf average
 shape_of-Average = search (rules, the_lemmas)
 
-pub shape_of-TickLeaf : (t : ℕ) → shape_of (TickLeaf t) ≡ tick t
+pub shape_of-TickLeaf : (t : ℕ) → shape_of (TickLeaf t) ≡ leaf (tick t)
 shape_of-TickLeaf t = search (rules, the_lemmas)
 
 -- the average as a leaf in memory
-pub average_leaf : (loads : List Load) (n : ℕ) (v : Option ℕ) (ps : Prefix) → AverageHolds loads n v ps → IsClosing loads n v ps (shape_of Average)
-average_leaf loads n v ps h = subst (IsClosing loads n v ps) (sym shape_of-Average) (closing_average loads n v ps h)
+pub average_leaf : (line : Line) (v : Option ℕ) (ps : Prefix) → AverageHolds line.loads line.slots v ps → IsClosing line v ps (shape_of Average)
+average_leaf line v ps h = subst (IsClosing line v ps) (sym shape_of-Average) (closing_leaf line v ps average h tt)

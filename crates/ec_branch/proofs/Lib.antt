@@ -1,4 +1,5 @@
 pub mod GreedyLemmas
+pub mod KnownLemmas
 pub mod LeafLemmas
 pub mod OrderLemmas
 pub mod ReadyLemmas

@@ -11,6 +11,7 @@ use Rattle.ec_units.specs.Load.{load_of, loads_of}
 use Rattle.ec_loads.specs.declared.item.Item.{Item}
 use Rattle.ec_loads.specs.Cost.{items, item}
 use Rattle.ec_loads.specs.Held.{Held, no_places}
+use Rattle.ec_loads.specs.Line.{slots_alone, Line, line_by, line_of}
 use Rattle.ec_loads.specs.Search.{Prefix, nobody}
 use Rattle.ec_loads.specs.Shape.{Shape}
 use Rattle.ec_symmetry.specs.Reached.{IsInRange}
@@ -93,17 +94,17 @@ order_ready loads n order is =
     ready_from loads n (no_places loads) order (length-map loads (λ _. None)) (within-none loads n) (count-none loads ∙ sym is.count) is.once (AreFree-none loads order is.below)
 
 -- and it stays so where the children lead
-prefix_ready : (loads : List Load) (n : ℕ) (ps : Prefix) (order : List ℕ) (places : List Place) → IsReadyFor loads n ps order → AreChildren loads n ps order places → IsReadyFor loads n (with_places ps order places) (drop (length places) order)
-prefix_ready loads n ps order [] ready h = ready
-prefix_ready loads n ps [] (p ∷ places) ready h = absurd h
-prefix_ready loads n ps (u ∷ order) (p ∷ places) ready h =
-    let range = children-In loads n ps u p h.0 in
-    prefix_ready loads n (set ps u (Some p)) order places (ready.1 p range.0 range.2) h.1
+prefix_ready : (line : Line) (ps : Prefix) (order : List ℕ) (places : List Place) → IsReadyFor line.loads line.slots ps order → AreChildren line ps order places → IsReadyFor line.loads line.slots (with_places ps order places) (drop (length places) order)
+prefix_ready line ps order [] ready h = ready
+prefix_ready line ps [] (p ∷ places) ready h = absurd h
+prefix_ready line ps (u ∷ order) (p ∷ places) ready h =
+    let range = children-In line ps u p h.0 in
+    prefix_ready line (set ps u (Some p)) order places (ready.1 p range.0 range.2) h.1
 
-pub children_long : (loads : List Load) (n : ℕ) (ps : Prefix) (order : List ℕ) (places : List Place) → AreChildren loads n ps order places → length places ≤ length order
-children_long loads n ps order [] h = omega arith
-children_long loads n ps [] (p ∷ places) h = absurd h
-children_long loads n ps (u ∷ order) (p ∷ places) h = let rest = children_long loads n (set ps u (Some p)) order places h.1 in omega arith
+pub children_long : (line : Line) (ps : Prefix) (order : List ℕ) (places : List Place) → AreChildren line ps order places → length places ≤ length order
+children_long line ps order [] h = omega arith
+children_long line ps [] (p ∷ places) h = absurd h
+children_long line ps (u ∷ order) (p ∷ places) h = let rest = children_long line (set ps u (Some p)) order places h.1 in omega arith
 
 -- the units of the lines
 pub order_of_loads : (us : List SyncUnit) (order : List ℕ) → IsOrder (length us) order → IsOrder (length (loads_of us)) order
@@ -117,21 +118,21 @@ held_prefix loads n order prefix first held at made = made ∙ ap (λ (w : Held)
 pub later_units : (order : List ℕ) (k : ℕ) → take (length order - k) (drop k order) ≡ drop k order
 later_units order k = take_all (length order - k) (drop k order) (omega (arith, length-drop k order))
 
-pub reached_ready : (loads : List Load) (n : ℕ) (order : List ℕ) (prefix : List Place) (held : Held) (later : List ℕ) → IsOrder (length loads) order → IsReachedPrefix loads n order prefix → held ≡ record { loads = loads; slots = n; places = prefix_of loads order prefix } → later ≡ drop (length prefix) order → IsReadyFor held.loads held.slots held.places later
+pub reached_ready : (loads : List Load) (n : ℕ) (order : List ℕ) (prefix : List Place) (held : Held) (later : List ℕ) → IsOrder (length loads) order → IsReachedPrefix (line_by slots_alone loads n) order prefix → held ≡ record { loads = loads; slots = n; places = prefix_of loads order prefix } → later ≡ drop (length prefix) order → IsReadyFor held.loads held.slots held.places later
 reached_ready loads n order prefix held later is reached at rest =
     subst (λ (w : Held). IsReadyFor w.loads w.slots w.places later) (sym at)
     (subst (IsReadyFor loads n (prefix_of loads order prefix)) (sym rest)
-    (prefix_ready loads n (no_places loads) order prefix (order_ready loads n order is) reached))
+    (prefix_ready (line_by slots_alone loads n) (no_places loads) order prefix (order_ready loads n order is) reached))
 
 -- what the walk below the prefix gave
 pub explored :
     (loads : List Load) (n floor : ℕ) (order : List ℕ) (prefix : List Place) (held : Held) (later : List ℕ) (was : Option ℕ) (had : ℕ) (now : Option ℕ) (left : ℕ) (halted : Bool) (tree : Shape) →
     held ≡ record { loads = loads; slots = n; places = prefix_of loads order prefix } → later ≡ drop (length prefix) order →
-    IsWalked held.loads held.slots floor held.places later was had now left halted tree →
-    IsWalked loads n floor (prefix_of loads order prefix) (drop (length prefix) order) was had now left halted tree
+    IsWalked (line_of slots_alone held) floor held.places later was had now left halted tree →
+    IsWalked (line_by slots_alone loads n) floor (prefix_of loads order prefix) (drop (length prefix) order) was had now left halted tree
 explored loads n floor order prefix held later was had now left halted tree at rest walked =
-    subst (λ w. IsWalked loads n floor (prefix_of loads order prefix) w was had now left halted tree) rest
-    (subst (λ (w : Held). IsWalked w.loads w.slots floor w.places later was had now left halted tree) at walked)
+    subst (λ w. IsWalked (line_by slots_alone loads n) floor (prefix_of loads order prefix) w was had now left halted tree) rest
+    (subst (λ (w : Held). IsWalked (line_of slots_alone w) floor w.places later was had now left halted tree) at walked)
 
 -- one more place of the prefix
 pub with_more : (ps : Prefix) (order : List ℕ) (places : List Place) (i u d : ℕ) (e : Place) → i < length order → i < length places → u ≡ get_or order i d → with_places ps (drop i order) (drop i places) ≡ with_places (set ps u (Some (get_or places i e))) (drop (i + 1) order) (drop (i + 1) places)

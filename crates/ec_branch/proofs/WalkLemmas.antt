@@ -1,5 +1,5 @@
 -- The walk over the prefixes: a value that falls, nodes that are counted, leaves that hold.
-use Rattle.std.proofs.Common.{◌≡◌, ℕ, zero, suc, ◌+◌, ◌<◌, ◌≤◌, ◌++◌, min, inl, inr, Bool, true, List, [], ◌∷◌, map, length, set, get_or, Option, Some, None, refl, sym, ap, ◌∙◌, subst, arith, le_trans}
+use Rattle.std.proofs.Common.{◌≡◌, ◌⊎◌, ℕ, zero, suc, ◌+◌, ◌-◌, ◌<◌, ◌≤◌, ◌++◌, Vec, Global, min, inl, inr, Bool, true, List, [], ◌∷◌, map, length, set, get_or, Option, Some, None, refl, sym, ap, ◌∙◌, subst, arith, le_trans}
 use Rattle.std.proofs.lemmas.Bool.{cases_lt}
 use Rattle.std.proofs.lemmas.List.{append_assoc}
 use Rattle.ec_units.specs.declared.slave.Place.{Place}
@@ -7,16 +7,18 @@ use Rattle.ec_units.specs.declared.unit.Load.{Load}
 use Rattle.ec_loads.specs.Cost.{items, plan_items, tick_cost, IsBusiest, IsFirstBusiest}
 use Rattle.ec_loads.specs.Held.{Held, items_of}
 use Rattle.ec_loads.specs.Legal.{IsLegal, Fits}
-use Rattle.ec_loads.specs.Shape.{Shape, Shapes, tick}
+use Rattle.ec_loads.specs.Line.{slots_alone, Line, line_of}
+use Rattle.ec_loads.specs.Shape.{Shape, Shapes, tick, leaf}
 use Rattle.ec_loads.specs.Search.{Prefix, children, TickHolds, TreesWith, HaveShortTicks, HasShortTicks, IsAtMost, open_count, open_counts, node_count, node_counts}
 use Rattle.ec_symmetry.specs.Reached.{In, here, there, IsInRange}
 use Rattle.ec_symmetry.proofs.InLemmas.{children-In}
-use Rattle.ec_cert.specs.declared.tree.Tree.{Tree, TickLeaf}
+use Rattle.ec_cert.proofs.TreeLemmas.{shape_of-Split}
+use Rattle.ec_cert.specs.declared.tree.Tree.{Tree, Split, TickLeaf}
 use Rattle.ec_cert.specs.Shapes.{shape_of, shapes_of}
 use Rattle.ec_branch.specs.Frames.{Frame, IsFair}
 use Rattle.ec_branch.specs.Walks.{HoldsAt, IsReadyFor, IsClosing, HasCause, IsWalked}
 use Rattle.ec_bounds.proofs.HeldLemmas.{with_place}
-use Rattle.ec_branch.proofs.LeafLemmas.{closing_tick, shape_of-TickLeaf}
+use Rattle.ec_branch.proofs.LeafLemmas.{closing_leaf, shape_of-TickLeaf}
 
 pub IsAtMost-trans : (a b c : Option ℕ) → IsAtMost a b → IsAtMost b c → IsAtMost a c
 IsAtMost-trans (Some a) (Some b) (Some c) h k = le_trans h k
@@ -27,8 +29,8 @@ IsAtMost-trans None (Some b) c h k = absurd h
 IsAtMost-trans None None c h k = k
 
 -- trees for some of the children of a prefix
-abbrev pub RowHolds : List Load → ℕ → Option ℕ → Shapes → Prefix → ℕ → List ℕ → List Place → Type 0
-RowHolds loads n v trees ps u order kids = TreesWith (λ _ _. Unit {0}) loads n v trees ps u order kids
+abbrev pub RowHolds : Line → Option ℕ → Shapes → Prefix → ℕ → List ℕ → List Place → Type 0
+RowHolds line v trees ps u order kids = TreesWith (λ _ _. Unit {0}) line v trees ps u order kids
 
 -- one child more
 nodes-push : (ts : List Tree) (t : Tree) → node_counts (shapes_of (ts ++ t ∷ [])) ≡ node_counts (shapes_of ts) + node_count (shape_of t)
@@ -43,19 +45,19 @@ short-push : (ts : List Tree) (t : Tree) → HaveShortTicks (shapes_of ts) → H
 short-push [] t so_far next = (next, tt)
 short-push (x ∷ ts) t so_far next = (so_far.0, short-push ts t so_far.1 next)
 
-row-push : (loads : List Load) (n : ℕ) (w : Option ℕ) (ps : Prefix) (u : ℕ) (order : List ℕ) (ts : List Tree) (t : Tree) (kids : List Place) (p : Place)
-    → RowHolds loads n w (shapes_of ts) ps u order kids → HoldsAt loads n w (shape_of t) (set ps u (Some p)) order → RowHolds loads n w (shapes_of (ts ++ t ∷ [])) ps u order (kids ++ p ∷ [])
-row-push loads n w ps u order [] t [] p so_far next = (next, tt)
-row-push loads n w ps u order [] t (k ∷ kids) p so_far next = absurd so_far
-row-push loads n w ps u order (x ∷ ts) t [] p so_far next = absurd so_far
-row-push loads n w ps u order (x ∷ ts) t (k ∷ kids) p so_far next = (so_far.0, row-push loads n w ps u order ts t kids p so_far.1 next)
+row-push : (line : Line) (w : Option ℕ) (ps : Prefix) (u : ℕ) (order : List ℕ) (ts : List Tree) (t : Tree) (kids : List Place) (p : Place)
+    → RowHolds line w (shapes_of ts) ps u order kids → HoldsAt line w (shape_of t) (set ps u (Some p)) order → RowHolds line w (shapes_of (ts ++ t ∷ [])) ps u order (kids ++ p ∷ [])
+row-push line w ps u order [] t [] p so_far next = (next, tt)
+row-push line w ps u order [] t (k ∷ kids) p so_far next = absurd so_far
+row-push line w ps u order (x ∷ ts) t [] p so_far next = absurd so_far
+row-push line w ps u order (x ∷ ts) t (k ∷ kids) p so_far next = (so_far.0, row-push line w ps u order ts t kids p so_far.1 next)
 
 -- after some of a split's children
-pub record IsWalking (loads : List Load) (n floor : ℕ) (ps : Prefix) (u : ℕ) (order : List ℕ) (kids : List Place) (was : Option ℕ) (had : ℕ) (now : Option ℕ) (left : ℕ) (halted : Bool) (ts : List Tree) : Type 0 where
-  pub holds : (w : Option ℕ) → IsAtMost w now → RowHolds loads n w (shapes_of ts) ps u order kids
+pub record IsWalking (line : Line) (floor : ℕ) (ps : Prefix) (u : ℕ) (order : List ℕ) (kids : List Place) (was : Option ℕ) (had : ℕ) (now : Option ℕ) (left : ℕ) (halted : Bool) (ts : List Tree) : Type 0 where
+  pub holds : (w : Option ℕ) → IsAtMost w now → RowHolds line w (shapes_of ts) ps u order kids
   pub short : HaveShortTicks (shapes_of ts)
   pub lower : IsAtMost now was
-  pub fair : IsFair floor loads n was → IsFair floor loads n now
+  pub fair : IsFair floor line.loads line.slots was → IsFair floor line.loads line.slots now
   pub count : node_counts (shapes_of ts) + left ≡ had
   pub cause : HasCause (open_counts (shapes_of ts)) left halted
 
@@ -66,18 +68,18 @@ cause-push a b left left2 k halted halted2 count stays (inr (inl out)) other = i
 cause-push a b left left2 k halted halted2 count stays (inr (inr stopped)) other = inr (inr (stays stopped))
 
 walking_more :
-    (loads : List Load) (n floor : ℕ) (ps : Prefix) (u : ℕ) (order : List ℕ) (kids : List Place) (p : Place)
+    (line : Line) (floor : ℕ) (ps : Prefix) (u : ℕ) (order : List ℕ) (kids : List Place) (p : Place)
     (was now now2 : Option ℕ) (had left left2 : ℕ) (halted halted2 : Bool) (ts : List Tree) (t : Tree) →
-    IsWalking loads n floor ps u order kids was had now left halted ts →
-    IsWalked loads n floor (set ps u (Some p)) order now left now2 left2 halted2 (shape_of t) →
+    IsWalking line floor ps u order kids was had now left halted ts →
+    IsWalked line floor (set ps u (Some p)) order now left now2 left2 halted2 (shape_of t) →
     (halted ≡ true → halted2 ≡ true) →
-    IsWalking loads n floor ps u order (kids ++ p ∷ []) was had now2 left2 halted2 (ts ++ t ∷ [])
-walking_more loads n floor ps u order kids p was now now2 had left left2 halted halted2 ts t so_far step stays =
+    IsWalking line floor ps u order (kids ++ p ∷ []) was had now2 left2 halted2 (ts ++ t ∷ [])
+walking_more line floor ps u order kids p was now now2 had left left2 halted halted2 ts t so_far step stays =
     let count = so_far.count in
     let counted = step.count in
     let more_nodes = nodes-push ts t in
     record {
-      holds = λ w low. row-push loads n w ps u order ts t kids p (so_far.holds w (IsAtMost-trans w now2 now low step.lower)) (step.holds w low);
+      holds = λ w low. row-push line w ps u order ts t kids p (so_far.holds w (IsAtMost-trans w now2 now low step.lower)) (step.holds w low);
       short = short-push ts t so_far.short step.short;
       lower = IsAtMost-trans now2 now was step.lower so_far.lower;
       fair = λ f. step.fair (so_far.fair f);
@@ -96,10 +98,10 @@ fair_found floor loads n plan c b legal busiest least x low bounds =
 
 -- a leaf that closes its prefix
 pub closed_walked :
-    (loads : List Load) (n floor : ℕ) (ps : Prefix) (order : List ℕ) (was now : Option ℕ) (had left : ℕ) (halted : Bool) (tree : Shape) →
-    IsClosing loads n now ps tree → left + 1 ≡ had → IsAtMost now was → (IsFair floor loads n was → IsFair floor loads n now) →
-    IsWalked loads n floor ps order was had now left halted tree
-closed_walked loads n floor ps order was now had left halted tree closing spent low keeps =
+    (line : Line) (floor : ℕ) (ps : Prefix) (order : List ℕ) (was now : Option ℕ) (had left : ℕ) (halted : Bool) (tree : Shape) →
+    IsClosing line now ps tree → left + 1 ≡ had → IsAtMost now was → (IsFair floor line.loads line.slots was → IsFair floor line.loads line.slots now) →
+    IsWalked line floor ps order was had now left halted tree
+closed_walked line floor ps order was now had left halted tree closing spent low keeps =
     let one = closing.one in
     record { holds = λ w k. closing.holds w k order; short = closing.short; lower = low; fair = keeps; count = omega (arith, one, spent); cause = inl closing.whole }
 
@@ -115,12 +117,12 @@ In-mid (y ∷ xs) x ys = there (In-mid xs x ys)
 pub ready_child :
     (args cur placed : Held) (later : List ℕ) (u : ℕ) (p : Place) (before after : List Place) →
     IsReadyFor args.loads args.slots args.places (u ∷ later) → cur ≡ args → placed ≡ with_place cur u (Some p) →
-    before ++ p ∷ after ≡ children args.loads args.slots args.places u →
+    before ++ p ∷ after ≡ children (line_of slots_alone args) args.places u →
     IsReadyFor placed.loads placed.slots placed.places later
 ready_child args cur placed later u p before after ready same made kids =
     let whole : placed ≡ with_place args u (Some p) = made ∙ ap (λ (w : Held). with_place w u (Some p)) same in
-    let is : In p (children args.loads args.slots args.places u) = subst (In p) kids (In-mid before p after) in
-    let range = children-In args.loads args.slots args.places u p is in
+    let is : In p (children (line_of slots_alone args) args.places u) = subst (In p) kids (In-mid before p after) in
+    let range = children-In (line_of slots_alone args) args.places u p is in
     subst (λ (w : Held). IsReadyFor w.loads w.slots w.places later) (sym whole) (ready.1 p range.0 range.2)
 
 -- the places that there are
@@ -158,7 +160,7 @@ legal_found loads n ps order found ready none same fits =
     }
 
 -- a cost that no tick of the value reaches is below it
-below_value : (loads : List Load) (n : ℕ) (v : Option ℕ) (ps : Prefix) (c t : ℕ) → tick_cost (items loads ps) n t ≡ c → ((i : ℕ) → ¬ (TickHolds loads n v ps i)) → IsAtMost (Some c) v
+pub below_value : (loads : List Load) (n : ℕ) (v : Option ℕ) (ps : Prefix) (c t : ℕ) → tick_cost (items loads ps) n t ≡ c → ((i : ℕ) → ¬ (TickHolds loads n v ps i)) → IsAtMost (Some c) v
 below_value loads n (Some b) ps c t at none =
     elim (cases_lt c b) [
       | inl less ↦ omega (arith, less)
@@ -172,16 +174,16 @@ pub found_walked :
     f.loads ≡ h.loads → f.slots ≡ h.slots → f.floor ≡ floor → IsReadyFor h.loads h.slots h.places order → order ≡ [] → map Some plan ≡ h.places →
     Fits (items_of h) h.slots → IsFirstBusiest (items_of h) h.slots c t → t ≤ 1023 → ((i : ℕ) → ¬ (TickHolds h.loads h.slots first h.places i)) →
     left + 1 ≡ had → IsAtMost first was → (b ≤ c) × (min c f.floor ≤ b) →
-    IsWalked h.loads h.slots floor h.places order was had (Some b) left halted (shape_of (TickLeaf t))
+    IsWalked (line_of slots_alone h) floor h.places order was had (Some b) left halted (shape_of (TickLeaf t))
 found_walked f h floor order plan was first had left halted c b t loads_are slots_are floor_is ready none same fits busiest short unreached spent low value =
     let legal = legal_found h.loads h.slots h.places order plan ready none same fits in
     let top : IsBusiest (plan_items h.loads plan) h.slots c = subst (λ q. IsBusiest (items h.loads q) h.slots c) (sym same) busiest.busiest in
     let reached = busiest.reached in
     let under : IsAtMost (Some b) (Some c) = value.0 in
     let above = below_value h.loads h.slots first h.places c t reached unreached in
-    subst (IsWalked h.loads h.slots floor h.places order was had (Some b) left halted) (sym (shape_of-TickLeaf t))
-    (closed_walked h.loads h.slots floor h.places order was (Some b) had left halted (tick t)
-    (closing_tick h.loads h.slots (Some b) h.places t ((b, refl, omega (arith, reached, value.0)), short))
+    subst (IsWalked (line_of slots_alone h) floor h.places order was had (Some b) left halted) (sym (shape_of-TickLeaf t))
+    (closed_walked (line_of slots_alone h) floor h.places order was (Some b) had left halted (leaf (tick t))
+    (closing_leaf (line_of slots_alone h) (Some b) h.places (tick t) (b, refl, omega (arith, reached, value.0)) short)
     spent
     (IsAtMost-trans (Some b) first was (IsAtMost-trans (Some b) (Some c) first under above) low)
     (λ g. fair_found floor h.loads h.slots plan c b legal top (subst (λ k. min c k ≤ b) floor_is value.1)))
@@ -191,15 +193,47 @@ pub loop_more :
     (args cur placed : Held) (floor : ℕ) (later : List ℕ) (u : ℕ) (p : Place) (before : List Place)
     (was now now2 : Option ℕ) (had left left2 : ℕ) (halted halted2 : Bool) (ts ts2 : List Tree) (t : Tree) →
     cur ≡ args → placed ≡ with_place cur u (Some p) →
-    IsWalking args.loads args.slots floor args.places u later before was had now left halted ts →
-    IsWalked placed.loads placed.slots floor placed.places later now left now2 left2 halted2 (shape_of t) →
+    IsWalking (line_of slots_alone args) floor args.places u later before was had now left halted ts →
+    IsWalked (line_of slots_alone placed) floor placed.places later now left now2 left2 halted2 (shape_of t) →
     (halted ≡ true → halted2 ≡ true) → ts2 ≡ ts ++ t ∷ [] →
-    IsWalking args.loads args.slots floor args.places u later (before ++ p ∷ []) was had now2 left2 halted2 ts2
+    IsWalking (line_of slots_alone args) floor args.places u later (before ++ p ∷ []) was had now2 left2 halted2 ts2
 loop_more args cur placed floor later u p before was now now2 had left left2 halted halted2 ts ts2 t same made so_far step stays pushed =
     let whole : placed ≡ with_place args u (Some p) = made ∙ ap (λ (w : Held). with_place w u (Some p)) same in
-    let one = subst (λ (w : Held). IsWalked w.loads w.slots floor w.places later now left now2 left2 halted2 (shape_of t)) whole step in
-    subst (IsWalking args.loads args.slots floor args.places u later (before ++ p ∷ []) was had now2 left2 halted2) (sym pushed)
-    (walking_more args.loads args.slots floor args.places u later before p was now now2 had left left2 halted halted2 ts t so_far one stays)
+    let one = subst (λ (w : Held). IsWalked (line_of slots_alone w) floor w.places later now left now2 left2 halted2 (shape_of t)) whole step in
+    subst (IsWalking (line_of slots_alone args) floor args.places u later (before ++ p ∷ []) was had now2 left2 halted2) (sym pushed)
+    (walking_more (line_of slots_alone args) floor args.places u later before p was now now2 had left left2 halted halted2 ts t so_far one stays)
+
+-- the lesser of a fair value and one that a guide answers is fair
+pub fair_lesser : (floor : ℕ) (loads : List Load) (n : ℕ) (was first asked : Option ℕ) → (first ≡ was) ⊎ (first ≡ asked) → ((b : ℕ) → asked ≡ Some b → floor ≤ b) → IsFair floor loads n was → IsFair floor loads n first
+fair_lesser floor loads n was first asked (inl same) high fair = subst (IsFair floor loads n) (sym same) fair
+fair_lesser floor loads n was first None (inr same) high fair = subst (IsFair floor loads n) (sym same) (λ x low bounds. tt)
+fair_lesser floor loads n was first (Some b) (inr same) high fair = subst (IsFair floor loads n) (sym same) (λ x low bounds. let least = high b refl in omega (arith, low, least))
+
+append_none : (xs : List Place) → xs ++ [] ≡ xs
+append_none [] = refl
+append_none (x ∷ xs) = ap (λ w. x ∷ w) (append_none xs)
+
+-- a split of all children
+pub split_walked :
+    (line : Line) (floor : ℕ) (ps : Prefix) (order later : List ℕ) (k u : ℕ) (done rest : List Place)
+    (was first : Option ℕ) (had : ℕ) (now : Option ℕ) (left : ℕ) (halted : Bool) (v : Vec Tree Global) →
+    order ≡ k ∷ later → u ≡ k → done ++ rest ≡ children line ps u → rest ≡ [] → 1 ≤ had → IsAtMost first was → (IsFair floor line.loads line.slots was → IsFair floor line.loads line.slots first) →
+    IsWalking line floor ps u later done first (had - 1) now left halted v.items →
+    IsWalked line floor ps order was had now left halted (shape_of (Split v))
+split_walked line floor ps order later k u done rest was first had now left halted v from is kids none some low keeps all =
+    let whole : order ≡ u ∷ later = from ∙ ap (λ w. w ∷ later) (sym is) in
+    let every : done ≡ children line ps u = sym (append_none done) ∙ ap (λ w. done ++ w) (sym none) ∙ kids in
+    let count = all.count in
+    subst (λ w. IsWalked line floor ps w was had now left halted (shape_of (Split v))) (sym whole)
+    (subst (IsWalked line floor ps (u ∷ later) was had now left halted) (sym (shape_of-Split v))
+    (record {
+      holds = λ w k. subst (RowHolds line w (shapes_of v.items) ps u later) every (all.holds w k);
+      short = all.short;
+      lower = IsAtMost-trans now first was all.lower low;
+      fair = λ f. all.fair (keeps f);
+      count = omega (arith, count, some);
+      cause = all.cause;
+    }))
 
 pub none_left : (xs : List ℕ) → length xs ≡ 0 → xs ≡ []
 none_left [] h = refl

@@ -6,6 +6,7 @@ use Rattle.ec_loads.specs.declared.item.Item.{Item}
 use Rattle.ec_loads.specs.Cost.{items, IsBusiest}
 use Rattle.ec_loads.specs.Held.{no_places}
 use Rattle.ec_loads.specs.Legal.{Fits}
+use Rattle.ec_loads.specs.Line.{slots_alone, line_by}
 use Rattle.ec_loads.specs.Search.{Prefix, children}
 use Rattle.ec_branch.specs.Weights.{IsSearchOrder}
 
@@ -22,13 +23,13 @@ pub record FitsAt (loads : List Load) (n : ℕ) (ps : Prefix) (u : ℕ) (p : Pla
   pub fits : Fits (items_at loads ps u p) n
   pub busiest : IsBusiest (items_at loads ps u p) n b
 
--- the child that keeps every payload small enough and has the least busiest tick, and of several such children the first
+-- the child, by the rules of slots alone, that keeps every payload small enough and has the least busiest tick, and of several such children the first
 pub record IsBestChild (loads : List Load) (n : ℕ) (ps : Prefix) (u : ℕ) (p : Place) : Type 0 where
   pub cost : ℕ
   pub fits : FitsAt loads n ps u p cost
   pub before : List Place
   pub after : List Place
-  pub child : children loads n ps u ≡ before ++ p ∷ after
+  pub child : children (line_by slots_alone loads n) ps u ≡ before ++ p ∷ after
   pub earlier : All (λ q. (b : ℕ) → FitsAt loads n ps u q b → cost < b) before
   pub later : All (λ q. (b : ℕ) → FitsAt loads n ps u q b → cost ≤ b) after
 
@@ -41,7 +42,7 @@ IsGreedyTo loads n ps (u ∷ order) end = (p : Place) × IsBestChild loads n ps 
 abbrev pub IsStuck : List Load → ℕ → Prefix → List ℕ → Type 0
 IsStuck loads n ps [] = ⊥
 IsStuck loads n ps (u ∷ order) =
-    All (IsTooFull loads n ps u) (children loads n ps u) ⊎ ((p : Place) × IsBestChild loads n ps u p × IsStuck loads n (set ps u (Some p)) order)
+    All (IsTooFull loads n ps u) (children (line_by slots_alone loads n) ps u) ⊎ ((p : Place) × IsBestChild loads n ps u p × IsStuck loads n (set ps u (Some p)) order)
 
 -- the plan that the units at their best children make, in the order of the search
 pub record IsGreedyPlan (loads : List Load) (n : ℕ) (plan : List Place) : Type 0 where

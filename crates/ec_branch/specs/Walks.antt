@@ -1,15 +1,16 @@
 -- What a walk below a prefix gives.
-use Rattle.std.specs.Prelude.{◌≡◌, ℕ, ◌+◌, ◌<◌, ◌⊎◌, List, [], ◌∷◌, map, set, get_or, slice_get, Option, Some, None, Bool, true}
+use Rattle.std.specs.Prelude.{◌≡◌, ℕ, ◌+◌, ◌<◌, ◌⊎◌, List, [], ◌∷◌, map, set, get_or, slice_get, Option, Some, None, Bool, true, false}
 use Rattle.ec_units.specs.declared.slave.Place.{Place}
 use Rattle.ec_units.specs.declared.unit.Load.{Load}
+use Rattle.ec_loads.specs.Line.{Line}
 use Rattle.ec_loads.specs.Shape.{Shape}
 use Rattle.ec_loads.specs.Search.{Prefix, nobody, TreeWith, HasShortTicks, IsAtMost, open_count, node_count}
 use Rattle.ec_symmetry.specs.Reached.{IsInRange}
 use Rattle.ec_branch.specs.Frames.{IsFair}
 
 -- a tree whose closed leaves hold at the value; of an open leaf nothing is asked
-abbrev pub HoldsAt : List Load → ℕ → Option ℕ → Shape → Prefix → List ℕ → Type 0
-HoldsAt loads n v tree ps order = TreeWith (λ _ _. Unit {0}) loads n v tree ps order
+abbrev pub HoldsAt : Line → Option ℕ → Shape → Prefix → List ℕ → Type 0
+HoldsAt line v tree ps order = TreeWith (λ _ _. Unit {0}) line v tree ps order
 
 -- the order names the units without a place, each once, and every place within its ranges leads on; without a unit left there is a plan within its ranges
 abbrev pub IsReadyFor : List Load → ℕ → Prefix → List ℕ → Type 0
@@ -19,21 +20,28 @@ IsReadyFor loads n ps (u ∷ order) =
     × ((p : Place) → p.phase < (get_or loads u nobody).period → p.slot < n → IsReadyFor loads n (set ps u (Some p)) order)
 
 -- a leaf that closes a prefix at the value, and so at each value below it
-pub record IsClosing (loads : List Load) (n : ℕ) (v : Option ℕ) (ps : Prefix) (tree : Shape) : Type 0 where
+pub record IsClosing (line : Line) (v : Option ℕ) (ps : Prefix) (tree : Shape) : Type 0 where
   pub one : node_count tree ≡ 1
   pub whole : open_count tree ≡ 0
   pub short : HasShortTicks tree
-  pub holds : (w : Option ℕ) → IsAtMost w v → (order : List ℕ) → HoldsAt loads n w tree ps order
+  pub holds : (w : Option ℕ) → IsAtMost w v → (order : List ℕ) → HoldsAt line w tree ps order
 
 -- an open leaf is there only for want of nodes or by a stop
 abbrev pub HasCause : ℕ → ℕ → Bool → Type 0
 HasCause count left halted = (count ≡ 0) ⊎ (left ≡ 0) ⊎ (halted ≡ true)
 
 -- a walk from the value `was` with `had` nodes to the value `now` with `left` nodes: the tree holds at each value up to `now`
-pub record IsWalked (loads : List Load) (n floor : ℕ) (ps : Prefix) (order : List ℕ) (was : Option ℕ) (had : ℕ) (now : Option ℕ) (left : ℕ) (halted : Bool) (tree : Shape) : Type 0 where
-  pub holds : (w : Option ℕ) → IsAtMost w now → HoldsAt loads n w tree ps order
+pub record IsWalked (line : Line) (floor : ℕ) (ps : Prefix) (order : List ℕ) (was : Option ℕ) (had : ℕ) (now : Option ℕ) (left : ℕ) (halted : Bool) (tree : Shape) : Type 0 where
+  pub holds : (w : Option ℕ) → IsAtMost w now → HoldsAt line w tree ps order
   pub short : HasShortTicks tree
   pub lower : IsAtMost now was
-  pub fair : IsFair floor loads n was → IsFair floor loads n now
+  pub fair : IsFair floor line.loads line.slots was → IsFair floor line.loads line.slots now
   pub count : node_count tree + left ≡ had
   pub cause : HasCause (open_count tree) left halted
+
+-- a walk from the value `was`, where the guide knew `knew`, to the value `now`, where it knows `knows`: what is known only falls; the value falls no lower than
+-- what the guide knows, and is no higher once it was asked
+pub record FollowsGuide (had : ℕ) (halted : Bool) (was knew now knows : Option ℕ) : Type 0 where
+  pub falls : IsAtMost knows knew
+  pub least : IsAtMost knew was → IsAtMost knows now
+  pub most : ((0 < had) × (halted ≡ false)) ⊎ IsAtMost was knew → IsAtMost now knows

@@ -6,6 +6,7 @@ ghost use Rattle.ec_units.specs.Load.{loads_of};
 ghost use Rattle.ec_loads.specs.Cost.{IsBusiest};
 ghost use Rattle.ec_loads.specs.Held.{items_of};
 ghost use Rattle.ec_loads.specs.Legal.{Fits, IsLegal};
+ghost use Rattle.ec_loads.specs.Line.{slots_alone, line_of};
 ghost use Rattle.ec_loads.specs.Search.{children};
 ghost use Rattle.ec_branch.specs.declared.first_plan.Choice.{Choice};
 ghost use Rattle.ec_branch.specs.Greedy.{IsTooFull, IsBestChild, IsGreedyTo, IsStuck, IsGreedyPlan, HasNoGreedyPlan};
@@ -60,7 +61,7 @@ fn better(best: Option<Choice>, place: Place, cost: Option<u64>) -> Option<Choic
 fn best_child(loads: &mut Loads, unit: usize) -> Option<Place>
     requires { slice_get loads.old.places unit ≡ Some None }
     ensures same { loads.new ≡ loads.old }
-    ensures best { MatchOption result (All (IsTooFull loads.old.loads loads.old.slots loads.old.places unit) (children loads.old.loads loads.old.slots loads.old.places unit))
+    ensures best { MatchOption result (All (IsTooFull loads.old.loads loads.old.slots loads.old.places unit) (children (line_of slots_alone loads.old) loads.old.places unit))
         (λ p. IsBestChild loads.old.loads loads.old.slots loads.old.places unit p) }
 {
     let mut best = None;

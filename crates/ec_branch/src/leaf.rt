@@ -4,6 +4,7 @@ ghost use Rattle.std.specs.Prelude.{◌≡◌, ℕ, ◌≤◌, MatchOption};
 ghost use Rattle.ec_loads.specs.Cost.{IsFirstBusiest};
 ghost use Rattle.ec_loads.specs.Held.{items_of};
 ghost use Rattle.ec_loads.specs.Legal.{Fits};
+ghost use Rattle.ec_loads.specs.Line.{slots_alone, line_of};
 ghost use Rattle.ec_loads.specs.Search.{TickHolds, FullHolds};
 ghost use Rattle.ec_bounds.specs.Left.{IsRestOf};
 ghost use Rattle.ec_cert.specs.Shapes.{shape_of};
@@ -46,7 +47,7 @@ pub(crate) fn leaf_of(loads: &Loads, rest: &Rest, value: Option<u64>) -> Option<
     requires { IsRestOf rest.now loads.now }
     ensures { MatchOption result
         (Fits (items_of loads.now) loads.now.slots × ((t : ℕ) → ¬ (TickHolds loads.now.loads loads.now.slots value loads.now.places t)))
-        (λ tree. IsClosing loads.now.loads loads.now.slots value loads.now.places (shape_of tree)) }
+        (λ tree. IsClosing (line_of slots_alone loads.now) value loads.now.places (shape_of tree)) }
 {
     if let Some((tick, slot)) = full_leaf(loads) {
         return Some(Tree::FullLeaf(tick, slot));

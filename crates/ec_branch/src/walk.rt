@@ -1,10 +1,11 @@
 //! The walk over the prefixes.
 
 ghost use Rattle.std.specs.Prelude.{◌≡◌, IfOk, true};
+ghost use Rattle.ec_loads.specs.Line.{slots_alone, line_of};
 ghost use Rattle.ec_bounds.specs.Left.{IsRestOf};
 ghost use Rattle.ec_cert.specs.Shapes.{shape_of};
 ghost use Rattle.ec_branch.specs.Frames.{Frame};
-ghost use Rattle.ec_branch.specs.Walks.{IsReadyFor, IsWalked};
+ghost use Rattle.ec_branch.specs.Walks.{IsReadyFor, IsWalked, FollowsGuide};
 
 use crate::guide::Guide;
 use crate::leaf::{leaf_of, top_of};
@@ -34,7 +35,8 @@ pub(crate) fn walk<G: Guide>(
     ensures left { IfOk result (λ _. IsRestOf rest.new loads.new) }
     ensures frame { G.frame guide.new ≡ G.frame guide.old }
     ensures stays { G.halted guide.old ≡ true → G.halted guide.new ≡ true }
-    ensures walked { IfOk result (λ tree. IsWalked loads.old.loads loads.old.slots (G.frame guide.old).floor loads.old.places order.now search.old.value search.old.left search.new.value search.new.left (G.halted guide.new) (shape_of tree)) }
+    ensures known { IfOk result (λ _. FollowsGuide search.old.left (G.halted guide.old) search.old.value (G.known guide.old) search.new.value (G.known guide.new)) }
+    ensures walked { IfOk result (λ tree. IsWalked (line_of slots_alone loads.old) (G.frame guide.old).floor loads.old.places order.now search.old.value search.old.left search.new.value search.new.left (G.halted guide.new) (shape_of tree)) }
 {
     if search.left == 0 || guide.stopped() {
         return Ok(Tree::OpenLeaf);

@@ -8,14 +8,14 @@ use Rattle.std.proofs.lemmas.Bool.{and_parts}
 use Rattle.std.proofs.lemmas.Bool.Decides.{nat_tests}
 use Rattle.ec_units.specs.Names.{is_name_byte}
 use Rattle.ec_units.specs.declared.slave.Place.{Place}
-use Rattle.ec_loads.specs.Shape.{Shape, split, tick, full, average, open_leaf, Shapes, no_shapes, more, shape_count}
+use Rattle.ec_loads.specs.Shape.{Leaf, tick, full, average, Shape, split, leaf, open_leaf, Shapes, no_shapes, more, shape_count}
 use Rattle.ec_cert.specs.declared.fault.CertFault.{CertFault}
 use Rattle.ec_cert.specs.declared.lists.UnitLine.{UnitLine}
 use Rattle.ec_cert.specs.declared.cert.Best.{Best}
 use Rattle.ec_cert.specs.declared.cert.Cert.{Cert}
 use Rattle.ec_cert.specs.Shapes.{CertView, cert_view}
 use Rattle.ec_cert.specs.Reading.{Gives, is_text_byte, reading}
-use Rattle.ec_cert.specs.Text.{version_line, slots_line, unit_line, index_word, order_line, value_line, place_line, best_lines, split_line, node_lines, row_lines, tree_lines, certificate_text, HasLevels, HaveLevels, IsUnitLine, IsPlaceLine, IsBestOrNone, IsWellFormed}
+use Rattle.ec_cert.specs.Text.{version_line, slots_line, unit_line, index_word, order_line, value_line, place_line, best_lines, split_line, leaf_line, node_lines, row_lines, tree_lines, certificate_text, IsLeafLine, HasLevels, HaveLevels, IsUnitLine, IsPlaceLine, IsBestOrNone, IsWellFormed}
 use Rattle.ec_cert.proofs.WordLaws.{own, if_err, if_ok}
 use Rattle.ec_cert.proofs.ManyLaws.{Rec-from_All}
 use Rattle.ec_cert.proofs.TextLaws.{body_found, body_again}
@@ -68,13 +68,16 @@ text-best units None f = refl
 text-best units (Some b) f =
     text-append (value_line b.busiest) _ (text-number b.busiest _ (omega (arith, f.most)) refl) (text-flat_map place_line IsPlaceLine text-place b.plan.places (Rec-from_All IsPlaceLine b.plan.places f.places))
 
+text-leaf : (l : Leaf) → IsLeafLine l → are_text (leaf_line l) ≡ true
+text-leaf (tick t) f = text-number t _ (omega arith) refl
+text-leaf (full t s) f = text-number t _ (omega (arith, f.0)) (text-number s _ (omega (arith, f.1)) refl)
+text-leaf average f = refl
+
 mutual
   text-nodes : (d : ℕ) (s : Shape) → HasLevels d s → are_text (node_lines s) ≡ true
   text-nodes zero s f = absurd f
   text-nodes (suc d) (split ss) f = text-append (split_line (shape_count ss)) (row_lines ss) (text-number (shape_count ss) _ (omega (arith, f.1)) refl) (text-row d ss f.2)
-  text-nodes (suc d) (tick t) f = text-number t _ (omega arith) refl
-  text-nodes (suc d) (full t s) f = text-number t _ (omega (arith, f.0)) (text-number s _ (omega (arith, f.1)) refl)
-  text-nodes (suc d) average f = refl
+  text-nodes (suc d) (leaf l) f = text-leaf l f
   text-nodes (suc d) open_leaf f = absurd f
 
   text-row : (d : ℕ) (ss : Shapes) → HaveLevels d ss → are_text (row_lines ss) ≡ true

@@ -4,7 +4,7 @@ use Rattle.std.specs.List.{starts_with, flat_map, AllByRecursion}
 use Rattle.std.specs.Str.{bytes_eq}
 use Rattle.std.specs.Fmt.{decimal}
 use Rattle.std.proofs.lemmas.Bool.Decides.{nat_tests}
-use Rattle.ec_loads.specs.Shape.{Shape, split, tick, full, average, open_leaf, Shapes, no_shapes, more, shape_count}
+use Rattle.ec_loads.specs.Shape.{Leaf, tick, full, average, Shape, split, leaf, open_leaf, Shapes, no_shapes, more, shape_count}
 use Rattle.ec_cert.specs.declared.fault.CertFault.{CertFault}
 use Rattle.ec_cert.specs.declared.fault.CertFault.TheVariants as fault
 use Rattle.ec_cert.specs.declared.words.Wrong.TheVariants as wrong
@@ -12,7 +12,7 @@ use Rattle.ec_cert.specs.declared.nodes.Node.{Node}
 use Rattle.ec_cert.specs.declared.nodes.Node.TheVariants as node
 use Rattle.ec_cert.specs.Shapes.{shapes}
 use Rattle.ec_cert.specs.Reading.{At, line_at, number_in, pair_in, ok_map, on_line, many_from, node_in, node_at, below, tree_at}
-use Rattle.ec_cert.specs.Text.{node_lines, row_lines, HasLevels, HaveLevels}
+use Rattle.ec_cert.specs.Text.{leaf_line, IsLeafLine, node_lines, row_lines, HasLevels, HaveLevels}
 use Rattle.ec_cert.proofs.TreeLemmas.{shape_count-shapes}
 use Rattle.ec_cert.proofs.WordLaws.{if_err, bind_ok, chosen, ok_map_ok, on_line_ok, lacks, lacks-append, decimal_lacks, number_found, number_again, pair_found, pair_again, begins, same_bytes, line_found, line_again}
 use Rattle.ec_cert.proofs.ManyLaws.{Spells, many_found}
@@ -117,10 +117,10 @@ row_lines-shapes (s ∷ ss) = ap (λ l. node_lines s ++ l) (row_lines-shapes ss)
 abbrev at_bytes : At → List ℕ
 at_bytes p = p.rest
 
-tick_text : (t : ℕ) (rest : List ℕ) → node_words (node.TickLeaf t) ++ 10 ∷ rest ≡ node_lines (tick t) ++ rest
+tick_text : (t : ℕ) (rest : List ℕ) → node_words (node.TickLeaf t) ++ 10 ∷ rest ≡ leaf_line (tick t) ++ rest
 tick_text t rest = ap (λ l. codes "T " ++ l) (regroup_1 (decimal t) rest)
 
-full_text : (t s : ℕ) (rest : List ℕ) → node_words (node.FullLeaf t s) ++ 10 ∷ rest ≡ node_lines (full t s) ++ rest
+full_text : (t s : ℕ) (rest : List ℕ) → node_words (node.FullLeaf t s) ++ 10 ∷ rest ≡ leaf_line (full t s) ++ rest
 full_text t s rest = ap (λ l. codes "F " ++ l) (regroup_2 (decimal t) (decimal s) rest)
 
 split_text : (n : ℕ) (ss : Shapes) (rest found : List ℕ) → shape_count ss ≡ n → found ≡ row_lines ss ++ rest → node_words (node.Split n) ++ 10 ∷ found ≡ node_lines (split ss) ++ rest
@@ -138,13 +138,13 @@ below_found d one law (node.Split n) p x f e =
     let text : p.rest ≡ row_lines (shapes ts.0) ++ ts.1.rest = spelled ∙ ap (λ l. l ++ ts.1.rest) (sym (row_lines-shapes ts.0)) in
     rw (← is) ((omega arith, omega arith, HaveLevels-shapes d ts.0 fit), split_text n (shapes ts.0) ts.1.rest p.rest count text)
 below_found d one law (node.TickLeaf t) p x f e =
-    let is : (tick t, p) ≡ x = cc in
+    let is : (leaf (tick t), p) ≡ x = cc in
     rw (← is) (f, tick_text t p.rest)
 below_found d one law (node.FullLeaf t s) p x f e =
-    let is : (full t s, p) ≡ x = cc in
+    let is : (leaf (full t s), p) ≡ x = cc in
     rw (← is) (f, full_text t s p.rest)
 below_found d one law node.Average p x f e =
-    let is : (average, p) ≡ x = cc in
+    let is : (leaf average, p) ≡ x = cc in
     rw (← is) (tt, refl)
 
 pub tree_found : (d : ℕ) → Spells at_bytes node_lines (HasLevels d) (tree_at d)
@@ -164,6 +164,12 @@ shapes-list_of : (ss : Shapes) → shapes (list_of ss) ≡ ss
 shapes-list_of no_shapes = refl
 shapes-list_of (more s ss) = ap (more s) (shapes-list_of ss)
 
+leaf_again : (d n : ℕ) (l : Leaf) (rest : List ℕ) → IsLeafLine l → tree_at (suc d) (record { line = n; rest = leaf_line l ++ rest }) ≡ Ok (leaf l, record { line = n + 1; rest = rest })
+unfolding tree_at
+leaf_again d n (tick t) rest f = rw (← tick_text t rest, node_again d n (node.TickLeaf t) rest f) refl
+leaf_again d n (full t s) rest f = rw (← full_text t s rest, node_again d n (node.FullLeaf t s) rest f) refl
+leaf_again d n average rest f = rw (node_again d n node.Average rest tt) refl
+
 mutual
   unfolding tree_at
 
@@ -172,9 +178,7 @@ mutual
   tree_again (suc d) n (split ss) rest f =
       let (m, e) = trees_again d (n + 1) ss rest f.2 in
       (m, rw (← split_text (shape_count ss) ss rest (row_lines ss ++ rest) refl refl, node_again d n (node.Split (shape_count ss)) (row_lines ss ++ rest) (f.0, f.1), e, shapes-list_of ss) refl)
-  tree_again (suc d) n (tick t) rest f = (n + 1, rw (← tick_text t rest, node_again d n (node.TickLeaf t) rest f) refl)
-  tree_again (suc d) n (full t s) rest f = (n + 1, rw (← full_text t s rest, node_again d n (node.FullLeaf t s) rest f) refl)
-  tree_again (suc d) n average rest f = (n + 1, rw (node_again d n node.Average rest tt) refl)
+  tree_again (suc d) n (leaf l) rest f = (n + 1, leaf_again d n l rest f)
   tree_again (suc d) n open_leaf rest f = absurd f
 
   pub trees_again : (d n : ℕ) (ss : Shapes) (rest : List ℕ) → HaveLevels d ss → (m : ℕ) × (many_from (tree_at d) (shape_count ss) (record { line = n; rest = row_lines ss ++ rest }) ≡ Ok (list_of ss, record { line = m; rest = rest }))

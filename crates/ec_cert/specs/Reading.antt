@@ -4,7 +4,7 @@ use Rattle.std.specs.List.{starts_with, list_all}
 use Rattle.std.specs.Str.{all_ascii_digits, bytes_eq}
 use Rattle.ec_units.specs.Names.{is_name}
 use Rattle.ec_units.specs.declared.slave.Place.{Place}
-use Rattle.ec_loads.specs.Shape.{Shape, split, tick, full, average}
+use Rattle.ec_loads.specs.Shape.{tick, full, average, Shape, split, leaf}
 use Rattle.ec_cert.specs.declared.fault.CertFault.{CertFault}
 use Rattle.ec_cert.specs.declared.fault.CertFault.TheVariants as fault
 use Rattle.ec_cert.specs.declared.words.Wrong.{Wrong}
@@ -240,9 +240,9 @@ node_at levels p = do
 -- a node with what stands below its line
 abbrev pub below : (At → Result (Shape × At) CertFault) → Node → At → Result (Shape × At) CertFault
 below one (node.Split n) p = many_from one n p >>= (λ ts. Ok (split (shapes ts.0), ts.1))
-below one (node.TickLeaf t) p = Ok (tick t, p)
-below one (node.FullLeaf t s) p = Ok (full t s, p)
-below one node.Average p = Ok (average, p)
+below one (node.TickLeaf t) p = Ok (leaf (tick t), p)
+below one (node.FullLeaf t s) p = Ok (leaf (full t s), p)
+below one node.Average p = Ok (leaf average, p)
 
 -- a tree of so many levels at most
 unfoldable pub tree_at : ℕ → At → Result (Shape × At) CertFault

@@ -4,7 +4,7 @@ use Rattle.std.specs.List.{All, flat_map}
 use Rattle.std.specs.Fmt.{decimal}
 use Rattle.ec_units.specs.Names.{is_name}
 use Rattle.ec_units.specs.declared.slave.Place.{Place}
-use Rattle.ec_loads.specs.Shape.{Shape, split, tick, full, average, open_leaf, Shapes, no_shapes, more, shape_count}
+use Rattle.ec_loads.specs.Shape.{Leaf, tick, full, average, Shape, split, leaf, open_leaf, Shapes, no_shapes, more, shape_count}
 use Rattle.ec_cert.specs.declared.lists.UnitLine.{UnitLine}
 use Rattle.ec_cert.specs.declared.cert.Best.{Best}
 use Rattle.ec_cert.specs.Shapes.{CertView}
@@ -44,13 +44,17 @@ tick_line t = codes "T " ++ (decimal t ++ codes "\n")
 abbrev pub full_line : ℕ → ℕ → List ℕ
 full_line t s = codes "F " ++ (decimal t ++ (codes " " ++ (decimal s ++ codes "\n")))
 
+-- the line of a leaf, by what closes it
+abbrev pub leaf_line : Leaf → List ℕ
+leaf_line (tick t) = tick_line t
+leaf_line (full t s) = full_line t s
+leaf_line average = codes "A\n"
+
 -- a line for each node, a node before its children
 abbrev mutual
   pub node_lines : Shape → List ℕ
   node_lines (split ss) = split_line (shape_count ss) ++ row_lines ss
-  node_lines (tick t) = tick_line t
-  node_lines (full t s) = full_line t s
-  node_lines average = codes "A\n"
+  node_lines (leaf l) = leaf_line l
   node_lines open_leaf = codes "O\n"
 
   pub row_lines : Shapes → List ℕ
@@ -65,14 +69,18 @@ abbrev pub certificate_text : CertView → List ℕ
 certificate_text c =
     version_line c.version ++ (slots_line c.slots ++ (flat_map unit_line c.units ++ (order_line c.order ++ (best_lines c.best ++ tree_lines c.tree))))
 
+-- the numbers of a leaf are in range
+abbrev pub IsLeafLine : Leaf → Type 0
+IsLeafLine (tick t) = t ≤ 1023
+IsLeafLine (full t s) = (t ≤ 1023) × (s ≤ 7)
+IsLeafLine average = Unit {0}
+
 -- the numbers of a tree are in range, no leaf is open, and the tree has at most so many levels
 abbrev mutual
   pub HasLevels : ℕ → Shape → Type 0
   HasLevels zero s = ⊥
   HasLevels (suc d) (split ss) = (1 ≤ shape_count ss) × (shape_count ss ≤ 480) × HaveLevels d ss
-  HasLevels (suc d) (tick t) = t ≤ 1023
-  HasLevels (suc d) (full t s) = (t ≤ 1023) × (s ≤ 7)
-  HasLevels (suc d) average = Unit {0}
+  HasLevels (suc d) (leaf l) = IsLeafLine l
   HasLevels (suc d) open_leaf = ⊥
 
   pub HaveLevels : ℕ → Shapes → Type 0

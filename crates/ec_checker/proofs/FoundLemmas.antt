@@ -6,12 +6,13 @@ use Rattle.ec_units.specs.declared.slave.Place.{Place}
 use Rattle.ec_units.specs.declared.unit.Load.{Load}
 use Rattle.ec_units.specs.Load.{periods_of}
 use Rattle.ec_loads.specs.Cost.{items, payload, tick_cost}
-use Rattle.ec_loads.specs.Shape.{Shape, Shapes, split, tick, full, average, open_leaf, no_shapes, more, shape_count}
-use Rattle.ec_loads.specs.Search.{Prefix, children, least_raw, TickHolds, FullHolds, AverageHolds, TreeWith, TreesWith}
+use Rattle.ec_loads.specs.Line.{Line}
+use Rattle.ec_loads.specs.Shape.{Leaf, tick, full, average, Shape, Shapes, split, leaf, open_leaf, no_shapes, more, shape_count}
+use Rattle.ec_loads.specs.Search.{Prefix, children, least_raw, TickHolds, FullHolds, AverageHolds, LeafHolds, TreeWith, TreesWith}
 use Rattle.ec_checker.specs.declared.fault.CheckFault.{CheckFault}
 use Rattle.ec_checker.specs.declared.fault.CheckFault.TheVariants as fault
 use Rattle.ec_checker.specs.Certified.{IsNodeFault}
-use Rattle.ec_checker.specs.Judged.{next, tick_holds, full_holds, average_holds, leaf_judged, then_judged, tree_judged, trees_judged}
+use Rattle.ec_checker.specs.Judged.{next, tick_holds, full_holds, average_holds, leaf_holds, leaf_judged, then_judged, tree_judged, trees_judged}
 
 -- yes where it holds, and else the fault of a node
 abbrev pub Found : Type 0 → Result ℕ CheckFault → Type 0
@@ -58,35 +59,39 @@ found_average loads n (Some b) ps k =
     (λ e. (b, refl, ltb-true (b * m) (least_raw loads n ps m + m) e))
     (λ h. let e : b ≡ h.0 = cc in lt-ltb (b * m) (least_raw loads n ps m + m) (subst (λ w. w * m < least_raw loads n ps m + m) (sym e) h.2))
 
+-- by what closes the leaf
+found_closed : (line : Line) (v : Option ℕ) (ps : Prefix) (l : Leaf) (k : ℕ) → Found (LeafHolds line v ps l) (leaf_judged (leaf_holds line v ps l) k)
+found_closed line v ps (tick t) k = found_tick line.loads line.slots v ps t k
+found_closed line v ps (full t s) k = found_full line.loads line.slots ps t s k
+found_closed line v ps average k = found_average line.loads line.slots v ps k
+
 -- as many trees as children
-trees_count : (loads : List Load) (n : ℕ) (v : Option ℕ) (ts : Shapes) (ps : Prefix) (u : ℕ) (order : List ℕ) (places : List Place) → TreesWith closed loads n v ts ps u order places → shape_count ts ≡ length places
-trees_count loads n v no_shapes ps u order [] h = refl
-trees_count loads n v no_shapes ps u order (p ∷ rest) h = absurd h
-trees_count loads n v (more t ts) ps u order [] h = absurd h
-trees_count loads n v (more t ts) ps u order (p ∷ rest) h = ap suc (trees_count loads n v ts ps u order rest h.1)
+trees_count : (line : Line) (v : Option ℕ) (ts : Shapes) (ps : Prefix) (u : ℕ) (order : List ℕ) (places : List Place) → TreesWith closed line v ts ps u order places → shape_count ts ≡ length places
+trees_count line v no_shapes ps u order [] h = refl
+trees_count line v no_shapes ps u order (p ∷ rest) h = absurd h
+trees_count line v (more t ts) ps u order [] h = absurd h
+trees_count line v (more t ts) ps u order (p ∷ rest) h = ap suc (trees_count line v ts ps u order rest h.1)
 
 found_split : (P : Type 0) (b : Bool) (r : Result ℕ CheckFault) (k want got : ℕ) → (b ≡ true → Found P r) → (P → b ≡ true) → Found P (if b then r else Err (fault.Children k want got))
 found_split P true r k want got to back = to refl
 found_split P false r k want got to back = (tt, λ p. false≢true (back p))
 
 mutual
-  pub found_tree : (loads : List Load) (n : ℕ) (v : Option ℕ) (t : Shape) (ps : Prefix) (order : List ℕ) (k : ℕ) → Found (TreeWith closed loads n v t ps order) (tree_judged loads n v t ps order k)
-  found_tree loads n v (split ts) ps [] k = (tt, λ h. h)
-  found_tree loads n v (split ts) ps (u ∷ order) k =
-      let kids = children loads n ps u in
-      found_split (TreesWith closed loads n v ts ps u order kids) (shape_count ts == length kids) (trees_judged loads n v ts ps u order kids (next k)) k (length kids) (shape_count ts)
-      (λ e. found_trees loads n v ts ps u order kids (next k) (eqb-true (shape_count ts) (length kids) e))
-      (λ h. eq-eqb (shape_count ts) (length kids) (trees_count loads n v ts ps u order kids h))
-  found_tree loads n v (tick t) ps order k = found_tick loads n v ps t k
-  found_tree loads n v (full t s) ps order k = found_full loads n ps t s k
-  found_tree loads n v average ps order k = found_average loads n v ps k
-  found_tree loads n v open_leaf ps order k = (tt, λ h. h)
+  pub found_tree : (line : Line) (v : Option ℕ) (t : Shape) (ps : Prefix) (order : List ℕ) (k : ℕ) → Found (TreeWith closed line v t ps order) (tree_judged line v t ps order k)
+  found_tree line v (split ts) ps [] k = (tt, λ h. h)
+  found_tree line v (split ts) ps (u ∷ order) k =
+      let kids = children line ps u in
+      found_split (TreesWith closed line v ts ps u order kids) (shape_count ts == length kids) (trees_judged line v ts ps u order kids (next k)) k (length kids) (shape_count ts)
+      (λ e. found_trees line v ts ps u order kids (next k) (eqb-true (shape_count ts) (length kids) e))
+      (λ h. eq-eqb (shape_count ts) (length kids) (trees_count line v ts ps u order kids h))
+  found_tree line v (leaf l) ps order k = found_closed line v ps l k
+  found_tree line v open_leaf ps order k = (tt, λ h. h)
 
-  found_trees : (loads : List Load) (n : ℕ) (v : Option ℕ) (ts : Shapes) (ps : Prefix) (u : ℕ) (order : List ℕ) (places : List Place) (k : ℕ) → shape_count ts ≡ length places → Found (TreesWith closed loads n v ts ps u order places) (trees_judged loads n v ts ps u order places k)
-  found_trees loads n v no_shapes ps u order [] k e = tt
-  found_trees loads n v no_shapes ps u order (p ∷ rest) k e = absurd (omega (arith, e))
-  found_trees loads n v (more t ts) ps u order [] k e = absurd (omega (arith, e))
-  found_trees loads n v (more t ts) ps u order (p ∷ rest) k e =
-      found_then (TreeWith closed loads n v t (set ps u (Some p)) order) (TreesWith closed loads n v ts ps u order rest) (tree_judged loads n v t (set ps u (Some p)) order k) (λ j. trees_judged loads n v ts ps u order rest j)
-      (found_tree loads n v t (set ps u (Some p)) order k)
-      (λ j. found_trees loads n v ts ps u order rest j (omega (arith, e)))
+  found_trees : (line : Line) (v : Option ℕ) (ts : Shapes) (ps : Prefix) (u : ℕ) (order : List ℕ) (places : List Place) (k : ℕ) → shape_count ts ≡ length places → Found (TreesWith closed line v ts ps u order places) (trees_judged line v ts ps u order places k)
+  found_trees line v no_shapes ps u order [] k e = tt
+  found_trees line v no_shapes ps u order (p ∷ rest) k e = absurd (omega (arith, e))
+  found_trees line v (more t ts) ps u order [] k e = absurd (omega (arith, e))
+  found_trees line v (more t ts) ps u order (p ∷ rest) k e =
+      found_then (TreeWith closed line v t (set ps u (Some p)) order) (TreesWith closed line v ts ps u order rest) (tree_judged line v t (set ps u (Some p)) order k) (λ j. trees_judged line v ts ps u order rest j)
+      (found_tree line v t (set ps u (Some p)) order k)
+      (λ j. found_trees line v ts ps u order rest j (omega (arith, e)))

@@ -4,6 +4,7 @@ use Rattle.std.proofs.lemmas.Bool.{eq-eqb, ne_eqb}
 use Rattle.std.proofs.lemmas.List.{drop_all}
 use Rattle.ec_units.specs.declared.slave.Place.{Place}
 use Rattle.ec_loads.specs.Held.{Held}
+use Rattle.ec_loads.specs.Line.{slots_alone, line_of}
 use Rattle.ec_loads.specs.Search.{Prefix, children}
 use Rattle.ec_bounds.proofs.HeldLemmas.{with_place}
 use Rattle.ec_cert.specs.declared.tree.Tree.{Tree, Split}
@@ -16,25 +17,25 @@ use Rattle.ec_checker.specs.Judged.{IsReady, next, then_judged, tree_judged, tre
 
 -- what is found in these trees, for these children
 abbrev pub judged_from : Held → Option ℕ → List Tree → ℕ → List ℕ → List Place → ℕ → Result ℕ CheckFault
-judged_from held v ts u order places k = trees_judged held.loads held.slots v (shapes_of ts) held.places u order places k
+judged_from held v ts u order places k = trees_judged (line_of slots_alone held) v (shapes_of ts) held.places u order places k
 
 abbrev pub tree_at : Held → Option ℕ → Shape → List ℕ → ℕ → Result ℕ CheckFault
-tree_at held v t order k = tree_judged held.loads held.slots v t held.places order k
+tree_at held v t order k = tree_judged (line_of slots_alone held) v t held.places order k
 
 abbrev pub kids : Held → ℕ → List Place
-kids held u = children held.loads held.slots held.places u
+kids held u = children (line_of slots_alone held) held.places u
 
 -- one more child
 pub child_step : (held placed : Held) (v : Option ℕ) (ts : List Tree) (u : ℕ) (order : List ℕ) (ps rest : List Place) (p : Place) (i k : ℕ) (t : Tree) (r : Result ℕ CheckFault) → i < length ts → t ≡ get_or ts i t → ps ≡ p ∷ rest → placed ≡ with_place held u (Some p) → r ≡ tree_at placed v (shape_of t) order k
     → judged_from held v (drop i ts) u order ps k ≡ then_judged r (λ j. judged_from held v (drop (i + 1) ts) u order rest j)
 child_step held placed v ts u order ps rest p i k t r h is first made judged =
     let later : ℕ → Result ℕ CheckFault = λ j. judged_from held v (drop (i + 1) ts) u order rest j in
-    let one : tree_judged held.loads held.slots v (shape_of (get_or ts i t)) (set held.places u (Some p)) order k ≡ r =
-    ap (λ x. tree_judged held.loads held.slots v (shape_of x) (set held.places u (Some p)) order k) (sym is)
+    let one : tree_judged (line_of slots_alone held) v (shape_of (get_or ts i t)) (set held.places u (Some p)) order k ≡ r =
+    ap (λ x. tree_judged (line_of slots_alone held) v (shape_of x) (set held.places u (Some p)) order k) (sym is)
     ∙ ap (λ (w : Held). tree_at w v (shape_of t) order k) (sym made)
     ∙ sym judged in
-    ap (λ s. trees_judged held.loads held.slots v s held.places u order ps k) (shapes_of-drop ts i t h)
-    ∙ ap (λ w. trees_judged held.loads held.slots v (more (shape_of (get_or ts i t)) (shapes_of (drop (i + 1) ts))) held.places u order w k) first
+    ap (λ s. trees_judged (line_of slots_alone held) v s held.places u order ps k) (shapes_of-drop ts i t h)
+    ∙ ap (λ w. trees_judged (line_of slots_alone held) v (more (shape_of (get_or ts i t)) (shapes_of (drop (i + 1) ts))) held.places u order w k) first
     ∙ ap (λ w. then_judged w later) one
 
 -- no tree is left

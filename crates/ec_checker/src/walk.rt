@@ -1,6 +1,7 @@
 //! The walk over a tree.
 
 ghost use Rattle.std.specs.Prelude.{◌≡◌, ℕ, ◌<◌, ◌≤◌};
+ghost use Rattle.ec_loads.specs.Line.{slots_alone, line_of};
 ghost use Rattle.ec_bounds.specs.Left.{IsRestOf};
 ghost use Rattle.ec_cert.specs.Shapes.{shape_of};
 ghost use Rattle.ec_checker.specs.Judged.{IsReady, tree_judged};
@@ -26,7 +27,7 @@ pub(crate) fn walk(
     requires left { IsRestOf rest.old loads.old }
     ensures same { loads.new ≡ loads.old }
     ensures left { IsRestOf rest.new loads.new }
-    ensures judged { result ≡ tree_judged loads.old.loads loads.old.slots value (shape_of tree.now) loads.old.places order.now number }
+    ensures judged { result ≡ tree_judged (line_of slots_alone loads.old) value (shape_of tree.now) loads.old.places order.now number }
 {
     match tree {
         Tree::Split(trees) => match order.split_first() {

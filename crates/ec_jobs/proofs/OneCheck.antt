@@ -12,6 +12,7 @@ use Rattle.ec_loads.specs.declared.plan.Illegal.{Illegal}
 use Rattle.ec_loads.specs.Cost.{plan_items, IsBusiest}
 use Rattle.ec_loads.specs.Held.{no_places}
 use Rattle.ec_loads.specs.Legal.{IsLegal, IsIllegalBy}
+use Rattle.ec_loads.specs.Line.{slots_alone, line_by}
 use Rattle.ec_loads.specs.Search.{IsTree}
 use Rattle.ec_symmetry.specs.Orders.{IsOrder}
 use Rattle.ec_cert.specs.declared.cert.Best.{Best}
@@ -72,7 +73,7 @@ head_alike us vs n c same h = record {
 certified_alike : (us vs : List SyncUnit) (n : ℕ) (c : CertView) → Alike us vs → IsCertified us n c → IsCertified vs n c
 certified_alike us vs n c same h = record {
   head = head_alike us vs n c same h.head;
-  tree = subst (λ ls. IsTree ls n (value_of c.best) c.tree (no_places ls) c.order) same.loads h.tree;
+  tree = subst (λ ls. IsTree (line_by slots_alone ls n) (value_of c.best) c.tree (no_places ls) c.order) same.loads h.tree;
 }
 
 plan_alike : (us vs : List SyncUnit) (n : ℕ) (c : CertView) (f : CheckFault) → Alike us vs → IsPlanFault (loads_of us) n c.best f → IsPlanFault (loads_of vs) n c.best f

@@ -10,6 +10,7 @@ use Rattle.ec_loads.specs.declared.item.Item.{Item}
 use Rattle.ec_loads.specs.Cost.{plan_items, payload, tick_cost}
 use Rattle.ec_loads.specs.Held.{no_places}
 use Rattle.ec_loads.specs.Legal.{Fits, IsLegal}
+use Rattle.ec_loads.specs.Line.{slots_alone, line_by}
 use Rattle.ec_loads.specs.Search.{Prefix, Extends, done, free, same, slots_in, used, nobody, nowhere, children}
 use Rattle.ec_symmetry.specs.Reached.{In, IsCanonical, IsInRange, CostsAlike}
 use Rattle.ec_symmetry.specs.Renamed.{swap, swap_place, swap_slots, renamed, IsRenamed}
@@ -152,7 +153,7 @@ pub record Canon (loads : List Load) (n : ℕ) (ps : Prefix) (order : List ℕ) 
   pub costs : CostsAlike loads n other plan
   pub fits : Fits (plan_items loads plan) n → Fits (plan_items loads other) n
   pub names : IsRenamed plan other
-  pub canonical : IsCanonical loads n ps order other
+  pub canonical : IsCanonical (line_by slots_alone loads n) ps order other
 
 canon-step : (loads : List Load) (n : ℕ) (ps : Prefix) (u : ℕ) (order : List ℕ) (plan other : List Place) → u < length loads → Extends ps (map Some plan) → IsInRange loads n plan → (get_or plan u nowhere).slot ≤ used ps → Canon loads n (set ps u (Some (get_or plan u nowhere))) order plan other → Canon loads n ps (u ∷ order) plan other
 canon-step loads n ps u order plan other within e r low c =
@@ -165,7 +166,7 @@ canon-step loads n ps u order plan other within e r low c =
       costs = c.costs;
       fits = c.fits;
       names = c.names;
-      canonical = subst (λ w. In w (children loads n ps u) × IsCanonical loads n (set ps u (Some w)) order other) (sym at)
+      canonical = subst (λ w. In w (children (line_by slots_alone loads n) ps u) × IsCanonical (line_by slots_alone loads n) (set ps u (Some w)) order other) (sym at)
           (In-children loads n ps u p (phase_at loads plan u within r.whole r.phases) low (slot_at n loads plan u within r.whole r.slots), c.canonical);
     }
 

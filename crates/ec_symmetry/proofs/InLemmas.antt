@@ -4,7 +4,8 @@ use Rattle.std.specs.List.{flat_map, range_with_len}
 use Rattle.std.proofs.lemmas.Bool.{cases_eq}
 use Rattle.ec_units.specs.declared.slave.Place.{Place}
 use Rattle.ec_units.specs.declared.unit.Load.{Load}
-use Rattle.ec_loads.specs.Search.{Prefix, used, nobody, children}
+use Rattle.ec_loads.specs.Line.{Rules, slots_alone, Line, line_by}
+use Rattle.ec_loads.specs.Search.{Prefix, used, nobody, places_for, children_by, children}
 use Rattle.ec_symmetry.specs.Reached.{In, here, there}
 
 pub In-cases : {A : Type 0} {x y : A} {xs : List A} → In x (y ∷ xs) → (x ≡ y) ⊎ In x xs
@@ -35,8 +36,9 @@ In-flat_map : {A B : Type 0} (f : A → List B) {x : A} {y : B} {xs : List A} �
 In-flat_map f (here {x} {xs}) m = In-left (flat_map f xs) m
 In-flat_map f (there {x} {y = z} {xs} k) m = In-right (f z) (In-flat_map f k m)
 
--- which places are children
-pub In-children : (loads : List Load) (n : ℕ) (ps : Prefix) (u : ℕ) (p : Place) → p.phase < (get_or loads u nobody).period → p.slot ≤ used ps → p.slot < n → In p (children loads n ps u)
+-- which places are children, by the rules of slots alone
+pub In-children : (loads : List Load) (n : ℕ) (ps : Prefix) (u : ℕ) (p : Place) → p.phase < (get_or loads u nobody).period → p.slot ≤ used ps → p.slot < n → In p (children (line_by slots_alone loads n) ps u)
+unfolding children
 In-children loads n ps u p phase low slot =
     let row : ℕ → List Place = λ f. map (λ s. record { phase = f; slot = s }) (range_with_len 0 (min (suc (used ps)) n)) in
     In-flat_map row (In-range p.phase 0 (get_or loads u nobody).period (omega arith) (omega arith))
@@ -77,9 +79,8 @@ flat_map-In f y (x ∷ xs) m =
       | inr right ↦ let r = flat_map-In f y xs right in (r.0, there r.1, r.2)
     ]
 
--- and they are within these limits
-pub children-In : (loads : List Load) (n : ℕ) (ps : Prefix) (u : ℕ) (p : Place) → In p (children loads n ps u) → (p.phase < (get_or loads u nobody).period) × (p.slot ≤ used ps) × (p.slot < n)
-children-In loads n ps u p m =
+places_for-In : (loads : List Load) (n : ℕ) (ps : Prefix) (u : ℕ) (p : Place) → In p (children_by slots_alone loads n ps u) → (p.phase < (get_or loads u nobody).period) × (p.slot ≤ used ps) × (p.slot < n)
+places_for-In loads n ps u p m =
     let row : ℕ → List Place = λ f. map (λ s. record { phase = f; slot = s }) (range_with_len 0 (min (suc (used ps)) n)) in
     let f = flat_map-In row p (range_with_len 0 (get_or loads u nobody).period) m in
     let s = map-In (λ s. let q : Place = record { phase = f.0; slot = s } in q) p (range_with_len 0 (min (suc (used ps)) n)) f.2 in
@@ -88,3 +89,16 @@ children-In loads n ps u p m =
     let low = range-In f.0 0 (get_or loads u nobody).period f.1 in
     let high = range-In s.0 0 (min (suc (used ps)) n) s.1 in
     (omega (arith, low.1, phase), omega (arith, high.1, slot), omega (arith, high.1, slot))
+
+by_rules-In : (rules : Rules) (loads : List Load) (n : ℕ) (ps : Prefix) (u : ℕ) (p : Place) → In p (children_by rules loads n ps u) → (p.phase < (get_or loads u nobody).period) × (p.slot ≤ used ps) × (p.slot < n)
+by_rules-In slots_alone loads n ps u p m = places_for-In loads n ps u p m
+
+-- by any rules they are within these limits
+pub children-In : (line : Line) (ps : Prefix) (u : ℕ) (p : Place) → In p (children line ps u) → (p.phase < (get_or line.loads u nobody).period) × (p.slot ≤ used ps) × (p.slot < line.slots)
+unfolding children
+children-In line ps u p m = by_rules-In line.rules line.loads line.slots ps u p m
+
+-- the children by the rules of slots alone
+pub children-is : (loads : List Load) (n : ℕ) (ps : Prefix) (u : ℕ) → children (line_by slots_alone loads n) ps u ≡ places_for (get_or loads u nobody).period n (used ps)
+unfolding children
+children-is loads n ps u = refl

@@ -8,3 +8,4 @@ pub mod SetLemmas
 pub mod InLemmas
 pub mod ReachLemmas
 pub mod FreeLemmas
+pub mod RuleLemmas

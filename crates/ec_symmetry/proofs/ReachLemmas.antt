@@ -4,6 +4,7 @@ use Rattle.std.proofs.lemmas.List.Elements.{All-head, All-tail}
 use Rattle.ec_units.specs.declared.slave.Place.{Place}
 use Rattle.ec_units.specs.declared.unit.Load.{Load}
 use Rattle.ec_loads.specs.Held.{no_places}
+use Rattle.ec_loads.specs.Line.{Line}
 use Rattle.ec_loads.specs.Search.{Prefix, Extends, slots_in, used, different_numbers, nowhere}
 use Rattle.ec_symmetry.specs.Reached.{IsCanonical, placed}
 use Rattle.ec_symmetry.proofs.SlotLemmas.{slots_of}
@@ -13,14 +14,14 @@ use Rattle.ec_symmetry.proofs.UsedLemmas.{member, member-set, or_swap, NoGap, sl
 use Rattle.ec_symmetry.proofs.CanonLemmas.{Extends-set, step_next}
 
 -- children leave no gap
-pub NoGap-placed : (loads : List Load) (n : ℕ) (ps : Prefix) (order : List ℕ) (plan : List Place) → All (λ u. u < length loads) order → length plan ≡ length loads → Extends ps (map Some plan) → NoGap ps → IsCanonical loads n ps order plan → NoGap (placed ps order plan)
-NoGap-placed loads n ps [] plan all whole e d reached = d
-NoGap-placed loads n ps (u ∷ order) plan all whole e d reached =
-    let within = All-head (λ w. w < length loads) u order all in
-    let later = All-tail (λ w. w < length loads) u order all in
-    let low = children-In loads n ps u (get_or plan u nowhere) reached.0 in
+pub NoGap-placed : (line : Line) (ps : Prefix) (order : List ℕ) (plan : List Place) → All (λ u. u < length line.loads) order → length plan ≡ length line.loads → Extends ps (map Some plan) → NoGap ps → IsCanonical line ps order plan → NoGap (placed ps order plan)
+NoGap-placed line ps [] plan all whole e d reached = d
+NoGap-placed line ps (u ∷ order) plan all whole e d reached =
+    let within = All-head (λ w. w < length line.loads) u order all in
+    let later = All-tail (λ w. w < length line.loads) u order all in
+    let low = children-In line ps u (get_or plan u nowhere) reached.0 in
     let step = step_next ps plan u d e (omega arith) low.1 in
-    NoGap-placed loads n (set ps u (Some (get_or plan u nowhere))) order plan later whole (Extends-set ps plan u e) step.dense reached.1
+    NoGap-placed line (set ps u (Some (get_or plan u nowhere))) order plan later whole (Extends-set ps plan u e) step.dense reached.1
 
 -- the prefix uses the slots of these places and no other
 pub record SameSlots (ps : Prefix) (places : List Place) : Type 0 where

@@ -2,6 +2,7 @@
 
 ghost use Rattle.std.specs.Prelude.{◌≡◌, ℕ, ◌<◌, ◌≤◌, if◌then◌else◌, length, map, get_or};
 ghost use Rattle.std.specs.Iterator.{YieldsFirst, item_count};
+ghost use Rattle.ec_loads.specs.Line.{slots_alone, line_of};
 ghost use Rattle.ec_loads.specs.Search.{places_for, different_numbers, nobody, children};
 
 use crate::slots::{NO_PLACES, gather, used_slots};
@@ -64,10 +65,11 @@ pub fn children_after(loads: &Loads, unit: usize, before: &[Place]) -> Children
     )
 }
 
-/// The places that a unit can take after the places so far, in child order. Takes no memory.
+/// The places that a unit can take after the places so far, by the rules of slots alone, in child order. Takes no
+/// memory.
 pub fn children_of(loads: &Loads, unit: usize) -> Children
     requires { unit < length loads.now.places }
-    ensures { result ≡ children loads.now.loads loads.now.slots loads.now.places unit }
+    ensures { result ≡ children (line_of slots_alone loads.now) loads.now.places unit }
 {
     let mut table = NO_PLACES;
     let count = gather(loads.places(), &mut table);

@@ -7,6 +7,6 @@ mod rename;
 mod slots;
 
 pub use child::{Children, children_after, children_of, choices};
-pub use law::{every_plan_is_reached, slots_have_no_gap};
+pub use law::{every_plan_is_reached, every_plan_is_reached_by, slots_have_no_gap};
 pub use rename::canonical;
 pub use slots::used_slots;

@@ -3,6 +3,7 @@
 ghost use Rattle.std.specs.Prelude.{◌≡◌, ℕ, ◌<◌, length, All, IfOk, false};
 ghost use Rattle.ec_units.specs.Load.{loads_of};
 ghost use Rattle.ec_loads.specs.Legal.{IsLegal};
+ghost use Rattle.ec_loads.specs.Line.{slots_alone, line_by};
 ghost use Rattle.ec_symmetry.specs.Reached.{IsInRange, IsReached, CostsAlike};
 ghost use Rattle.ec_symmetry.specs.Renamed.{swap_place as swapped_place, swap_slots as swapped_slots, renamed, IsRenamed};
 
@@ -58,8 +59,8 @@ fn rename(places: &mut [Place], order: &[u8])
     }
 }
 
-/// A plan of equal cost in every tick that the children reach, unit by unit in this order: the plan with its slots
-/// renamed by their first use in the order. It is legal where the plan is. Units are numbered in file order.
+/// A plan of equal cost in every tick that the children by slots alone reach, unit by unit in this order: the plan
+/// with its slots renamed by their first use in the order. It is legal where the plan is. Units are numbered in file order.
 pub fn canonical(
     alloc: Global,
     plan: &Plan,
@@ -70,7 +71,7 @@ pub fn canonical(
     requires range { IsInRange (loads_of units.now.units) units.now.slots plan.now.places }
     requires order { All (λ u. u < length units.now.units) order.now }
     requires turned { turned ≡ false }
-    ensures reached { IfOk result (λ r. IsReached (loads_of units.now.units) units.now.slots order.now r.places) }
+    ensures reached { IfOk result (λ r. IsReached (line_by slots_alone (loads_of units.now.units) units.now.slots) order.now r.places) }
     ensures costs { IfOk result (λ r. CostsAlike (loads_of units.now.units) units.now.slots r.places plan.now.places) }
     ensures legal { IfOk result (λ r. IsLegal (loads_of units.now.units) units.now.slots plan.now.places → IsLegal (loads_of units.now.units) units.now.slots r.places) }
     ensures range { IfOk result (λ r. IsInRange (loads_of units.now.units) units.now.slots r.places) }

@@ -2,12 +2,12 @@
 
 ghost use Rattle.ec_tree.specs.Trees.{TreesBound};
 
-use ec_symmetry::every_plan_is_reached;
+use ec_symmetry::every_plan_is_reached_by;
 
-/// A tree for the empty prefix at a value, in any order of the units, gives every legal plan a tick that costs
+/// By any rules a tree for the empty prefix at a value, in any order of the units, gives every legal plan a tick that costs
 /// at least the value; at no value, no plan is legal.
 pub fn trees_bound()
     ensures { TreesBound }
 {
-    every_plan_is_reached();
+    every_plan_is_reached_by();
 }

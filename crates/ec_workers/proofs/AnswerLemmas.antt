@@ -6,8 +6,9 @@ use Rattle.ec_units.specs.declared.units.Units.{Units}
 use Rattle.ec_units.specs.declared.unit.Load.{Load}
 use Rattle.ec_units.specs.Load.{loads_of}
 use Rattle.ec_loads.specs.Held.{no_places}
-use Rattle.ec_loads.specs.Shape.{Shape, Shapes, split, tick, full, average, open_leaf, no_shapes, more}
-use Rattle.ec_loads.specs.Search.{Prefix, children, TreeWith, TreesWith, BoundsAll, HasNoPlan}
+use Rattle.ec_loads.specs.Line.{slots_alone, Line, line_by}
+use Rattle.ec_loads.specs.Shape.{Shape, Shapes, split, leaf, open_leaf, no_shapes, more}
+use Rattle.ec_loads.specs.Search.{Prefix, children, TreeWith, TreesWith, BoundsAll, HasNoPlan, open_count}
 use Rattle.ec_cert.specs.declared.lists.UnitLine.{UnitLine}
 use Rattle.ec_cert.specs.declared.cert.Best.{Best}
 use Rattle.ec_cert.specs.BestPlan.{value_of}
@@ -25,19 +26,17 @@ few_of us = record { least_slots = us.slot_range.0; most_slots = us.slot_range.1
 
 -- a tree without open leaves is a partial tree
 mutual
-  tree-partial : (loads : List Load) (n : ℕ) (v : Option ℕ) (t : Shape) (ps : Prefix) (order : List ℕ) → TreeWith (λ _ _. ⊥) loads n v t ps order → TreeWith (λ _ _. Unit {0}) loads n v t ps order
-  tree-partial loads n v (split ts) ps [] h = absurd h
-  tree-partial loads n v (split ts) ps (u ∷ order) h = trees-partial loads n v ts ps u order (children loads n ps u) h
-  tree-partial loads n v (tick t) ps order h = h
-  tree-partial loads n v (full t s) ps order h = h
-  tree-partial loads n v average ps order h = h
-  tree-partial loads n v open_leaf ps order h = tt
+  tree-partial : (line : Line) (v : Option ℕ) (t : Shape) (ps : Prefix) (order : List ℕ) → TreeWith (λ _ _. ⊥) line v t ps order → TreeWith (λ _ _. Unit {0}) line v t ps order
+  tree-partial line v (split ts) ps [] h = absurd h
+  tree-partial line v (split ts) ps (u ∷ order) h = trees-partial line v ts ps u order (children line ps u) h
+  tree-partial line v (leaf l) ps order h = h
+  tree-partial line v open_leaf ps order h = tt
 
-  trees-partial : (loads : List Load) (n : ℕ) (v : Option ℕ) (ts : Shapes) (ps : Prefix) (u : ℕ) (order : List ℕ) (places : List Place) → TreesWith (λ _ _. ⊥) loads n v ts ps u order places → TreesWith (λ _ _. Unit {0}) loads n v ts ps u order places
-  trees-partial loads n v no_shapes ps u order [] h = tt
-  trees-partial loads n v no_shapes ps u order (p ∷ rest) h = absurd h
-  trees-partial loads n v (more t ts) ps u order [] h = absurd h
-  trees-partial loads n v (more t ts) ps u order (p ∷ rest) h = (tree-partial loads n v t (set ps u (Some p)) order h.0, trees-partial loads n v ts ps u order rest h.1)
+  trees-partial : (line : Line) (v : Option ℕ) (ts : Shapes) (ps : Prefix) (u : ℕ) (order : List ℕ) (places : List Place) → TreesWith (λ _ _. ⊥) line v ts ps u order places → TreesWith (λ _ _. Unit {0}) line v ts ps u order places
+  trees-partial line v no_shapes ps u order [] h = tt
+  trees-partial line v no_shapes ps u order (p ∷ rest) h = absurd h
+  trees-partial line v (more t ts) ps u order [] h = absurd h
+  trees-partial line v (more t ts) ps u order (p ∷ rest) h = (tree-partial line v t (set ps u (Some p)) order h.0, trees-partial line v ts ps u order rest h.1)
 
 no_legal : (loads : List Load) (n : ℕ) → BoundsAll loads n None → HasNoPlan loads n
 no_legal loads n all plan legal = let has = all plan legal in absurd (none_some has.1)
@@ -77,7 +76,7 @@ optimal refute law us order best tree lines c b plan found is said copied made =
     }))
 
 -- where not even the certificate's plan could be copied
-pub uncopied : (us : List SyncUnit) (n nodes : ℕ) (order : List ℕ) (best given : Option Best) (tree : Shape) → IsFound us n order best tree → best ≡ given → IsUnproved us n nodes given order tree cut.Memory
-uncopied us n nodes order best given tree found is =
+pub uncopied : (us : List SyncUnit) (n nodes : ℕ) (order : List ℕ) (best given : Option Best) (tree : Shape) → IsFound us n order best tree → open_count tree ≡ 0 → best ≡ given → IsUnproved us n nodes given order tree cut.Memory
+uncopied us n nodes order best given tree found closed is =
     let now : IsFound us n order given tree = subst (λ b. IsFound us n order b tree) is found in
-    record { order_is = now.order_is; best_is = now.best_is; tree_is = (tree-partial (loads_of us) n (value_of given) tree (no_places (loads_of us)) order now.tree_is, now.short); cut_is = tt }
+    record { order_is = now.order_is; best_is = now.best_is; tree_is = (tree-partial (line_by slots_alone (loads_of us) n) (value_of given) tree (no_places (loads_of us)) order now.tree_is, now.short); cut_is = λ _. closed }

@@ -3,6 +3,7 @@ use Rattle.std.specs.Prelude.{◌≡◌, ℕ, ◌<◌, List, length, Option}
 use Rattle.ec_units.specs.declared.unit.Unit.{Unit as SyncUnit}
 use Rattle.ec_units.specs.Load.{loads_of}
 use Rattle.ec_loads.specs.Held.{no_places}
+use Rattle.ec_loads.specs.Line.{slots_alone, line_by}
 use Rattle.ec_loads.specs.Shape.{Shape}
 use Rattle.ec_loads.specs.Search.{IsPartialTree, node_count, open_count}
 use Rattle.ec_symmetry.specs.Orders.{IsOrder}
@@ -15,17 +16,17 @@ use Rattle.ec_workers.specs.declared.outcome.Outcome.{Outcome}
 use Rattle.ec_workers.specs.declared.outcome.Outcome.TheVariants as outcome
 use Rattle.ec_workers.specs.Outcomes.{IsOptimal, IsWithoutPlan}
 
--- why a search of one worker ended without a proof: all nodes are spent and a leaf is open, or memory was refused; never because notes disagree
+-- why a search of one worker ended without a proof: all nodes are spent and a leaf is open, else memory was refused; never because notes disagree
 abbrev pub IsCut : ℕ → Shape → Cut → Type 0
 IsCut nodes tree cut.Journal = ⊥
 IsCut nodes tree cut.Budget = (node_count tree ≡ nodes) × (0 < open_count tree)
-IsCut nodes tree cut.Memory = Unit {0}
+IsCut nodes tree cut.Memory = node_count tree ≡ nodes → open_count tree ≡ 0
 
 -- the best plan, if any, is legal and costs what is stated, and the tree is a partial one at that value
 pub record IsUnproved (units : List SyncUnit) (n nodes : ℕ) (best : Option Best) (order : List ℕ) (tree : Shape) (why : Cut) : Type 0 where
   pub order_is : IsOrder (length units) order
   pub best_is : IsBestPlan (loads_of units) n best
-  pub tree_is : IsPartialTree (loads_of units) n (value_of best) tree (no_places (loads_of units)) order
+  pub tree_is : IsPartialTree (line_by slots_alone (loads_of units) n) (value_of best) tree (no_places (loads_of units)) order
   pub cut_is : IsCut nodes tree why
 
 -- what an outcome says of these units, where so many nodes are allowed

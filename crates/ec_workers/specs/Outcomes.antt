@@ -6,6 +6,7 @@ use Rattle.ec_units.specs.Load.{loads_of}
 use Rattle.ec_loads.specs.Cost.{plan_items, IsBusiest}
 use Rattle.ec_loads.specs.Legal.{IsLegal}
 use Rattle.ec_loads.specs.Held.{no_places}
+use Rattle.ec_loads.specs.Line.{slots_alone, line_by}
 use Rattle.ec_loads.specs.Search.{BoundsAll, HasNoPlan, IsTree, HasShortTicks}
 use Rattle.ec_symmetry.specs.Orders.{IsOrder}
 use Rattle.ec_cert.specs.declared.cert.Best.{Best}
@@ -28,7 +29,7 @@ pub record IsFound (us : List SyncUnit) (n : ℕ) (order : List ℕ) (best : Opt
   pub order_is : IsOrder (length us) order
   pub best_is : IsBestPlan (loads_of us) n best
   pub short : HasShortTicks tree
-  pub tree_is : IsTree (loads_of us) n (value_of best) tree (no_places (loads_of us)) order
+  pub tree_is : IsTree (line_by slots_alone (loads_of us) n) (value_of best) tree (no_places (loads_of us)) order
 
 -- a certificate of the units that has a text, and to which the checker says yes with this verdict, or that memory ran out
 pub record Shows (units : List SyncUnit) (n : ℕ) (c : CertView) (v : Verdict) : Type 0 where

@@ -2,6 +2,7 @@
 
 ghost use Rattle.std.specs.Prelude.{◌≡◌, ℕ, ◌≤◌, length};
 ghost use Rattle.ec_units.specs.Load.{loads_of};
+ghost use Rattle.ec_loads.specs.Line.{slots_alone, line_by};
 ghost use Rattle.ec_symmetry.specs.Orders.{IsOrder, IsReachedPrefix};
 ghost use Rattle.ec_workers.specs.Books.{IsBookOf};
 
@@ -27,7 +28,7 @@ fn worked_off<R: Wait, G: Gate>(
 ) -> bool
     requires order { IsOrder (length units.now.units) order.now }
     requires book { IsBookOf units.now.units units.now.slots order.now book.old }
-    requires reached { IsReachedPrefix (loads_of units.now.units) units.now.slots order.now took.prefix }
+    requires reached { IsReachedPrefix (line_by slots_alone (loads_of units.now.units) units.now.slots) order.now took.prefix }
     requires some { 1 ≤ took.grant }
     ensures book { IsBookOf units.now.units units.now.slots order.now book.new }
 {

@@ -2,13 +2,14 @@
 
 ghost use Rattle.std.specs.Prelude.{◌≡◌, ◌≢◌, ℕ, ◌≤◌, IfOk, IfErr, List, length};
 ghost use Rattle.ec_units.specs.declared.unit.Unit.{Unit as SyncUnit};
+ghost use Rattle.ec_loads.specs.Search.{open_count};
 ghost use Rattle.ec_symmetry.specs.Orders.{IsOrder};
 ghost use Rattle.ec_cert.specs.Shapes.{shape_of};
 ghost use Rattle.ec_checker.specs.Certified.{lines_of as lines_spec};
 ghost use Rattle.ec_workers.specs.Answers.{IsOutcome};
 ghost use Rattle.ec_workers.specs.Books.{IsSameSearch};
 ghost use Rattle.ec_workers.specs.Outcomes.{IsFound};
-ghost use Rattle.ec_workers.specs.declared.outcome.Cut.TheVariants.{Budget, Journal};
+ghost use Rattle.ec_workers.specs.declared.outcome.Cut.TheVariants.{Budget, Journal, Memory};
 ghost use Rattle.ec_workers.specs.declared.outcome.SolveFault.TheVariants.{OutOfMemory};
 
 use crate::alone::work;
@@ -39,6 +40,7 @@ fn offered_greedy(alloc: Global, units: &Units, book: &mut Book) -> bool
 /// Why a search that left a leaf open ended.
 fn cut_of(spent: u64, nodes: u32) -> Cut
     ensures budget { result ≡ Budget → spent ≡ nodes }
+    ensures memory { result ≡ Memory → spent ≢ nodes }
     ensures agrees { result ≢ Journal }
 {
     if spent == u64::from(nodes) {
@@ -59,6 +61,7 @@ fn proved(
 ) -> Outcome
     requires lines { lines ≡ lines_spec units.now.units }
     requires found { IsFound units.now.units units.now.slots order best (shape_of tree) }
+    requires closed { open_count (shape_of tree) ≡ 0 }
     ensures { (nodes : ℕ) → IsOutcome units.now.units units.now.slots nodes result }
 {
     faults_refute();
@@ -88,7 +91,7 @@ fn proved(
 
 /// What comes of a search without its book.
 fn nothing(order: Order) -> Outcome
-    ensures { (units : List SyncUnit) (n nodes : ℕ) → IsOrder (length units) order → IsOutcome units n nodes result }
+    ensures { (units : List SyncUnit) (n nodes : ℕ) → 1 ≤ nodes → IsOrder (length units) order → IsOutcome units n nodes result }
 {
     Outcome::Unproved {
         best: None,

@@ -2,10 +2,13 @@
 
 ghost use Rattle.std.specs.Prelude.{◌≡◌, ℕ, ◌<◌, ◌≤◌, ◌↔◌, IsTrue, length, drop};
 ghost use Rattle.ec_units.specs.Load.{loads_of};
+ghost use Rattle.ec_loads.specs.Line.{slots_alone, line_by};
 ghost use Rattle.ec_loads.specs.Search.{IsPartialTree, node_count};
 ghost use Rattle.ec_symmetry.specs.Orders.{IsOrder, IsReachedPrefix, prefix_of};
 ghost use Rattle.ec_cert.specs.Shapes.{shape_of};
 ghost use Rattle.ec_workers.specs.Books.{IsBookOf, IsSameSearch};
+ghost use Rattle.ec_workers.specs.Turns.{IsLowered, FindsLower};
+ghost use Rattle.ec_workers.specs.declared.turn.Turn.TheVariants.{Stopped};
 
 use crate::gate::Gate;
 use crate::watch::Watch;
@@ -52,9 +55,21 @@ pub(crate) fn offer(book: &mut Book, kept: Option<Plan>) -> bool
     }
 }
 
+/// Whether there is a value and it is below another; each is below none.
+fn is_lowered(value: Option<u64>, was: Option<u64>) -> bool
+    ensures { IsTrue result ↔ IsLowered value was }
+{
+    match (value, was) {
+        (None, _) => false,
+        (Some(_), None) => true,
+        (Some(value), Some(was)) => value < was,
+    }
+}
+
 /// Gives a piece back; the worker stops.
 fn given_back(book: &mut Book, piece: u64) -> Turn
-    ensures { IsSameSearch book.old book.new }
+    ensures same { IsSameSearch book.old book.new }
+    ensures stops { result ≡ Stopped }
 {
     match book.back(ALONE, piece) {
         Ok(()) => Turn::Stopped,
@@ -62,21 +77,24 @@ fn given_back(book: &mut Book, piece: u64) -> Turn
     }
 }
 
-/// Reports a subtree of the piece; it stops where memory was refused.
-fn reported(book: &mut Book, took: &Took, sub: Subtree, stopped: bool) -> Turn
-    requires tree { IsPartialTree book.old.loads book.old.slots sub.threshold (shape_of sub.tree) (prefix_of book.old.loads book.old.order took.now.prefix) (drop (length took.now.prefix) book.old.order) }
+/// Reports a subtree of the piece, which was explored at a value. It is to be explored again where the book's value
+/// is above the subtree's and below that one; where anything else is refused the worker stops.
+fn reported(book: &mut Book, took: &Took, value: Option<u64>, sub: Subtree, stopped: bool) -> Turn
+    requires tree { IsPartialTree (line_by slots_alone book.old.loads book.old.slots) sub.threshold (shape_of sub.tree) (prefix_of book.old.loads book.old.order took.now.prefix) (drop (length took.now.prefix) book.old.order) }
     requires some { 0 < node_count (shape_of sub.tree) }
-    ensures { IsSameSearch book.old book.new }
+    ensures same { IsSameSearch book.old book.new }
+    ensures again { FindsLower value book.new result }
 {
     match book.report(ALONE, took.piece, took.prefix.as_slice(), sub) {
         Ok(()) if stopped => Turn::Stopped,
         Ok(()) => Turn::Reported,
-        Err((BookFault::AheadOfBook(value), _)) => Turn::Again(value),
+        Err((BookFault::AheadOfBook(now), _)) if is_lowered(now, value) => Turn::Again(now),
         Err(_) => given_back(book, took.piece),
     }
 }
 
-/// Explores a piece at a value, offers the plan that was found, and reports the subtree.
+/// Explores a piece at a value, offers the plan that was found, and reports the subtree. Where the piece is to be
+/// explored again, the book's value is below that one.
 pub(crate) fn take_turn<G: Gate>(
     alloc: Global,
     units: &Units,
@@ -88,9 +106,10 @@ pub(crate) fn take_turn<G: Gate>(
 ) -> Turn
     requires order { IsOrder (length units.now.units) order.now }
     requires book { IsBookOf units.now.units units.now.slots order.now book.old }
-    requires reached { IsReachedPrefix (loads_of units.now.units) units.now.slots order.now took.now.prefix }
+    requires reached { IsReachedPrefix (line_by slots_alone (loads_of units.now.units) units.now.slots) order.now took.now.prefix }
     requires some { 1 ≤ took.now.grant }
     ensures book { IsBookOf units.now.units units.now.slots order.now book.new }
+    ensures again { FindsLower value book.new result }
 {
     let mut watch = Watch {
         alloc,
@@ -107,7 +126,7 @@ pub(crate) fn take_turn<G: Gate>(
     let Watch { kept, stopped, .. } = watch;
     let offered = offer(book, kept);
     match explored {
-        Ok(sub) if offered && has_nodes(&sub.tree) => reported(book, took, sub, stopped),
+        Ok(sub) if offered && has_nodes(&sub.tree) => reported(book, took, value, sub, stopped),
         _ => given_back(book, took.piece),
     }
 }

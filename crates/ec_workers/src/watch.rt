@@ -11,8 +11,8 @@ use ec_loads::{Places, Plan};
 use ec_units::Units;
 use std::alloc::{AllocError, Global};
 
-/// What a worker watches while it explores a piece: the value that came with the piece, in wire bytes, and the last
-/// plan that it was told.
+/// What a worker watches while it explores a piece: the value, in wire bytes, that of the piece at first and then that
+/// of the last plan that it was told, and that plan.
 #[derive(Drop)]
 pub(crate) struct Watch<'a, G: Gate> {
     pub alloc: Global,
@@ -40,6 +40,8 @@ impl<'a, G: Gate> Guide for Watch<'a, G> {
 
     ghost halted = { λ s. s.stopped };
 
+    ghost known = { λ s. s.value };
+
     fn bound(&mut self) -> Option<u64> {
         self.gate.before(self.worker, self.piece);
         self.value
@@ -49,6 +51,7 @@ impl<'a, G: Gate> Guide for Watch<'a, G> {
         match copy_of(self.alloc, plan) {
             Ok(copy) => {
                 self.kept = Some(copy);
+                self.value = Some(cost);
                 self.stopped = false;
                 Some(cost)
             }

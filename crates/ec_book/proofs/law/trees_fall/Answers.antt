@@ -2,4 +2,4 @@ use Rattle.ec_book.proofs.TreeLemmas.{tree-lower}
 use Rattle.ec_book.proofs.law.trees_fall.Goals as goal
 
 pub returns : goal.returns
-returns c = λ loads n v w s ps order low h. (tree-lower (λ _ _. Unit {0}) loads n v w low s ps order h.0, h.1)
+returns c = λ line v w s ps order low h. (tree-lower (λ _ _. Unit {0}) line v w low s ps order h.0, h.1)

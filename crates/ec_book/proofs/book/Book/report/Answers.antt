@@ -1,4 +1,5 @@
 use Rattle.std.proofs.Common.{◌≡◌, ◌++◌, ◌∷◌, [], arith, refl, ap, ◌∙◌, set, replicate, drop, ◌≤◌, length}
+use Rattle.ec_loads.specs.Line.{slots_alone, line_by}
 use Rattle.ec_loads.specs.Search.{node_count, IsPartialTree}
 use Rattle.ec_cert.specs.Shapes.{shape_of}
 use Rattle.ec_book.specs.declared.piece.Piece.TheVariants.{Free, Taken, Ended}
@@ -26,7 +27,7 @@ opened_by-requires-clause-long c =
     let inv = c.self.invariant in
     let welcome : IsWelcome b.pieces.items b.prefixes.items (value_of b.best) c.args.worker c.args.piece c.args.prefix.now c.args.sub.threshold (node_count (shape_of c.args.sub.tree)) c.in-Ok.found.0 =
     rw (c.as_slice.ensures.value, c.as_slice-2.ensures.value, c.value_in-value.ensures) at c.in-Ok.ensures.ok in
-    let short = reached-short b.loads.loads b.loads.slots b.order.items c.args.prefix.now (reached_at b.loads.loads b.loads.slots b.order.items b.prefixes.items c.args.piece c.args.prefix.now welcome.place inv.grown.reached) in
+    let short = reached-short (line_by slots_alone b.loads.loads b.loads.slots) b.order.items c.args.prefix.now (reached_at (line_by slots_alone b.loads.loads b.loads.slots) b.order.items b.prefixes.items c.args.piece c.args.prefix.now welcome.place inv.grown.reached) in
     rw c.as_slice-3.ensures.value short
 
 pub returns-in_default-clause-err : goal.returns-in_default-clause-err
@@ -118,8 +119,8 @@ invariant_of-self-2 c =
     let count = c.len-count.result in
     let first = c.len-first.result in
     let shape = shape_of c.args.sub.tree in
-    let opened = open_places loads slots order shape c.args.prefix.now in
-    let partial : IsPartialTree loads slots c.args.sub.threshold shape (prefix_of loads order c.args.prefix.now) (drop (length c.args.prefix.now) order) = rw (← c.self.view_is) at c.requires.tree in
+    let opened = open_places (line_by slots_alone loads slots) order shape c.args.prefix.now in
+    let partial : IsPartialTree (line_by slots_alone loads slots) c.args.sub.threshold shape (prefix_of loads order c.args.prefix.now) (drop (length c.args.prefix.now) order) = rw (← c.self.view_is) at c.requires.tree in
     let first_is : first ≡ length b.pieces.items = omega (arith, c.len-first.ensures, b.pieces.ok.0) in
     let opened_is : c.in-Ok-opened_by.opened.items ≡ opened = rw c.as_slice-3.ensures.value at c.in-Ok-opened_by.ensures in
     let long = ap length opened_is in
@@ -137,6 +138,13 @@ invariant_of-self-2 c =
           counted-report b.nodes b.pieces.items (value_of b.best) b.spent b.held b.taken b.low b.log.items _ inv.counted c.args.worker p g k first count
           c.add_free.new.pieces.items c.push_reserved.new.self.items welcome.held some few first_is pieces_are c.push_reserved.ensures.items;
       grown =
-          grown-report loads slots order b.pieces.items b.prefixes.items b.reports.items (value_of b.best) b.spent inv.grown p c.args.worker g k count c.args.prefix.now c.args.sub.threshold c.args.sub.tree
+          grown-report (line_by slots_alone loads slots) order b.pieces.items b.prefixes.items b.reports.items (value_of b.best) b.spent inv.grown p c.args.worker g k count c.args.prefix.now c.args.sub.threshold c.args.sub.tree
           c.add_free.new.pieces.items c.append.new.self.items c.push_reserved-2.new.self.items welcome.held welcome.place welcome.ahead partial c.in-Ok.ensures.nodes count_is pieces_are prefixes_are reports_are;
     })
+
+pub returns-clause-welcome : goal.returns-clause-welcome
+returns-clause-welcome c =
+    let b = c.self.inside in
+    let welcome : IsWelcome b.pieces.items b.prefixes.items (value_of b.best) c.args.worker c.args.piece c.args.prefix.now c.args.sub.threshold (node_count (shape_of c.args.sub.tree)) c.in-Ok.found.0 =
+    rw (c.as_slice.ensures.value, c.as_slice-2.ensures.value, c.value_in-value.ensures) at c.in-Ok.ensures.ok in
+    rw (← c.self.view_is) (c.in-Ok.found.0, welcome)

@@ -1,5 +1,6 @@
 use Rattle.std.proofs.Common.{◌≡◌, arith, refl, ap, ◌∙◌, sym, vec_capacity, length, set, slice_get, Some}
 use Rattle.std.proofs.lemmas.Option.{slice_get_read}
+use Rattle.ec_loads.specs.Line.{slots_alone, line_by}
 use Rattle.ec_book.specs.declared.piece.Piece.TheVariants.{Free, Taken}
 use Rattle.ec_cert.specs.BestPlan.{value_of}
 use Rattle.ec_book.specs.Views.{book_view}
@@ -20,9 +21,9 @@ invariant_of-self-2 c =
       counted =
           counted-took b.nodes b.pieces.items (value_of b.best) b.spent b.held b.taken b.low b.log.items _ inv.counted c.args.worker p g
           (vec_capacity c.push_reserved.new.self) c.push_reserved.new.self.items at.0 at.1
-          (omega (arith, c.min-grant.ensures, c.from.ensures, c.if-left-eq0.false, c.requires)) (omega (arith, c.min-grant.ensures)) log_is
+          (omega (arith, c.min-grant.ensures, c.from.ensures, c.if-left-gt0.true, c.requires)) (omega (arith, c.min-grant.ensures)) log_is
           (omega (arith, c.in-Ok-reserve.ensures.ok, c.in-Some-checked_add.ensures.1, c.push_reserved.ensures.capacity, c.reserve.ensures.len, b.log.ok.0));
-      grown = grown-set b.loads.loads b.loads.slots b.order.items b.pieces.items b.prefixes.items b.reports.items (value_of b.best) b.spent inv.grown p Free (Taken c.args.worker g) at.0 refl;
+      grown = grown-set (line_by slots_alone b.loads.loads b.loads.slots) b.order.items b.pieces.items b.prefixes.items b.reports.items (value_of b.best) b.spent inv.grown p Free (Taken c.args.worker g) at.0 refl;
     })
 
 pub returns-clause-ok : goal.returns-clause-ok
@@ -40,9 +41,9 @@ returns-clause-ok c =
     rw (← c.self.view_is) (
       at,
       place,
-      reached_at b.loads.loads b.loads.slots b.order.items b.prefixes.items p c.new.result place inv.grown.reached,
+      reached_at (line_by slots_alone b.loads.loads b.loads.slots) b.order.items b.prefixes.items p c.new.result place inv.grown.reached,
       c.value_in.ensures,
       omega (arith, c.min-grant.ensures, c.from.ensures, inv.counted.held_is),
-      omega (arith, c.min-grant.ensures, c.from.ensures, c.if-left-eq0.false, c.requires),
+      omega (arith, c.min-grant.ensures, c.from.ensures, c.if-left-gt0.true, c.requires),
       ap (λ w. book_view b.loads.loads b.loads.slots b.order.items b.nodes (set b.pieces.items p (Taken c.args.worker g)) b.prefixes.items b.best b.spent w) log_is,
     )

@@ -1,0 +1,22 @@
+-- A line of units, and by which rules its trees are made.
+use Rattle.std.specs.Prelude.{ℕ, List}
+use Rattle.ec_units.specs.declared.unit.Load.{Load}
+use Rattle.ec_loads.specs.Held.{Held}
+
+-- by which rules the children of a prefix are made: slots by their first use, and each phase
+pub data Rules : Type 0 where
+  slots_alone : Rules
+
+-- the units in file order, the slot count, and the rules
+pub record Line : Type 0 where
+  pub loads : List Load
+  pub slots : ℕ
+  pub rules : Rules
+
+-- these units and slots, by the rules
+abbrev pub line_by : Rules → List Load → ℕ → Line
+line_by rules loads n = record { loads = loads; slots = n; rules = rules }
+
+-- the line of what the loads hold, by the rules
+abbrev pub line_of : Rules → Held → Line
+line_of rules held = line_by rules held.loads held.slots
