@@ -39,10 +39,9 @@ pub fn ns_of(bytes: u64) -> u64
     BYTE_NS * bytes
 }
 
-/// Whether at most 1,000,000 bytes fit into a tick of `tick_ns` nanoseconds.
+/// Whether so many bytes fit into a tick of `tick_ns` nanoseconds.
 pub fn fits(bytes: u64, tick_ns: u32) -> bool
-    requires { bytes ≤ 1000000 }
     ensures { IsTrue result ↔ (80 * bytes ≤ tick_ns) }
 {
-    ns_of(bytes) <= u64::from(tick_ns)
+    bytes <= u64::from(tick_ns) / BYTE_NS
 }

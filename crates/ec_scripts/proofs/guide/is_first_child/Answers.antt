@@ -10,7 +10,7 @@ use Rattle.ec_loads.specs.Line.{slots_alone, line_by}
 use Rattle.ec_loads.specs.Search.{nobody}
 use Rattle.ec_symmetry.specs.Orders.{IsOrder, IsReachedPrefix}
 use Rattle.ec_symmetry.proofs.InLemmas.{In-children}
-use Rattle.ec_trials.proofs.tests.guide.is_first_child.Goals as goal
+use Rattle.ec_scripts.proofs.guide.is_first_child.Goals as goal
 
 -- a first unit at a place within its ranges is a child
 first_child : (us : List SyncUnit) (n : ℕ) (order later : List ℕ) (k u : ℕ) (unit : SyncUnit) (p : Place) → IsOrder (length us) order → order ≡ k ∷ later → u ≡ k → unit ≡ get_or us u unit → p.phase < unit.period → p.slot ≡ 0 → 1 ≤ n → IsReachedPrefix (line_by slots_alone (loads_of us) n) order (p ∷ [])

@@ -1,0 +1,186 @@
+//! Certificates as texts, in scripts on one line with a bar for each line feed.
+
+ghost use Rattle.std.specs.Prelude.{Some};
+
+use crate::call::Call;
+use ec_cert::{Cert, read_cert, well_formed, write_cert};
+use ec_checker::check;
+use ec_units::Units;
+use ec_wire::Io;
+use std::alloc::{AllocError, Global};
+use std::io;
+use std::io::{ErrorKind, Write};
+
+/// Two units of 200 bytes, one every second and one every third tick: 19 lines, 128 bytes.
+const EXAMPLE: &str =
+    "ecplan 1\nslots 1\nunit a 200 2\nunit b 200 3\norder 0 1\nvalue 464\nplace 0 0\nplace 0 0\ntree\nS 2\nS 3\nT 0\nT 4\nT 2\nS 3\nT 3\nT 1\nT 5\nend\n";
+
+/// A writer that takes at most three bytes at a time, and fails where it has no room.
+#[derive(Drop)]
+struct Slow {
+    held: Vec<u8>,
+    room: usize,
+}
+
+impl Write for Slow {
+    ghost contents = { λ w. Some w.held.items };
+
+    fn write(&mut self, buf: &[u8]) -> io::Result<usize> {
+        if self.room == 0 {
+            return Err(io::Error::from(ErrorKind::BrokenPipe));
+        }
+        let count = buf.len().min(3).min(self.room);
+        self.room -= count;
+        self.held.extend_from_slice(&buf[..count])?;
+        Ok(count)
+    }
+
+    fn flush(&mut self) -> io::Result<()> {
+        Ok(())
+    }
+}
+
+/// A text with line feeds for its bars.
+fn unbarred(alloc: Global, text: &str) -> Result<Vec<u8>, AllocError> {
+    let mut bytes = Vec::new(alloc);
+    for byte in text.as_bytes() {
+        bytes.push(if *byte == b'|' { b'\n' } else { *byte })?;
+    }
+    Ok(bytes)
+}
+
+/// A text with bars for its line feeds.
+fn barred(alloc: Global, text: &[u8]) -> Result<String, AllocError> {
+    let mut bytes = Vec::new(alloc);
+    for byte in text {
+        bytes.push(if *byte == b'\n' { b'|' } else { *byte })?;
+    }
+    match String::from_utf8(bytes) {
+        Ok(text) => Ok(text),
+        Err(_) => String::from_str(alloc, "no text"),
+    }
+}
+
+/// What a writer with room for so many bytes gets of a certificate.
+pub(crate) fn written(alloc: Global, cert: &Cert, room: usize) -> Result<String, AllocError> {
+    if !well_formed(cert) {
+        return String::from_str(alloc, "not well formed");
+    }
+    let mut sheet = Slow {
+        held: Vec::new(alloc),
+        room,
+    };
+    let mut io = Io::new(&mut sheet);
+    let answer = write_cert(cert, &mut io);
+    drop(io);
+    let mut text = barred(alloc, sheet.held.as_slice())?;
+    if answer.is_err() {
+        text.push_str(" failed")?;
+    }
+    Ok(text)
+}
+
+/// The example, with the lines from `first` to `last` replaced by `new`.
+fn edited(alloc: Global, first: usize, last: usize, new: &str) -> Result<Vec<u8>, AllocError> {
+    let mut text = String::new(alloc);
+    for (i, line) in EXAMPLE.lines().enumerate() {
+        if i == first.saturating_sub(1) {
+            text.push_str(new)?;
+        }
+        if i < first.saturating_sub(1) || last <= i {
+            text.push_str(line)?;
+            text.push_str("|")?;
+        }
+    }
+    unbarred(alloc, text.as_str())
+}
+
+/// What reading such a text answers: that it is right, or the fault.
+fn reading(alloc: Global, text: &[u8]) -> Result<String, AllocError> {
+    match read_cert(alloc, text) {
+        Ok(_) => String::from_str(alloc, "right"),
+        Err(fault) => format!(in alloc; "{fault:?}"),
+    }
+}
+
+/// What writing such a text's certificate again gives, to a writer with room for so many bytes.
+fn rewritten(alloc: Global, text: &[u8], room: usize) -> Result<String, AllocError> {
+    match read_cert(alloc, text) {
+        Ok(cert) => written(alloc, &cert, room),
+        Err(fault) => format!(in alloc; "{fault:?}"),
+    }
+}
+
+/// What the checker answers of such a text for these units.
+fn checked(alloc: Global, units: &Units, text: &[u8]) -> Result<String, AllocError> {
+    match read_cert(alloc, text) {
+        Ok(cert) => format!(in alloc; "{:?}", check(alloc, units, &cert)),
+        Err(fault) => format!(in alloc; "{fault:?}"),
+    }
+}
+
+/// A text that a call makes: the first bytes of the example, the example with a tab for a byte, or twice; a
+/// certificate of so many splits below one another, of so many units, or so many spaces.
+fn made(alloc: Global, call: &Call<'_>) -> Result<Vec<u8>, AllocError> {
+    let mut bytes = Vec::new(alloc);
+    let count = call.index(1).min(70_000_000);
+    match call.name() {
+        b"front" => bytes.extend_from_slice(&EXAMPLE.as_bytes()[..count.min(EXAMPLE.len())])?,
+        b"tab" => {
+            bytes.extend_from_slice(EXAMPLE.as_bytes())?;
+            if count < bytes.len() {
+                bytes[count] = 9;
+            }
+        }
+        b"twice" => {
+            bytes.extend_from_slice(EXAMPLE.as_bytes())?;
+            bytes.extend_from_slice(EXAMPLE.as_bytes())?;
+        }
+        _ => return repeated(alloc, call, count),
+    }
+    Ok(bytes)
+}
+
+/// A text with so many equal lines.
+fn repeated(alloc: Global, call: &Call<'_>, count: usize) -> Result<Vec<u8>, AllocError> {
+    let (head, line, end) = match call.name() {
+        b"splits" => (
+            "ecplan 1\nslots 1\nunit a 4 1\norder 0\nvalue none\ntree\n",
+            "S 1\n",
+            "F 0 0\nend\n",
+        ),
+        b"units" => ("ecplan 1\nslots 8\n", "unit a 1486 60\n", ""),
+        _ => ("", " ", ""),
+    };
+    let mut bytes = Vec::new(alloc);
+    bytes.extend_from_slice(head.as_bytes())?;
+    for _ in 0..count {
+        bytes.extend_from_slice(line.as_bytes())?;
+    }
+    bytes.extend_from_slice(end.as_bytes())?;
+    Ok(bytes)
+}
+
+/// What a call about certificates answers: `read TEXT`, `write ROOM TEXT`, `check TEXT`; `lines FIRST LAST TEXT` and
+/// `judge FIRST LAST TEXT` read and check the example with these lines replaced, `example ROOM` writes it; any other
+/// name reads a text that it makes.
+pub(crate) fn answer(alloc: Global, units: &Units, call: &Call<'_>) -> Result<String, AllocError> {
+    match call.name() {
+        b"read" => reading(alloc, unbarred(alloc, call.after(1))?.as_slice()),
+        b"write" => {
+            let text = unbarred(alloc, call.after(2))?;
+            rewritten(alloc, text.as_slice(), call.index(1))
+        }
+        b"example" => rewritten(alloc, EXAMPLE.as_bytes(), call.index(1)),
+        b"check" => checked(alloc, units, unbarred(alloc, call.after(1))?.as_slice()),
+        b"lines" => {
+            let text = edited(alloc, call.index(1), call.index(2), call.after(3))?;
+            reading(alloc, text.as_slice())
+        }
+        b"judge" => {
+            let text = edited(alloc, call.index(1), call.index(2), call.after(3))?;
+            checked(alloc, units, text.as_slice())
+        }
+        _ => reading(alloc, made(alloc, call)?.as_slice()),
+    }
+}
