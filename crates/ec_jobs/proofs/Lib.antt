@@ -1,0 +1,6 @@
+pub mod OneCheck
+pub mod OneIllegal
+pub mod OneOutput
+pub mod RunLemmas
+pub mod SoundLemmas
+pub mod TellLemmas
