@@ -20,7 +20,7 @@ mod writing;
 
 pub use cert::{Best, Cert, Subtree};
 pub use fault::CertFault;
-pub use law::one_text_each;
+pub use law::{faults_stay, fronts_are_early, one_text_each};
 pub use lists::{UnitLine, UnitLines};
 pub use order::Order;
 pub use ranges::well_formed;

@@ -4,6 +4,7 @@ pub mod FaultText
 pub mod Fits
 pub mod Load
 pub mod Names
+pub mod Rank
 pub mod Reading
 pub mod Together
 pub mod UnitText

@@ -4,6 +4,7 @@
 mod build;
 mod fault;
 mod judge;
+mod law;
 mod name;
 mod read;
 mod rule;
@@ -14,6 +15,7 @@ mod units;
 mod walk;
 
 pub use fault::{Key, Spot, UnitFault};
+pub use law::faults_in_order;
 pub use name::Name;
 pub use read::read_units;
 pub use slave::{Place, Slave, Slaves};
