@@ -2,26 +2,12 @@
 //! units come on standard input, and the text goes to standard output.
 #![tactic(auto)]
 
-mod answer;
-mod check;
-mod cost;
-mod doing;
-mod input;
-mod job;
-mod late;
-mod law;
-mod plain;
-mod plan;
-mod refusal;
-mod run;
-mod words;
-
-use doing::do_line;
+use ec_jobs::do_line;
 use ec_wire::Io;
+use ec_words::{LineFault, read_words};
 use std::io::ErrorKind;
 use std::process::ExitCode;
 use std::{env, fs, io};
-use words::{LineFault, read_words};
 
 /// The words after the program's name.
 fn words_of(rt: &HostRuntime) -> io::Result<Vec<String>> {
@@ -80,6 +66,3 @@ fn main(rt: HostRuntime) -> ExitCode {
     let status = do_line(&rt, &rt, rt.alloc(), &line, &mut units, &mut text);
     ExitCode::from(status.code)
 }
-
-#[cfg(test)]
-mod tests;

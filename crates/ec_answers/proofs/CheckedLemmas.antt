@@ -1,0 +1,55 @@
+-- From what the checker answers to what is written.
+use Rattle.std.proofs.Common.{◌≡◌, ◌≢◌, ℕ, ◌<◌, List, length, Option, Some, None, Result, Ok, Err, refl, ap, ◌∙◌, inl, inr}
+use Rattle.std.specs.Prelude.{◌⊎◌, IfSome}
+use Rattle.std.proofs.lemmas.Bool.{lt-ltb}
+use Rattle.ec_units.specs.declared.units.Units.{Units}
+use Rattle.ec_units.specs.Views.{units_view}
+use Rattle.ec_cert.specs.declared.fault.CertFault.TheVariants as cert
+use Rattle.ec_cert.specs.Reading.{reading as cert_reading}
+use Rattle.ec_cert.specs.Shapes.{CertView}
+use Rattle.ec_checker.specs.declared.fault.CheckFault.{CheckFault}
+use Rattle.ec_checker.specs.declared.fault.CheckFault.TheVariants as check
+use Rattle.ec_checker.specs.declared.fault.Verdict.{Verdict}
+use Rattle.ec_checker.specs.Certified.{IsCertified, IsFaultOf, verdict_of}
+use Rattle.ec_lines.specs.declared.answer.Answer.{Answer}
+use Rattle.ec_lines.specs.declared.refusal.Refusal.{Refusal}
+use Rattle.ec_lines.specs.declared.refusal.Refusal.TheVariants as refusal
+use Rattle.ec_lines.specs.declared.job.Job.TheVariants as job
+use Rattle.ec_answers.specs.Input.{AnswersUnits, ReadsTooMany}
+use Rattle.ec_lines.specs.Output.{IsCheckedOutput, IsOutput, Answers, shown, refused, verdict_output}
+use Rattle.ec_lines.specs.Refusals.{out_of_memory, IsMemory}
+
+-- a yes
+pub checked_yes : (us : Units) (c : CertView) (a : Answer) (v : Verdict) → IsCertified us.units us.slots c → v ≡ verdict_of c.best → shown a ≡ verdict_output v → IsCheckedOutput (units_view us) c (shown a)
+checked_yes us c a v is said told = (us, refl, inl (is, told ∙ ap verdict_output said))
+
+memory_or : (f : CheckFault) → (f ≡ check.OutOfMemory) ⊎ (f ≢ check.OutOfMemory)
+memory_or check.OutOfMemory = inl refl
+memory_or check.OtherUnits = inr (λ e. absurd cc)
+memory_or check.Order = inr (λ e. absurd cc)
+memory_or (check.Plan i) = inr (λ e. absurd cc)
+memory_or (check.Value s f) = inr (λ e. absurd cc)
+memory_or (check.Children k w g) = inr (λ e. absurd cc)
+memory_or (check.Leaf k) = inr (λ e. absurd cc)
+memory_or (check.Depth k) = inr (λ e. absurd cc)
+
+-- a no, which may be want of memory
+pub checked_no : (us : Units) (c : CertView) (f : CheckFault) → IsFaultOf us.units us.slots c f → IsMemory job.Check (refusal.Check f) ⊎ IsCheckedOutput (units_view us) c (refused (refusal.Check f))
+checked_no us c f h = elim (memory_or f) [
+  | inl e ↦ inl (inr (inr (ap (λ (g : CheckFault). refusal.Check g) e)))
+  | inr other ↦ inr (us, refl, inr (f, other, h, refl))
+]
+
+-- a text with too many bytes is no certificate
+pub too_long : (text : List ℕ) → 67108864 < length text → cert_reading text ≡ Err cert.TooLarge
+unfolding cert_reading
+too_long text h = rw (lt-ltb 67108864 (length text) h) refl
+
+-- a certificate that has too many bytes, or want of memory
+pub unread_answer : (left text : Option (List ℕ)) (us : Units) (r : Refusal) (answer : Result Answer Refusal) → answer ≡ Err r → IfSome left (AnswersUnits (Ok us)) → ((r ≡ out_of_memory) ⊎ ((r ≡ refusal.Cert cert.TooLarge) × ReadsTooMany text 67108864))
+    → IfSome left (λ bytes. IfSome text (λ cert_bytes. Answers job.Check answer (IsOutput job.Check bytes (Some cert_bytes))))
+unread_answer None text us r answer is read why = tt
+unread_answer (Some bytes) None us r answer is read why = tt
+unread_answer (Some bytes) (Some cert_bytes) us r answer is read (inl memory) = rw is (inl (inl memory))
+unread_answer (Some bytes) (Some cert_bytes) us r answer is read (inr large) =
+    rw is (inr (inl (read.0, rw (read.1, too_long cert_bytes large.1) (ap refused large.0))))

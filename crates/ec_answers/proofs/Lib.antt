@@ -1,0 +1,2 @@
+pub mod CheckedLemmas
+pub mod PlanLemmas

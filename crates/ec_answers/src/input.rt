@@ -1,0 +1,77 @@
+//! Reading an input whole, up to a limit.
+
+ghost use Rattle.std.specs.Prelude.{◌≡◌, ◌≢◌, ℕ, ◌+◌, ◌-◌, ◌<◌, ◌^◌, ◌≤◌, min, true, false, length, IfOk, IfErr, IfSome, IsErrOf, IsTrue, ◌↔◌, ◌⊎◌};
+ghost use Rattle.ec_wire.specs.Stream.{stream, has_failed, taken};
+ghost use Rattle.ec_answers.specs.Input.{ReadsAll, ReadsTooMany, ConsumesAtMost, AreUnits, AnswersUnits};
+ghost use Rattle.ec_lines.specs.Refusals.{IsReadFault, out_of_memory};
+ghost use Rattle.ec_cert.specs.declared.fault.CertFault.TheVariants.{TooLarge};
+ghost use Rattle.ec_lines.specs.declared.refusal.Refusal.TheVariants.{Cert};
+
+use ec_cert::{CertFault, MOST_BYTES};
+use ec_lines::Refusal;
+use ec_units::{Units, read_units};
+use ec_wire::{Io, IoFault};
+use std::alloc::Global;
+use std::io::Read;
+
+/// The most bytes of a unit text.
+const MOST_UNIT_BYTES: usize = 1_048_576;
+
+const CHUNK: usize = 4096;
+
+/// Reads all there is, if it has at most `limit` bytes. Of more, `limit + 1` bytes are read, and no more.
+pub(crate) fn read_all<R: Read>(
+    alloc: Global,
+    input: &mut Io<R>,
+    limit: usize,
+) -> Result<Vec<u8>, Refusal>
+    requires { limit < 2 ^ 32 }
+    ensures ok { IfOk result (λ v. ReadsAll (R.remaining (stream input.old)) limit v.items) }
+    ensures kinds { IfErr result IsReadFault }
+    ensures large { IsErrOf result Refusal.TooLarge → ReadsTooMany (R.remaining (stream input.old)) limit }
+    ensures read { IsErrOf result Refusal.Read → has_failed input.new ≡ true }
+    ensures failed { result ≢ Err Refusal.Read → has_failed input.new ≡ has_failed input.old }
+    ensures consumed { ConsumesAtMost (R.remaining (stream input.old)) (R.remaining (stream input.new)) (limit + 1) }
+    ensures taken { taken input.new ≤ taken input.old + (limit + 1) }
+{
+    let mut bytes = Vec::new(alloc);
+    let mut chunk = [0u8; CHUNK];
+    'fill: while bytes.len() <= limit {
+        let want = CHUNK.min(limit + 1 - bytes.len());
+        match input.read(&mut chunk[..want]) {
+            Ok(0) => return Ok(bytes),
+            Ok(count) => bytes.extend_from_slice(&chunk[..count])?,
+            Err(IoFault) => return Err(Refusal::Read),
+        }
+    }
+    Err(Refusal::TooLarge)
+}
+
+/// The units that the reader has. At most 1,048,577 bytes are read.
+pub(crate) fn units_of<R: Read>(alloc: Global, input: &mut Io<R>) -> Result<Units, Refusal>
+    requires { has_failed input.old ≡ false }
+    ensures told { has_failed input.new ≡ false → IfSome (R.remaining (stream input.old)) (AnswersUnits result) }
+    ensures valid { IfOk result (λ _. IfSome (R.remaining (stream input.old)) AreUnits) }
+    ensures read { has_failed input.new ≡ true → result ≡ Err Refusal.Read }
+    ensures consumed { ConsumesAtMost (R.remaining (stream input.old)) (R.remaining (stream input.new)) 1048577 }
+    ensures taken { taken input.new ≤ taken input.old + 1048577 }
+{
+    let bytes = read_all(alloc, input, MOST_UNIT_BYTES)?;
+    Ok(read_units(alloc, &bytes)?)
+}
+
+/// The text of the certificate that the reader has. Of one that is too long 67,108,865 bytes are read.
+pub(crate) fn cert_text<C: Read>(alloc: Global, input: &mut Io<C>) -> Result<Vec<u8>, Refusal>
+    requires { has_failed input.old ≡ false }
+    ensures ok { IfOk result (λ v. IfSome (C.remaining (stream input.old)) (λ all. v.items ≡ all)) }
+    ensures err { has_failed input.new ≡ false → IfErr result (λ r.
+        (r ≡ out_of_memory) ⊎ ((r ≡ Cert TooLarge) × ReadsTooMany (C.remaining (stream input.old)) 67108864)) }
+    ensures read { has_failed input.new ≡ true → result ≡ Err Refusal.Read }
+    ensures consumed { ConsumesAtMost (C.remaining (stream input.old)) (C.remaining (stream input.new)) 67108865 }
+    ensures taken { taken input.new ≤ taken input.old + 67108865 }
+{
+    match read_all(alloc, input, MOST_BYTES) {
+        Err(Refusal::TooLarge) => Err(Refusal::Cert(CertFault::TooLarge)),
+        read => read,
+    }
+}

@@ -1,0 +1,69 @@
+-- The bytes that are read have one output.
+use Rattle.std.proofs.Common.{◌≡◌, ℕ, ◌≤◌, List, Option, Some, None, Result, Ok, Err, sym, ap, ◌∙◌, inl, inr, arith}
+use Rattle.std.specs.Prelude.{MatchOption, MatchResult}
+use Rattle.ec_units.specs.declared.slave.Place.{Place}
+use Rattle.ec_units.specs.declared.fault.UnitFault.{UnitFault}
+use Rattle.ec_units.specs.Reading.{reading}
+use Rattle.ec_units.specs.Views.{UnitsView, view_loads}
+use Rattle.ec_loads.specs.declared.item.Item.{Item}
+use Rattle.ec_loads.specs.declared.plan.Illegal.{Illegal}
+use Rattle.ec_loads.specs.Cost.{tick_cost, IsFirstBusiest}
+use Rattle.ec_cert.specs.declared.fault.CertFault.{CertFault}
+use Rattle.ec_cert.specs.Reading.{reading as cert_reading}
+use Rattle.ec_cert.specs.Shapes.{CertView}
+use Rattle.ec_lines.specs.declared.refusal.Refusal.TheVariants as refusal
+use Rattle.ec_lines.specs.declared.job.Job.{Job}
+use Rattle.ec_lines.specs.declared.job.Job.TheVariants as job
+use Rattle.ec_lines.specs.Lines.{cost_lines}
+use Rattle.ec_lines.specs.Output.{Written, IsOutput, IsUnitsOutput, IsCheckedOutput, IsPlacedOutput, IsCostText, refused, first_unplaced, places_of}
+use Rattle.ec_jobs.proofs.OneCheck.{checked_once}
+use Rattle.ec_jobs.proofs.OneIllegal.{neither_less, illegal_once, legal_none}
+
+-- there is one first busiest tick
+top_once : (xs : List Item) (n b c t u : ℕ) → IsFirstBusiest xs n b t → IsFirstBusiest xs n c u → (b ≡ c) × (t ≡ u)
+top_once xs n b c t u p q =
+    let low : b ≤ c = omega (arith, p.reached, q.busiest.most t) in
+    let high : c ≤ b = omega (arith, q.reached, p.busiest.most u) in (
+      omega arith,
+      neither_less t u (λ less. omega (arith, q.first t less, p.reached)) (λ less. omega (arith, p.first u less, q.reached)),
+    )
+
+text_once : (xs : List Item) (n h ns : ℕ) (a b : List ℕ) → IsCostText xs n h ns a → IsCostText xs n h ns b → a ≡ b
+text_once xs n h ns a b p q =
+    let same = top_once xs n p.top q.top p.at q.at p.busiest q.busiest in
+    p.lines ∙ (λ i. cost_lines (tick_cost xs n) h (same.0 i) (same.1 i) ns) ∙ sym q.lines
+
+placed_once : (v : UnitsView) (ps : List Place) (a b : Written) → IsPlacedOutput v ps a → IsPlacedOutput v ps b → a ≡ b
+placed_once v ps a b (inl p) (inl q) =
+    p.2 ∙ ap (λ (f : Illegal). refused (refusal.Illegal f)) (illegal_once (view_loads v.units) v.slots ps p.0 q.0 p.1 q.1) ∙ sym q.2
+placed_once v ps a b (inl p) (inr q) = absurd (legal_none (view_loads v.units) v.slots ps p.0 q.0 p.1)
+placed_once v ps a b (inr p) (inl q) = absurd (legal_none (view_loads v.units) v.slots ps q.0 p.0 q.1)
+placed_once v ps a b (inr p) (inr q) =
+    let text : a.text ≡ b.text = text_once _ _ _ _ a.text b.text p.1 q.1 in
+    let code : a.code ≡ b.code = p.2 ∙ sym q.2 in
+    (λ i. record { text = text i; code = code i })
+
+option_once : (o : Option ℕ) (N : Written → Type 0) (S : ℕ → Written) → ((a b : Written) → N a → N b → a ≡ b) → (a b : Written) → MatchOption o (N a) (λ n. a ≡ S n) → MatchOption o (N b) (λ n. b ≡ S n) → a ≡ b
+option_once None N S once a b p q = once a b p q
+option_once (Some n) N S once a b p q = p ∙ sym q
+
+cert_once : (v : UnitsView) (r : Result CertView CertFault) (a b : Written) → MatchResult r (λ c. IsCheckedOutput v c a) (λ f. a ≡ refused (refusal.Cert f)) → MatchResult r (λ c. IsCheckedOutput v c b) (λ f. b ≡ refused (refusal.Cert f)) → a ≡ b
+cert_once v (Ok c) a b p q = checked_once v c a b p q
+cert_once v (Err f) a b p q = p ∙ sym q
+
+units_once : (j : Job) (cert : Option (List ℕ)) (v : UnitsView) (a b : Written) → IsUnitsOutput j cert v a → IsUnitsOutput j cert v b → a ≡ b
+units_once job.Cost cert v a b p q =
+    option_once (first_unplaced v.units) (IsPlacedOutput v (places_of v.units)) (λ n. refused (refusal.NoPlace n)) (placed_once v (places_of v.units)) a b p q
+units_once (job.Plan workers nodes) cert v a b p q = absurd p
+units_once job.Check None v a b p q = absurd p
+units_once job.Check (Some text) v a b p q = cert_once v (cert_reading text) a b p q
+
+result_once : (j : Job) (cert : Option (List ℕ)) (r : Result UnitsView UnitFault) (a b : Written) → MatchResult r (λ v. IsUnitsOutput j cert v a) (λ f. a ≡ refused (refusal.Unit f)) → MatchResult r (λ v. IsUnitsOutput j cert v b) (λ f. b ≡ refused (refusal.Unit f)) → a ≡ b
+result_once j cert (Ok v) a b p q = units_once j cert v a b p q
+result_once j cert (Err f) a b p q = p ∙ sym q
+
+pub output_once : (j : Job) (bytes : List ℕ) (cert : Option (List ℕ)) (a b : Written) → IsOutput j bytes cert a → IsOutput j bytes cert b → a ≡ b
+output_once j bytes cert a b (inl p) (inl q) = result_once j cert (reading bytes) a b p.1 q.1
+output_once j bytes cert a b (inl p) (inr q) = absurd (omega (arith, p.0, q.0))
+output_once j bytes cert a b (inr p) (inl q) = absurd (omega (arith, p.0, q.0))
+output_once j bytes cert a b (inr p) (inr q) = p.1 ∙ sym q.1

@@ -1,0 +1,7 @@
+use Rattle.ec_jobs.proofs.RunLemmas.{costs, tells_more}
+use Rattle.ec_jobs.proofs.job.run_cost.Goals as goal
+
+pub returns : goal.returns
+returns g c =
+    let a = c.cost_answer-answer.ensures in
+    tells_more (costs _ c.cost_answer-answer.result a.told a.consumed a.taken a.read) c.finish.ensures

@@ -1,0 +1,152 @@
+-- What a run does with the readers and writers that it is lent.
+use Rattle.std.specs.Prelude.{◌≡◌, ◌⊎◌, ℕ, ◌+◌, ◌≤◌, true, false, List, Option, Some, None, Result, IfSome, option_map}
+use Rattle.std.specs.Io.KnownBytes.{Appends}
+use Rattle.std.proofs.Common.{MutBor, inl, inr}
+use Rattle.ec_wire.specs.declared.io.Io.{Io}
+use Rattle.ec_wire.specs.Stream.{stream, has_failed, taken, WritesFront}
+use Rattle.ec_lines.specs.declared.answer.Answer.{Answer}
+use Rattle.ec_lines.specs.declared.refusal.Refusal.{Refusal}
+use Rattle.ec_lines.specs.declared.refusal.Refusal.TheVariants as refusal
+use Rattle.ec_lines.specs.declared.job.Job.{Job}
+use Rattle.ec_lines.specs.declared.job.Job.TheVariants as job
+use Rattle.ec_answers.specs.Input.{ConsumesAtMost, AreUnits}
+use Rattle.ec_lines.specs.Output.{Written, IsOutput, IsNoMemory, refused, written_of}
+use Rattle.ec_answers.specs.Planned.{IsPlanWritten, GetsCertFront, Gets, GetsFront}
+use Rattle.ec_lines.specs.Refusals.{out_of_memory}
+use Rattle.ec_workers.specs.Answers.{Asked, asked_for}
+
+-- ---- a reader or writer over a call
+
+-- the bytes that it tells, and it before and after
+pub record Use (X : Type 0) : Type 0 where
+  pub tells : X → Option (List ℕ)
+  pub old : Io X
+  pub new : Io X
+
+abbrev pub used : {X : Type 0} → (X → Option (List ℕ)) → Io X → Io X → Use X
+used tells old new = record { tells = tells; old = old; new = new }
+
+-- the bytes that it has before and after, where it tells them
+abbrev pub before : {X : Type 0} → Use X → Option (List ℕ)
+before s = s.tells (stream s.old)
+
+abbrev pub after : {X : Type 0} → Use X → Option (List ℕ)
+after s = s.tells (stream s.new)
+
+-- no call of it failed, or one did
+abbrev pub IsSound : {X : Type 0} → Use X → Type 0
+IsSound s = has_failed s.new ≡ false
+
+abbrev pub HasFailed : {X : Type 0} → Use X → Type 0
+HasFailed s = has_failed s.new ≡ true
+
+-- it is left as it was
+abbrev pub IsKept : {X : Type 0} → Use X → Type 0
+IsKept s = s.new ≡ s.old
+
+-- ---- one that may not be there
+
+-- what an `Option<&mut X>` leaves
+abbrev pub left_behind : {X : Type 0} → (Unit {0} ⊎ ((MutBor X × Unit {0}) ⊎ ⊥)) → Option X
+left_behind (inl u) = None
+left_behind (inr (inl f)) = Some f.0.now
+left_behind (inr (inr b)) = absurd b
+
+-- it before and after, if it is there
+pub record Lent (X : Type 0) : Type 0 where
+  pub tells : X → Option (List ℕ)
+  pub old : Option (Io X)
+  pub new : Option (Io X)
+
+abbrev pub lent : {X : Type 0} → (X → Option (List ℕ)) → Option (MutBor (Io X)) → (Unit {0} ⊎ ((MutBor (Io X) × Unit {0}) ⊎ ⊥)) → Lent X
+lent tells entry exit = record { tells = tells; old = option_map (λ r. r.now) entry; new = left_behind exit }
+
+-- the one fact where there is none, the other of the one that is there; it isn't there after unless it was before
+abbrev pub either : {X : Type 0} → Option X → Option X → Type 0 → (X → X → Type 0) → Type 0
+either None None none P = none
+either None (Some b) none P = ⊥
+either (Some a) None none P = ⊥
+either (Some a) (Some b) none P = P a b
+
+abbrev pub IfLent : {X : Type 0} → Lent X → Type 0 → (Use X → Type 0) → Type 0
+IfLent s none P = either s.old s.new none (λ a b. P (used s.tells a b))
+
+-- it is left as it was, or isn't there
+abbrev pub IsLeft : {X : Type 0} → Lent X → Type 0
+IsLeft s = s.new ≡ s.old
+
+-- ---- what is written
+
+-- what is as said is told to the writer: whole with its status, or a front where a write failed, with the status 4
+pub record Tells {W : Type 0} (is : Written → Type 0) (text : Use W) (code : ℕ) : Type 0 where
+  pub written : Written
+  pub said : is written
+  pub whole : IsSound text → (code ≡ written.code) × Appends (before text) (after text) written.text
+  pub front : WritesFront (before text) (after text) written.text
+  pub failed : HasFailed text → code ≡ 4
+
+-- an answer is written, or the line that says that memory ran out
+abbrev pub IsFor : Result Answer Refusal → Written → Type 0
+IsFor answer w = (w ≡ written_of answer) ⊎ (w ≡ refused out_of_memory)
+
+-- a refusal is written, or the line that says that memory ran out
+abbrev pub Refuses : Refusal → Written → Type 0
+Refuses r w = (w ≡ refused r) ⊎ (w ≡ refused out_of_memory)
+
+-- at most this many bytes are read, of those that are told and of any; where a read fails, that is written
+pub record Reads {X : Type 0} (s : Use X) (most : ℕ) (w : Written) : Type 0 where
+  pub known : ConsumesAtMost (before s) (after s) most
+  pub any : taken s.new ≤ taken s.old + most
+  pub failed : HasFailed s → Refuses refusal.Read w
+
+-- ---- the jobs
+
+-- a cost is written for the units
+pub record Costs {R : Type 0} (units : Use R) (w : Written) : Type 0 where
+  pub read : Reads units 1048577 w
+  pub honest : IsSound units → IfSome (before units) (λ bytes. IsOutput job.Cost bytes None w ⊎ IsNoMemory job.Cost w)
+
+-- a check is written for the units and the certificate, which isn't read before the units are right
+pub record Checks {R C : Type 0} (units : Use R) (cert : Use C) (w : Written) : Type 0 where
+  pub read : Reads units 1048577 w
+  pub cert_read : Reads cert 67108865 w
+  pub honest : IsSound units → IsSound cert → IfSome (before units) (λ bytes. IfSome (before cert) (λ text. IsOutput job.Check bytes (Some text) w ⊎ IsNoMemory job.Check w))
+  pub kept : HasFailed units → IsKept cert
+  pub first : IfSome (before units) (λ bytes. ¬ (AreUnits bytes) → IsKept cert)
+
+-- a plan is written for the units
+pub record Plans {R : Type 0} (asked : Asked) (units : Use R) (w : Written) : Type 0 where
+  pub read : Reads units 1048577 w
+  pub honest : IsSound units → IfSome (before units) (λ bytes. (cert : Option (List ℕ)) × IsPlanWritten asked bytes w cert)
+
+-- a plan is written for the units, and before it its certificate, or a front of it where that fails
+pub record PlansTo {R O : Type 0} (asked : Asked) (units : Use R) (out : Use O) (w : Written) : Type 0 where
+  pub read : Reads units 1048577 w
+  pub honest : IsSound units → IsSound out → IfSome (before units) (λ bytes. (cert : Option (List ℕ)) × IsPlanWritten asked bytes w cert × Gets out.tells out.old out.new cert)
+  pub front : IsSound units → IfSome (before units) (GetsCertFront asked (GetsFront out.tells out.old out.new))
+  pub failed : HasFailed out → Refuses refusal.Write w
+  pub kept : HasFailed units → IsKept out
+
+-- what a job does with what it is lent, and what is to be written for it
+abbrev pub Does : {R C O : Type 0} → Job → Use R → Lent C → Lent O → Written → Type 0
+Does job.Cost units cert out w = Costs units w × IsLeft cert × IsLeft out
+Does job.Check units cert out w = IfLent cert ⊥ (λ c. Checks units c w) × IsLeft out
+Does (job.Plan workers nodes) units cert out w = IfLent out (Plans (asked_for workers nodes) units w) (λ o. PlansTo (asked_for workers nodes) units o w) × IsLeft cert
+
+-- a run does its job, and tells what is to be written for it
+abbrev pub IsRun : {R C W O : Type 0} → Job → Use R → Lent C → Use W → Lent O → ℕ → Type 0
+IsRun j units cert text out code = Tells (Does j units cert out) text code
+
+-- ---- what a caller brings
+
+-- a check has a reader of a certificate, which has not failed
+abbrev pub HasCert : {C : Type 0} → Job → Option (Io C) → Type 0
+HasCert job.Cost cert = Unit {0}
+HasCert (job.Plan workers nodes) cert = Unit {0}
+HasCert job.Check None = ⊥
+HasCert job.Check (Some cert) = has_failed cert ≡ false
+
+-- if there is a reader, it has not failed
+abbrev pub NoneFailed : {C : Type 0} → Option (Io C) → Type 0
+NoneFailed None = Unit {0}
+NoneFailed (Some cert) = has_failed cert ≡ false

@@ -1,0 +1,122 @@
+//! Does what a command line says, with the paths that it names.
+
+ghost use Rattle.std.specs.Prelude.{◌≡◌, None, true, false};
+ghost use Rattle.ec_wire.specs.Stream.{has_failed};
+ghost use Rattle.ec_jobs.specs.Runs.{used, Tells, Costs};
+ghost use Rattle.ec_lines.specs.Words.{HasPath, JobFits};
+
+use crate::job::{Status, write_status};
+use crate::late::Late;
+use crate::plain::run_plain;
+use crate::running::run;
+use ec_lines::{Job, Line};
+use ec_wire::Io;
+use std::alloc::Global;
+use std::io::{Read, Write};
+use std::rt::Files;
+use std::sync::Wait;
+use std::{fs, io};
+
+/// The line where a path can't be opened for reading.
+const NOT_OPENED: &[u8] = b"refused E3 Read\n";
+
+/// Tells the costs.
+fn cost_alone<R: Read, W: Write>(alloc: Global, units: &mut Io<R>, text: &mut Io<W>) -> Status
+    requires units { has_failed units.old ≡ false }
+    requires text { has_failed text.old ≡ false }
+    ensures { Tells (Costs (used R.remaining units.old units.new)) (used W.contents text.old text.new) result.code }
+{
+    let none: Option<&mut Io<io::Empty>> = None;
+    let nowhere: Option<&mut Io<io::Sink>> = None;
+    run_plain(alloc, &Job::Cost, units, none, text, nowhere)
+}
+
+/// Checks the certificate at this path, which is opened before the units are read.
+fn check_at<R: Read, W: Write, F: Files>(
+    files: &F,
+    alloc: Global,
+    path: &str,
+    units: &mut Io<R>,
+    text: &mut Io<W>,
+) -> Status
+    requires units { has_failed units.old ≡ false }
+    requires text { has_failed text.old ≡ false }
+    ensures failed { has_failed text.new ≡ true → result.code ≡ 4 }
+{
+    let Ok(file) = fs::open(files, path) else {
+        return write_status(text, NOT_OPENED, 4);
+    };
+    let mut cert = Io::new(file);
+    let nowhere: Option<&mut Io<io::Sink>> = None;
+    let from = Some(&mut cert);
+    run_plain(alloc, &Job::Check, units, from, text, nowhere)
+}
+
+/// Does a plan without writing its certificate.
+fn plan_alone<R: Read, W: Write, T: Wait>(
+    wait: &T,
+    alloc: Global,
+    job: &Job,
+    units: &mut Io<R>,
+    text: &mut Io<W>,
+) -> Status
+    requires fits { JobFits job.now }
+    requires path { HasPath job.now None }
+    requires units { has_failed units.old ≡ false }
+    requires text { has_failed text.old ≡ false }
+    ensures failed { has_failed text.new ≡ true → result.code ≡ 4 }
+{
+    let none: Option<&mut Io<io::Empty>> = None;
+    let nowhere: Option<&mut Io<io::Sink>> = None;
+    run(wait, alloc, job, units, none, text, nowhere)
+}
+
+/// Does a plan, and writes its certificate, if it has one, to this path, which is opened at the first write.
+fn plan_to<R: Read, W: Write, F: Files, T: Wait>(
+    files: &F,
+    wait: &T,
+    alloc: Global,
+    job: &Job,
+    path: &str,
+    units: &mut Io<R>,
+    text: &mut Io<W>,
+) -> Status
+    requires fits { JobFits job.now }
+    requires path { HasPath job.now None }
+    requires units { has_failed units.old ≡ false }
+    requires text { has_failed text.old ≡ false }
+    ensures failed { has_failed text.new ≡ true → result.code ≡ 4 }
+{
+    let mut out = Io::new(Late::new(files, path));
+    let none: Option<&mut Io<io::Empty>> = None;
+    let to = Some(&mut out);
+    run(wait, alloc, job, units, none, text, to)
+}
+
+/// Does what a command line says, on these units and to this text, and says with which status the program ends.
+pub fn do_line<R: Read, W: Write, F: Files, T: Wait>(
+    files: &F,
+    wait: &T,
+    alloc: Global,
+    line: &Line,
+    units: &mut Io<R>,
+    text: &mut Io<W>,
+) -> Status
+    requires fits { JobFits line.now.job }
+    requires path { HasPath line.now.job line.now.cert }
+    requires units { has_failed units.old ≡ false }
+    requires text { has_failed text.old ≡ false }
+    ensures failed { has_failed text.new ≡ true → result.code ≡ 4 }
+{
+    match line.job {
+        Job::Cost => cost_alone(alloc, units, text),
+        Job::Plan { .. } => match &line.out {
+            Some(path) => plan_to(files, wait, alloc, &line.job, path.as_str(), units, text),
+            None => plan_alone(wait, alloc, &line.job, units, text),
+        },
+        Job::Check => match &line.cert {
+            Some(path) => check_at(files, alloc, path.as_str(), units, text),
+            None => unreachable!(),
+        },
+    }
+}

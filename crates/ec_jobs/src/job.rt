@@ -1,0 +1,126 @@
+//! A job: what is read, and what is written for it.
+
+ghost use Rattle.std.specs.Prelude.{◌≡◌, ◌≤◌, true, false, string_bytes, IfOk};
+ghost use Rattle.std.specs.Io.KnownBytes.{Appends};
+ghost use Rattle.ec_wire.specs.Stream.{stream, has_failed, WritesFront};
+ghost use Rattle.ec_jobs.specs.Runs.{used, Tells, IsFor, Costs, Checks, Plans, PlansTo};
+ghost use Rattle.ec_lines.specs.Refusals.{refusal_line};
+ghost use Rattle.ec_workers.specs.Answers.{asked_for};
+
+use ec_answers::{certified_answer, cost_answer, plan_answer, whole_answer};
+use ec_lines::{Answer, Refusal};
+use ec_wire::{Io, WriteFault};
+use std::alloc::{AllocError, Global};
+use std::io::{Read, Write};
+use std::sync::Wait;
+
+/// The exit status of a run: 0 optimal, least or done, 1 no plan, 2 unproved, 3 refused input, 4 reading, writing or
+/// memory failed.
+#[derive(Clone, Copy, Debug, PartialEq, Eq)]
+pub struct Status {
+    pub code: u8,
+}
+
+/// The line that refuses.
+fn refusal_text(alloc: Global, refusal: Refusal) -> Result<String, AllocError>
+    ensures { IfOk result (λ line. string_bytes line ≡ refusal_line refusal) }
+{
+    format!(in alloc; "refused {refusal}\n")
+}
+
+/// Writes bytes whole; where that fails, the status is 4.
+pub(crate) fn write_status<W: Write>(text: &mut Io<W>, bytes: &[u8], code: u8) -> Status
+    requires { has_failed text.old ≡ false }
+    ensures all { has_failed text.new ≡ false → (result.code ≡ code) × Appends (W.contents (stream text.old)) (W.contents (stream text.new)) bytes.now }
+    ensures front { WritesFront (W.contents (stream text.old)) (W.contents (stream text.new)) bytes.now }
+    ensures failed { has_failed text.new ≡ true → result.code ≡ 4 }
+{
+    match text.write_whole(bytes) {
+        Ok(()) => Status { code },
+        Err(WriteFault) => Status { code: 4 },
+    }
+}
+
+/// The line where memory ran out.
+const NO_MEMORY: &str = "refused U1 OutOfMemory\n";
+
+/// Writes the text or the refusal whole, and says with which status the run ends.
+fn finish<W: Write>(alloc: Global, answer: Result<Answer, Refusal>, text: &mut Io<W>) -> Status
+    requires { has_failed text.old ≡ false }
+    ensures { Tells (IsFor answer) (used W.contents text.old text.new) result.code }
+{
+    match answer {
+        Ok(answer) => write_status(text, answer.text.as_bytes(), answer.code),
+        Err(refusal) => match refusal_text(alloc, refusal) {
+            Ok(line) => write_status(text, line.as_bytes(), refusal.code()),
+            Err(AllocError) => write_status(text, NO_MEMORY.as_bytes(), 4),
+        },
+    }
+}
+
+/// Reads the units, makes the whole text of their costs, and then writes it.
+pub fn run_cost<R: Read, W: Write>(alloc: Global, units: &mut Io<R>, text: &mut Io<W>) -> Status
+    requires units { has_failed units.old ≡ false }
+    requires text { has_failed text.old ≡ false }
+    ensures { Tells (Costs (used R.remaining units.old units.new)) (used W.contents text.old text.new) result.code }
+{
+    let answer = cost_answer(alloc, units);
+    finish(alloc, answer, text)
+}
+
+/// Reads the units and then the certificate, makes the whole answer, and then writes it.
+pub fn run_check<R: Read, C: Read, W: Write>(
+    alloc: Global,
+    units: &mut Io<R>,
+    cert: &mut Io<C>,
+    text: &mut Io<W>,
+) -> Status
+    requires units { has_failed units.old ≡ false }
+    requires cert { has_failed cert.old ≡ false }
+    requires text { has_failed text.old ≡ false }
+    ensures { Tells (Checks (used R.remaining units.old units.new) (used C.remaining cert.old cert.new)) (used W.contents text.old text.new) result.code }
+{
+    let answer = whole_answer(alloc, units, cert);
+    finish(alloc, answer, text)
+}
+
+/// Reads the units, searches for a plan whose busiest tick is least, and then writes the text of what was found.
+pub fn run_plan<R: Read, W: Write, T: Wait>(
+    rt: &T,
+    alloc: Global,
+    workers: usize,
+    nodes: u32,
+    units: &mut Io<R>,
+    text: &mut Io<W>,
+) -> Status
+    requires workers { workers ≡ 1 }
+    requires nodes { (1 ≤ nodes) × (nodes ≤ 10000000) }
+    requires units { has_failed units.old ≡ false }
+    requires text { has_failed text.old ≡ false }
+    ensures { Tells (Plans (asked_for workers nodes) (used R.remaining units.old units.new)) (used W.contents text.old text.new) result.code }
+{
+    let answer = plan_answer(rt, alloc, workers, nodes, units);
+    finish(alloc, answer, text)
+}
+
+/// Reads the units, searches for a plan whose busiest tick is least, writes the certificate, if there is one, to
+/// `out`, and then writes the text of what was found.
+pub fn run_plan_to<R: Read, W: Write, O: Write, T: Wait>(
+    rt: &T,
+    alloc: Global,
+    workers: usize,
+    nodes: u32,
+    units: &mut Io<R>,
+    text: &mut Io<W>,
+    out: &mut Io<O>,
+) -> Status
+    requires workers { workers ≡ 1 }
+    requires nodes { (1 ≤ nodes) × (nodes ≤ 10000000) }
+    requires units { has_failed units.old ≡ false }
+    requires text { has_failed text.old ≡ false }
+    requires out { has_failed out.old ≡ false }
+    ensures { Tells (PlansTo (asked_for workers nodes) (used R.remaining units.old units.new) (used O.contents out.old out.new)) (used W.contents text.old text.new) result.code }
+{
+    let answer = certified_answer(rt, alloc, workers, nodes, units, out);
+    finish(alloc, answer, text)
+}

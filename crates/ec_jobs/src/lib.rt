@@ -1,0 +1,16 @@
+//! The jobs of the program: what is read, and what is written for it.
+#![tactic(auto)]
+
+mod doing;
+mod job;
+mod late;
+mod law;
+mod plain;
+mod running;
+
+pub use doing::do_line;
+pub use job::{Status, run_plan_to};
+pub use late::Late;
+pub use law::{a_plan_is_true, a_yes_is_true, one_least_each, one_output_each};
+pub use plain::run_plain;
+pub use running::run;

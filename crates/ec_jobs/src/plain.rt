@@ -1,0 +1,40 @@
+//! A run without a runtime.
+
+ghost use Rattle.std.specs.Prelude.{◌≡◌, false, option_map};
+ghost use Rattle.ec_wire.specs.Stream.{has_failed};
+ghost use Rattle.ec_jobs.specs.Runs.{used, lent, HasCert, IsRun};
+ghost use Rattle.ec_lines.specs.Words.{IsPlain};
+
+use crate::job::{Status, run_check, run_cost};
+use ec_lines::Job;
+use ec_wire::Io;
+use std::alloc::Global;
+use std::io::{Read, Write};
+
+/// Does a job that searches for nothing, without a runtime: reads the units, and for a check then the certificate,
+/// makes its whole answer, and then writes it to `text`. It reads at most 1,048,577 bytes of units and 67,108,865 of a
+/// certificate, so it ends on readers that never do. A cost leaves `cert` unread, and so does a check of units that are
+/// refused. Nothing is written to `out`.
+pub fn run_plain<R: Read, C: Read, W: Write, O: Write>(
+    alloc: Global,
+    job: &Job,
+    units: &mut Io<R>,
+    cert: Option<&mut Io<C>>,
+    text: &mut Io<W>,
+    out: Option<&mut Io<O>>,
+) -> Status
+    requires plain { IsPlain job.now }
+    requires units { has_failed units.old ≡ false }
+    requires cert { HasCert job.now (option_map (λ r. r.now) cert) }
+    requires text { has_failed text.old ≡ false }
+    ensures { IsRun job.now (used R.remaining units.old units.new) (lent C.remaining cert.entry cert.exit) (used W.contents text.old text.new) (lent O.contents out.entry out.exit) result.code }
+{
+    match job {
+        Job::Cost => run_cost(alloc, units, text),
+        Job::Plan { .. } => unreachable!(),
+        Job::Check => match cert {
+            Some(cert) => run_check(alloc, units, cert, text),
+            None => unreachable!(),
+        },
+    }
+}

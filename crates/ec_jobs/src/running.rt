@@ -1,0 +1,47 @@
+//! A run of any job.
+
+ghost use Rattle.std.specs.Prelude.{◌≡◌, false, option_map};
+ghost use Rattle.ec_wire.specs.Stream.{has_failed};
+ghost use Rattle.ec_jobs.specs.Runs.{used, lent, HasCert, IsRun, NoneFailed};
+ghost use Rattle.ec_lines.specs.Words.{JobFits};
+
+use crate::job::{Status, run_check, run_cost, run_plan, run_plan_to};
+use ec_lines::Job;
+use ec_wire::Io;
+use std::alloc::Global;
+use std::io::{Read, Write};
+use std::sync::Wait;
+
+/// Does a job: reads the units, and for a check then the certificate, makes its whole answer, and then writes it to
+/// `text`; what there is for jobs that search for nothing is as in `run_plain`. A plan searches with one worker in the
+/// calling thread, and where it is optimal or there is none, its certificate is written to `out`, if `out` is there,
+/// before the text. It reads at most 1,048,577 bytes of units and 67,108,865 of a certificate. A cost and a plan leave
+/// `cert` unread, a cost and a check leave `out`, and so does a plan without a certificate.
+pub fn run<R: Read, C: Read, W: Write, O: Write, T: Wait>(
+    rt: &T,
+    alloc: Global,
+    job: &Job,
+    units: &mut Io<R>,
+    cert: Option<&mut Io<C>>,
+    text: &mut Io<W>,
+    out: Option<&mut Io<O>>,
+) -> Status
+    requires job { JobFits job.now }
+    requires units { has_failed units.old ≡ false }
+    requires cert { HasCert job.now (option_map (λ r. r.now) cert) }
+    requires text { has_failed text.old ≡ false }
+    requires out { NoneFailed (option_map (λ r. r.now) out) }
+    ensures { IsRun job.now (used R.remaining units.old units.new) (lent C.remaining cert.entry cert.exit) (used W.contents text.old text.new) (lent O.contents out.entry out.exit) result.code }
+{
+    match job {
+        Job::Cost => run_cost(alloc, units, text),
+        Job::Plan { workers, nodes } => match out {
+            Some(out) => run_plan_to(rt, alloc, *workers, *nodes, units, text, out),
+            None => run_plan(rt, alloc, *workers, *nodes, units, text),
+        },
+        Job::Check => match cert {
+            Some(cert) => run_check(alloc, units, cert, text),
+            None => unreachable!(),
+        },
+    }
+}

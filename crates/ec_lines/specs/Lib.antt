@@ -1,0 +1,5 @@
+pub mod Lines
+pub mod Outcomes
+pub mod Output
+pub mod Refusals
+pub mod Words

@@ -1,0 +1,30 @@
+-- The words of the command line.
+use Rattle.std.specs.Prelude.{◌≡◌, ◌≤◌, String, Option, Some, None}
+use Rattle.std.proofs.Common.{Global}
+use Rattle.ec_lines.specs.declared.job.Job.{Job}
+use Rattle.ec_lines.specs.declared.job.Job.TheVariants as job
+
+-- the numbers of a job are within the limits: one worker, and 1 to 10,000,000 nodes
+abbrev pub JobFits : Job → Type 0
+JobFits job.Cost = Unit {0}
+JobFits (job.Plan workers nodes) = (workers ≡ 1) × (1 ≤ nodes) × (nodes ≤ 10000000)
+JobFits job.Check = Unit {0}
+
+-- a check has the path of a certificate to read, and no other job has one
+abbrev pub HasPath : Job → Option (String Global) → Type 0
+HasPath job.Cost cert = cert ≡ None
+HasPath (job.Plan workers nodes) cert = cert ≡ None
+HasPath job.Check None = ⊥
+HasPath job.Check (Some path) = Unit {0}
+
+-- a plan alone may have the path of a certificate to write
+abbrev pub MayHaveOut : Job → Option (String Global) → Type 0
+MayHaveOut job.Cost out = out ≡ None
+MayHaveOut (job.Plan workers nodes) out = Unit {0}
+MayHaveOut job.Check out = out ≡ None
+
+-- the job searches for nothing
+abbrev pub IsPlain : Job → Type 0
+IsPlain job.Cost = Unit {0}
+IsPlain (job.Plan workers nodes) = ⊥
+IsPlain job.Check = Unit {0}

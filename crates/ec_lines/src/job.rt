@@ -1,0 +1,20 @@
+//! Jobs and command lines.
+
+/// What the program is to do.
+#[derive(Clone, Copy, Debug, PartialEq, Eq)]
+pub enum Job {
+    /// Tells what each tick of the placed units costs.
+    Cost,
+    /// Searches for the best plan with so many workers, over at most so many nodes.
+    Plan { workers: usize, nodes: u32 },
+    /// Checks a certificate for the units.
+    Check,
+}
+
+/// A command line: the job, the path of a certificate to read and the path of one to write.
+#[derive(Debug, Drop)]
+pub struct Line {
+    pub job: Job,
+    pub cert: Option<String>,
+    pub out: Option<String>,
+}

@@ -1,0 +1,17 @@
+//! What the program writes: the lines of a cost, of a plan and of a certificate, and the line that refuses; and the
+//! jobs and command lines for which it does.
+#![tactic(auto)]
+
+mod answer;
+mod cost;
+mod job;
+mod outcome;
+mod refusal;
+mod verdict;
+
+pub use answer::Answer;
+pub use cost::cost_of;
+pub use job::{Job, Line};
+pub use outcome::outcome_answer;
+pub use refusal::Refusal;
+pub use verdict::verdict_answer;

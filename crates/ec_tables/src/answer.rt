@@ -1,0 +1,102 @@
+//! What a row's job answers, as one text.
+
+use crate::jobs::{Told, any, is_same, plain, planned};
+use crate::row::{ALL, Row};
+use std::alloc::{AllocError, Global};
+use std::fmt::Write;
+use std::sync::Wait;
+
+/// Adds bytes as text.
+fn add(out: &mut String, bytes: &[u8]) -> Result<(), AllocError> {
+    match std::str::from_utf8(bytes) {
+        Ok(text) => out.push_str(text),
+        Err(_) => out.push_str("no text\n"),
+    }
+}
+
+/// Adds a certificate. Where the row has the whole one, whether it is a front of that is told in its place.
+fn add_cert(out: &mut String, row: &Row<'_>, cert: &[u8]) -> Result<(), AllocError> {
+    if row.job != "plan" || row.cert.is_empty() {
+        return add(out, cert);
+    }
+    if row.cert.as_bytes().starts_with(cert) && cert.len() < row.cert.len() {
+        out.push_str("a front\n")
+    } else {
+        out.push_str("no front\n")
+    }
+}
+
+/// Adds the streams that failed.
+fn add_failed(out: &mut String, told: &Told) -> Result<(), AllocError> {
+    if told.failed.units {
+        out.push_str("units failed\n")?;
+    }
+    if told.failed.cert {
+        out.push_str("cert failed\n")?;
+    }
+    if told.failed.text {
+        out.push_str("text failed\n")?;
+    }
+    Ok(())
+}
+
+/// Adds what a check says of a certificate that a plan wrote whole.
+fn add_check(
+    out: &mut String,
+    alloc: Global,
+    row: &Row<'_>,
+    told: &Told,
+) -> Result<(), AllocError> {
+    let Ok(cert) = std::str::from_utf8(told.cert.as_slice()) else {
+        return out.push_str("no text\n");
+    };
+    if cert.is_empty() || told.failed.cert {
+        return Ok(());
+    }
+    let check = Row {
+        job: "check",
+        calls: ALL,
+        cert,
+        ..*row
+    };
+    let checked = plain(alloc, &check);
+    let code = checked.code;
+    write!(out, "check {code} ")?;
+    add(out, checked.text.as_slice())
+}
+
+/// What the row's job left, and whether the other call that does it leaves the same; of a plan, text and status.
+fn told_twice(rt: &impl Wait, alloc: Global, row: &Row<'_>) -> (Told, bool) {
+    let other = any(rt, alloc, row);
+    if row.job != "plan" {
+        let told = plain(alloc, row);
+        let same = is_same(&told, &other);
+        return (told, same);
+    }
+    let told = planned(rt, alloc, row);
+    let again = planned(rt, alloc, row);
+    let alone = told.text.as_slice() == other.text.as_slice() && told.code == other.code;
+    let same = is_same(&told, &again) && (alone || told.failed.cert);
+    (told, same)
+}
+
+/// What a row's job answers: its status, its text, its certificate, the streams that failed, what is told of the
+/// certificate, and a full stop.
+pub(crate) fn answer_to(
+    rt: &impl Wait,
+    alloc: Global,
+    row: &Row<'_>,
+) -> Result<String, AllocError> {
+    let (told, same) = told_twice(rt, alloc, row);
+    let code = told.code;
+    let mut out = format!(in alloc; "{code}\n")?;
+    add(&mut out, told.text.as_slice())?;
+    add_cert(&mut out, row, told.cert.as_slice())?;
+    add_failed(&mut out, &told)?;
+    add_check(&mut out, alloc, row, &told)?;
+    if !same {
+        out.push_str("otherwise again\n")?;
+    }
+    out.push_str(".\n")?;
+    Ok(out)
+}

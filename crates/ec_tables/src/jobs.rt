@@ -1,0 +1,127 @@
+//! Does the job of a row, by each of the ways that there are.
+
+ghost use Rattle.std.specs.Prelude.{Some, ◌≡◌, ◌≤◌};
+ghost use Rattle.ec_lines.specs.Words.{JobFits, IsPlain};
+
+use crate::row::Row;
+use crate::streams::{FailsAt, Slow};
+use ec_jobs::{run, run_plain, run_plan_to};
+use ec_lines::Job;
+use ec_wire::Io;
+use std::alloc::Global;
+use std::io;
+use std::sync::Wait;
+
+/// Which streams failed.
+#[derive(Clone, Copy, PartialEq, Eq)]
+pub(crate) struct Failed {
+    pub units: bool,
+    pub cert: bool,
+    pub text: bool,
+}
+
+/// What a job left: its text, its certificate, its status, and which streams failed.
+#[derive(Drop)]
+pub(crate) struct Told {
+    pub text: Vec<u8>,
+    pub cert: Vec<u8>,
+    pub code: u8,
+    pub failed: Failed,
+}
+
+/// Whether two runs left the same.
+pub(crate) fn is_same(one: &Told, other: &Told) -> bool {
+    one.text.as_slice() == other.text.as_slice()
+        && one.cert.as_slice() == other.cert.as_slice()
+        && one.code == other.code
+        && one.failed == other.failed
+}
+
+/// A cost or a check, without a runtime.
+pub(crate) fn plain(alloc: Global, row: &Row<'_>) -> Told {
+    let mut units = Io::new(FailsAt::new(row.units, row.calls.units));
+    let mut cert = Io::new(FailsAt::new(row.cert, row.calls.cert));
+    let mut held = Slow::new(alloc, row.calls.text);
+    let mut text = Io::new(&mut held);
+    let nowhere: Option<&mut Io<io::Sink>> = None;
+    let job = if row.job == "cost" {
+        Job::Cost
+    } else {
+        Job::Check
+    };
+    let status = run_plain(alloc, &job, &mut units, Some(&mut cert), &mut text, nowhere);
+    let failed = Failed {
+        units: units.failed(),
+        cert: cert.failed(),
+        text: text.failed(),
+    };
+    drop(text);
+    Told {
+        text: held.held,
+        cert: Vec::new(alloc),
+        code: status.code,
+        failed,
+    }
+}
+
+/// A plan whose certificate is written.
+pub(crate) fn planned(rt: &impl Wait, alloc: Global, row: &Row<'_>) -> Told {
+    let mut units = Io::new(FailsAt::new(row.units, row.calls.units));
+    let mut held = Slow::new(alloc, row.calls.text);
+    let mut kept = Slow::new(alloc, row.calls.cert);
+    let mut text = Io::new(&mut held);
+    let mut out = Io::new(&mut kept);
+    let nodes = row.nodes.clamp(1, 10_000_000);
+    let status = run_plan_to(rt, alloc, 1, nodes, &mut units, &mut text, &mut out);
+    let failed = Failed {
+        units: units.failed(),
+        cert: out.failed(),
+        text: text.failed(),
+    };
+    drop(text);
+    drop(out);
+    Told {
+        text: held.held,
+        cert: kept.held,
+        code: status.code,
+        failed,
+    }
+}
+
+/// The job of a row.
+fn job_of(row: &Row<'_>) -> Job
+    ensures { JobFits result }
+{
+    if row.job == "cost" {
+        return Job::Cost;
+    }
+    if row.job == "check" {
+        return Job::Check;
+    }
+    let nodes = row.nodes.clamp(1, 10_000_000);
+    Job::Plan { workers: 1, nodes }
+}
+
+/// The job by the call that does any, and without a writer of a certificate.
+pub(crate) fn any(rt: &impl Wait, alloc: Global, row: &Row<'_>) -> Told {
+    let mut units = Io::new(FailsAt::new(row.units, row.calls.units));
+    let mut cert = Io::new(FailsAt::new(row.cert, row.calls.cert));
+    let mut held = Slow::new(alloc, row.calls.text);
+    let mut text = Io::new(&mut held);
+    let nowhere: Option<&mut Io<io::Sink>> = None;
+    let job = job_of(row);
+    let from = Some(&mut cert);
+    let status = run(rt, alloc, &job, &mut units, from, &mut text, nowhere);
+    let failed = Failed {
+        units: units.failed(),
+        cert: cert.failed(),
+        text: text.failed(),
+    };
+    drop(text);
+    Told {
+        text: held.held,
+        cert: Vec::new(alloc),
+        code: status.code,
+        failed,
+    }
+}

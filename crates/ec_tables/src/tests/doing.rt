@@ -1,0 +1,143 @@
+//! What a command line says, done with the paths that it names.
+
+use super::words::words_of;
+use crate::streams::Slow;
+use ec_jobs::do_line;
+use ec_wire::Io;
+use ec_words::read_words;
+use std::alloc::Global;
+use std::io::Read;
+use std::rt::Files;
+use std::sync::Wait;
+use std::test::Fail;
+use std::{fs, io};
+
+/// The units that always meet in one of six ticks.
+const MEETING: &str =
+    "tick_ns = 1000000\nslots = 1\n[[unit]]\nname = \"a\"\nperiod = 2\n[[unit.slave]]\nstation = 1001\nout_bytes = 200\nin_bytes = 0\n[[unit]]\nname = \"b\"\nperiod = 3\n[[unit.slave]]\nstation = 1002\nout_bytes = 200\nin_bytes = 0\n";
+
+const CERT: &str =
+    "ecplan 1\nslots 1\nunit a 200 2\nunit b 200 3\norder 0 1\nvalue 464\nplace 0 0\nplace 0 0\ntree\nS 2\nS 3\nT 0\nT 4\nT 2\nS 3\nT 3\nT 1\nT 5\nend\n";
+
+const PLACES: &str = "unit a phase 0 slot 0\nunit b phase 0 slot 0\n";
+
+/// A reader of bytes that counts its calls.
+#[derive(Drop)]
+struct Counted<'a> {
+    rest: &'a [u8],
+    calls: u32,
+}
+
+impl<'a> Read for Counted<'a> {
+    fn read(&mut self, buf: &mut [u8]) -> io::Result<usize> {
+        self.calls = self.calls.saturating_add(1);
+        self.rest.read(buf)
+    }
+}
+
+/// What is written for these words and the units that always meet, with the status, and how often these were read.
+fn said_by<F: Files>(
+    files: &F,
+    wait: &impl Wait,
+    alloc: Global,
+    words: &str,
+) -> Result<String, Fail> {
+    let words = words_of(alloc, words)?;
+    let line = read_words(alloc, &words).ok().ok_or("a line")?;
+    let mut bytes = Counted {
+        rest: MEETING.as_bytes(),
+        calls: 0,
+    };
+    let mut held = Slow::new(alloc, 99);
+    let mut units = Io::new(&mut bytes);
+    let mut text = Io::new(&mut held);
+    let status = do_line(files, wait, alloc, &line, &mut units, &mut text);
+    drop(units);
+    drop(text);
+    let reads = bytes.calls;
+    let code = status.code;
+    let text = std::str::from_utf8(held.held.as_slice())
+        .ok()
+        .ok_or("text")?;
+    Ok(format!(in alloc; "{text}status {code}, {reads} reads\n")?)
+}
+
+#[test]
+fn a_plan_with_a_path(rt: HostRuntime) -> Result<(), Fail> {
+    let alloc = rt.alloc();
+    let path = "/tmp/ecplan-plan-out.cert";
+    let _ = fs::remove_file(&rt, path);
+    let cut = said_by(
+        &rt,
+        &rt,
+        alloc,
+        "plan --nodes 8 --out /tmp/ecplan-plan-out.cert",
+    )?;
+    let kept = fs::read_to_string(&rt, path).is_err();
+    let whole = said_by(
+        &rt,
+        &rt,
+        alloc,
+        "plan --nodes 9 --out /tmp/ecplan-plan-out.cert",
+    )?;
+    let cert = fs::read_to_string(&rt, path)?;
+    fs::remove_file(&rt, path)?;
+    let told = format!(in alloc; "{cut}{kept}\n{whole}{cert}")?;
+    let shown = format!(in alloc;
+        "unproved 464\ncut budget\n{PLACES}status 2, 2 reads\ntrue\noptimal 464\n{PLACES}status 0, 2 reads\n{CERT}"
+    )?;
+    assert_eq!(rt; told.as_str(), shown.as_str());
+    Ok(())
+}
+
+/// What each of these lines of words is answered with, one after the other.
+fn answers_of<F: Files>(
+    files: &F,
+    wait: &impl Wait,
+    alloc: Global,
+    lines: &str,
+) -> Result<String, Fail> {
+    let mut answers = String::new(alloc);
+    for words in lines.lines() {
+        let said = said_by(files, wait, alloc, words)?;
+        answers.push_str(said.as_str())?;
+    }
+    Ok(answers)
+}
+
+#[test]
+fn a_path_that_cannot_be_opened(rt: HostRuntime) -> Result<(), Fail> {
+    let lines =
+        "plan --out /tmp/no-such-directory-of-ecplan/c\nplan --nodes 8 --out /tmp/no-such-directory-of-ecplan/c\ncheck --cert /tmp/no-such-directory-of-ecplan/c\n";
+    let told = answers_of(&rt, &rt, rt.alloc(), lines)?;
+    let shown = format!(in rt.alloc();
+        "refused E4 Write\nstatus 4, 2 reads\nunproved 464\ncut budget\n{PLACES}status 2, 2 reads\nrefused E3 Read\nstatus 4, 0 reads\n"
+    )?;
+    assert_eq!(rt; told.as_str(), shown.as_str());
+    Ok(())
+}
+
+#[test]
+fn a_check_with_its_path(rt: HostRuntime) -> Result<(), Fail> {
+    let path = "/tmp/ecplan-check-in.cert";
+    fs::write(&rt, path, CERT)?;
+    let told = said_by(
+        &rt,
+        &rt,
+        rt.alloc(),
+        "check --cert /tmp/ecplan-check-in.cert",
+    )?;
+    fs::remove_file(&rt, path)?;
+    assert_eq!(rt; told.as_str(), "least 464\nstatus 0, 2 reads\n");
+    Ok(())
+}
+
+#[test]
+fn a_cost_and_a_plan_without_paths(rt: HostRuntime) -> Result<(), Fail> {
+    let told = answers_of(&rt, &rt, rt.alloc(), "cost\nplan\n")?;
+    let shown = format!(in rt.alloc();
+        "refused E2 NoPlace 0\nstatus 3, 2 reads\noptimal 464\n{PLACES}status 0, 2 reads\n"
+    )?;
+    assert_eq!(rt; told.as_str(), shown.as_str());
+    Ok(())
+}

@@ -1,0 +1,6 @@
+//! The words of the command line.
+#![tactic(auto)]
+
+mod words;
+
+pub use words::{LineFault, read_words};

@@ -1,9 +1,0 @@
-use Rattle.std.proofs.Common.{rules}
-use Rattle.ec_loads.specs.Cost.{tick_cost}
-use Rattle.ec_loads.specs.Held.{items_of}
-use Rattle.ecplan.specs.Lines.{tick_line}
-use Rattle.ecplan.proofs.LineLemmas.{lines_more}
-use Rattle.ecplan.proofs.cost.push_ticks.Goals as goal
-
-pub loop-t-preserved : goal.loop-t-preserved
-loop-t-preserved c = rw (lines_more (λ t. tick_line t (tick_cost (items_of c.args.loads.now) c.args.loads.now.slots t))) (search rules)

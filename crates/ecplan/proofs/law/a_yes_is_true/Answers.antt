@@ -1,5 +1,0 @@
-use Rattle.ecplan.proofs.SoundLemmas.{yes_true}
-use Rattle.ecplan.proofs.law.a_yes_is_true.Goals as goal
-
-pub returns : goal.returns
-returns c = yes_true c.trees_bound.ensures
