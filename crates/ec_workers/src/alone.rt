@@ -7,7 +7,7 @@ ghost use Rattle.ec_symmetry.specs.Orders.{IsOrder, IsReachedPrefix};
 ghost use Rattle.ec_book.specs.Books.{IsBookOf};
 
 use crate::gate::Gate;
-use crate::turn::{ALONE, Turn, take_turn};
+use crate::turn::{ALONE, Ended, Turn, take_turn};
 use ec_book::{Book, Taken, Took};
 use ec_units::Units;
 use std::alloc::Global;
@@ -16,7 +16,7 @@ use std::sync::Wait;
 /// The most nodes of one grant.
 const MOST_GRANT: u32 = 4096;
 
-/// Explores a piece until its subtree is reported; no where the worker stops.
+/// Explores a piece until its subtree is reported; else why the worker ends.
 fn worked_off<R: Wait, G: Gate>(
     rt: &R,
     alloc: Global,
@@ -25,7 +25,7 @@ fn worked_off<R: Wait, G: Gate>(
     book: &mut Book,
     took: Took,
     gate: &G,
-) -> bool
+) -> Option<Ended>
     requires order { IsOrder (length units.now.units) order.now }
     requires book { IsBookOf units.now.units units.now.slots order.now book.old }
     requires reached { IsReachedPrefix (line_by slots_alone (loads_of units.now.units) units.now.slots) order.now took.prefix }
@@ -35,15 +35,16 @@ fn worked_off<R: Wait, G: Gate>(
     let mut value = took.value;
     for _ in rt.forever() {
         match take_turn(alloc, units, order, book, &took, value, gate) {
-            Turn::Reported => return true,
+            Turn::Reported => return None,
             Turn::Again(now) => value = now,
-            Turn::Stopped => return false,
+            Turn::Stopped(ended) => return Some(ended),
         }
     }
     unreachable!()
 }
 
-/// Takes pieces, the lowest first, until none can be handed out or memory is refused.
+/// Takes pieces, the lowest first, until none can be handed out, memory is refused or the book refuses a call; says
+/// which.
 pub(crate) fn work<R: Wait, G: Gate>(
     rt: &R,
     alloc: Global,
@@ -51,17 +52,19 @@ pub(crate) fn work<R: Wait, G: Gate>(
     order: &[u8],
     book: &mut Book,
     gate: &G,
-)
+) -> Ended
     requires order { IsOrder (length units.now.units) order.now }
     requires book { IsBookOf units.now.units units.now.slots order.now book.old }
     ensures book { IsBookOf units.now.units units.now.slots order.now book.new }
 {
     for _ in rt.forever() {
-        let Ok(Taken::Piece(took)) = book.take(ALONE, MOST_GRANT) else {
-            return;
+        let took = match book.take(ALONE, MOST_GRANT) {
+            Ok(Taken::Piece(took)) => took,
+            Ok(_) => return Ended::Done,
+            Err(_) => return Ended::Memory,
         };
-        if !worked_off(rt, alloc, units, order, book, took, gate) {
-            return;
+        if let Some(ended) = worked_off(rt, alloc, units, order, book, took, gate) {
+            return ended;
         }
     }
     unreachable!()

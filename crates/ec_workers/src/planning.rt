@@ -123,7 +123,8 @@ pub fn solve<R: Wait, G: Gate + Sync>(
     let order = search_order(alloc, units)?;
     let mut book = Book::new(alloc, units, order.as_slice(), u64::from(nodes))?;
     if offered_greedy(alloc, units, &mut book) {
-        work(rt, alloc, units, order.as_slice(), &mut book, gate);
+        // With one worker the nodes that are spent tell why it ended.
+        let _ended = work(rt, alloc, units, order.as_slice(), &mut book, gate);
     }
     let order_of = Order::new(order);
     let Ok(finished) = book.finish() else {

@@ -8,6 +8,7 @@ ghost use Rattle.ec_symmetry.specs.Orders.{IsOrder, IsReachedPrefix, prefix_of};
 ghost use Rattle.ec_cert.specs.Shapes.{shape_of};
 ghost use Rattle.ec_book.specs.Books.{IsBookOf, IsSameSearch};
 ghost use Rattle.ec_workers.specs.Turns.{IsLowered, FindsLower};
+ghost use Rattle.ec_workers.specs.declared.turn.Ended.{Ended};
 ghost use Rattle.ec_workers.specs.declared.turn.Turn.TheVariants.{Stopped};
 
 use crate::gate::Gate;
@@ -22,14 +23,25 @@ use std::alloc::Global;
 /// The number of the only worker.
 pub(crate) const ALONE: usize = 0;
 
+/// Why a worker ends.
+#[derive(Clone, Copy, Debug)]
+pub(crate) enum Ended {
+    /// Nothing can be handed out any more.
+    Done,
+    /// Memory was refused.
+    Memory,
+    /// The book refused what it was told.
+    Refused,
+}
+
 /// What became of a piece.
 pub(crate) enum Turn {
     /// Its subtree was reported.
     Reported,
     /// It is to be explored again, at this value of the book.
     Again(Option<u64>),
-    /// Memory was refused; the worker stops.
-    Stopped,
+    /// The worker ends.
+    Stopped(Ended),
 }
 
 /// Whether a tree splits or closes a node.
@@ -66,19 +78,19 @@ fn is_lowered(value: Option<u64>, was: Option<u64>) -> bool
     }
 }
 
-/// Gives a piece back; the worker stops.
-fn given_back(book: &mut Book, piece: u64) -> Turn
+/// Gives a piece back; the worker ends, for this reason if the book takes the piece.
+fn given_back(book: &mut Book, piece: u64, why: Ended) -> Turn
     ensures same { IsSameSearch book.old book.new }
-    ensures stops { result ≡ Stopped }
+    ensures stops { (e : Ended) × (result ≡ Stopped e) }
 {
     match book.back(ALONE, piece) {
-        Ok(()) => Turn::Stopped,
-        Err(_) => Turn::Stopped,
+        Ok(()) => Turn::Stopped(why),
+        Err(_) => Turn::Stopped(Ended::Refused),
     }
 }
 
 /// Reports a subtree of the piece, which was explored at a value. It is to be explored again where the book's value
-/// is above the subtree's and below that one; where anything else is refused the worker stops.
+/// is above the subtree's and below that one; where anything else is refused the worker ends.
 fn reported(book: &mut Book, took: &Took, value: Option<u64>, sub: Subtree, stopped: bool) -> Turn
     requires tree { IsPartialTree (line_by slots_alone book.old.loads book.old.slots) sub.threshold (shape_of sub.tree) (prefix_of book.old.loads book.old.order took.now.prefix) (drop (length took.now.prefix) book.old.order) }
     requires some { 0 < node_count (shape_of sub.tree) }
@@ -86,10 +98,11 @@ fn reported(book: &mut Book, took: &Took, value: Option<u64>, sub: Subtree, stop
     ensures again { FindsLower value book.new result }
 {
     match book.report(ALONE, took.piece, took.prefix.as_slice(), sub) {
-        Ok(()) if stopped => Turn::Stopped,
+        Ok(()) if stopped => Turn::Stopped(Ended::Memory),
         Ok(()) => Turn::Reported,
         Err((BookFault::AheadOfBook(now), _)) if is_lowered(now, value) => Turn::Again(now),
-        Err(_) => given_back(book, took.piece),
+        Err((BookFault::OutOfMemory, _)) => given_back(book, took.piece, Ended::Memory),
+        Err(_) => given_back(book, took.piece, Ended::Refused),
     }
 }
 
@@ -127,6 +140,6 @@ pub(crate) fn take_turn<G: Gate>(
     let offered = offer(book, kept);
     match explored {
         Ok(sub) if offered && has_nodes(&sub.tree) => reported(book, took, value, sub, stopped),
-        _ => given_back(book, took.piece),
+        _ => given_back(book, took.piece, Ended::Memory),
     }
 }
