@@ -1,16 +1,18 @@
 -- What a run does, from what its job answers.
-use Rattle.std.proofs.Common.{◌≡◌, ℕ, List, Option, Some, None, Result, Err, ap, ◌∙◌, inl, inr, subst}
+use Rattle.std.proofs.Common.{◌≡◌, ℕ, Bool, true, false, List, [], Option, Some, None, Result, Err, refl, ap, ◌∙◌, inl, inr, subst, arith}
 use Rattle.std.specs.Prelude.{◌⊎◌, ◌≤◌, ◌+◌, IfSome}
 use Rattle.std.specs.Io.KnownBytes.{Appends}
-use Rattle.ec_wire.specs.Stream.{WritesFront, taken}
+use Rattle.ec_wire.specs.Stream.{stream, has_failed, taken, WritesFront}
 use Rattle.ec_lines.specs.declared.answer.Answer.{Answer}
 use Rattle.ec_lines.specs.declared.refusal.Refusal.{Refusal}
 use Rattle.ec_lines.specs.declared.refusal.Refusal.TheVariants as refusal
+use Rattle.ec_lines.specs.declared.job.Job.{Job}
 use Rattle.ec_lines.specs.declared.job.Job.TheVariants as job
+use Rattle.ec_wire.specs.declared.io.Io.{Io}
 use Rattle.ec_answers.specs.Input.{AreUnits, ConsumesAtMost}
 use Rattle.ec_lines.specs.Output.{Written, Answers, IsOutput, IsNoMemory, written_of}
 use Rattle.ec_answers.specs.Planned.{AnswersPlan, GetsCertFront, IsPlanWritten, Any, Gets, GetsFront}
-use Rattle.ec_jobs.specs.Runs.{Use, Reads, Tells, IsFor, Refuses, Costs, Checks, Plans, PlansTo, IsSound, HasFailed, IsKept, before, after}
+use Rattle.ec_jobs.specs.Runs.{Use, used, Lent, either, Reads, Tells, IsFor, Refuses, Costs, Checks, Plans, PlansTo, PlansAway, Does, DoesAlone, DoesAway, IsSound, HasFailed, IsKept, before, after}
 use Rattle.ec_jobs.proofs.TellLemmas.{said_by}
 use Rattle.ec_answers.proofs.PlanLemmas.{plan_said}
 use Rattle.ec_workers.specs.Answers.{Asked}
@@ -25,6 +27,17 @@ pub tells_bytes : {W : Type 0} (answer : Result Answer Refusal) (w : Written) (t
 tells_bytes answer w text code k bytes which same status whole front failed = record {
   written = w;
   said = which;
+  whole = λ sound. ((whole sound).0 ∙ status, subst (Appends (before text) (after text)) same (whole sound).1);
+  front = subst (WritesFront (before text) (after text)) same front;
+  failed = failed;
+}
+
+-- from the bytes of one text
+pub tells_text : {W : Type 0} (w : Written) (text : Use W) (code k : ℕ) (bytes : List ℕ) → bytes ≡ w.text → k ≡ w.code
+    → (IsSound text → (code ≡ k) × Appends (before text) (after text) bytes) → WritesFront (before text) (after text) bytes → (HasFailed text → code ≡ 4) → Tells (λ v. v ≡ w) text code
+tells_text w text code k bytes same status whole front failed = record {
+  written = w;
+  said = refl;
   whole = λ sound. ((whole sound).0 ∙ status, subst (Appends (before text) (after text)) same (whole sound).1);
   front = subst (WritesFront (before text) (after text)) same front;
   failed = failed;
@@ -87,3 +100,55 @@ plans_to asked u o answer told front known any read write kept w is = record {
   failed = λ failed. refuses answer refusal.Write w is (write failed);
   kept = kept;
 }
+
+-- where the units are left, none of them is read
+kept_none : (left : Option (List ℕ)) (most : ℕ) → ConsumesAtMost left left most
+kept_none None most = ([], omega arith, tt)
+kept_none (Some bytes) most = ([], omega arith, refl)
+
+pub reads_nothing : {X : Type 0} (io : Io X) (tells : X → Option (List ℕ)) (most : ℕ) (w : Written) → Refuses refusal.Read w → Reads (used tells io io) most w
+reads_nothing io tells most w said = record { known = kept_none (tells (stream io)) most; any = omega arith; failed = λ failed. said }
+
+some_is : {X : Type 0} (a b : X) → Some a ≡ Some b → a ≡ b
+some_is a b h = cc
+
+either_none : {X : Type 0} (old new : Option X) (none : Type 0) (P : X → X → Type 0) → old ≡ None → either old new none P → none
+either_none None None none P is h = h
+either_none None (Some b) none P is h = absurd h
+either_none (Some a) new none P is h = let bad : Some a ≡ None = is in absurd cc
+
+either_some : {X : Type 0} (old new : Option X) (none : Type 0) (P : X → X → Type 0) (a : X) → old ≡ Some a → either old new none P → (b : X) × P a b
+either_some None new none P a is h = let bad : None ≡ Some a = is in absurd cc
+either_some (Some c) None none P a is h = absurd h
+either_some (Some c) (Some b) none P a is h = let same : c ≡ a = some_is c a is in (b, subst (λ x. P x b) same h)
+
+bool_cases : (b : Bool) → (b ≡ false) ⊎ (b ≡ true)
+bool_cases false = inl refl
+bool_cases true = inr refl
+
+away_known : (left : Option (List ℕ)) (nodes : ℕ) (gets : Option (List ℕ) → Type 0) (w : Written) → IfSome left (λ bytes. (cert : Option (List ℕ)) × IsPlanWritten nodes bytes w cert × gets cert)
+    → IfSome left (λ bytes. Refuses refusal.Write w ⊎ ((cert : Option (List ℕ)) × IsPlanWritten nodes bytes w cert))
+away_known None nodes gets w h = tt
+away_known (Some bytes) nodes gets w h = inr (h.0, h.1)
+
+away_refused : (left : Option (List ℕ)) (nodes : ℕ) (w : Written) → Refuses refusal.Write w → IfSome left (λ bytes. Refuses refusal.Write w ⊎ ((cert : Option (List ℕ)) × IsPlanWritten nodes bytes w cert))
+away_refused None nodes w h = tt
+away_refused (Some bytes) nodes w h = inl h
+
+-- a job without a reader of a certificate, and without a writer of one
+pub does_alone : {R C O : Type 0} (j : Job) (units : Use R) (cert : Lent C) (out : Lent O) → cert.old ≡ None → out.old ≡ None → (w : Written) → Does j units cert out w → DoesAlone j units w
+does_alone job.Cost units cert out none no_out w h = h.0
+does_alone (job.Plan workers nodes) units cert out none no_out w h = either_none out.old out.new _ _ no_out h.0
+does_alone job.Check units cert out none no_out w h = absurd (either_none cert.old cert.new _ _ none h.0)
+
+-- and with one, of which nothing is known
+away : {R O : Type 0} (nodes : ℕ) (units : Use R) (out : Use O) (w : Written) → PlansTo nodes units out w → PlansAway nodes units w
+away nodes units out w h = elim (bool_cases (has_failed out.new)) [
+  | inl sound ↦ record { read = h.read; honest = λ fine. away_known (before units) nodes _ w (h.honest fine sound) }
+  | inr failed ↦ record { read = h.read; honest = λ fine. away_refused (before units) nodes w (h.failed failed) }
+]
+
+pub does_away : {R C O : Type 0} (j : Job) (units : Use R) (cert : Lent C) (out : Lent O) (o : Io O) → cert.old ≡ None → out.old ≡ Some o → (w : Written) → Does j units cert out w → DoesAway j units w
+does_away job.Cost units cert out o none there w h = h.0
+does_away (job.Plan workers nodes) units cert out o none there w h = let to = either_some out.old out.new _ _ o there h.0 in away nodes units (used out.tells o to.0) w to.1
+does_away job.Check units cert out o none there w h = absurd (either_none cert.old cert.new _ _ none h.0)

@@ -1,7 +1,7 @@
 -- What a run does with the readers and writers that it is lent.
-use Rattle.std.specs.Prelude.{◌≡◌, ◌⊎◌, ℕ, ◌+◌, ◌≤◌, true, false, List, Option, Some, None, Result, IfSome, option_map}
+use Rattle.std.specs.Prelude.{◌≡◌, ◌⊎◌, ℕ, ◌+◌, ◌≤◌, true, false, List, Option, Some, None, Result, String, IfSome, option_map}
 use Rattle.std.specs.Io.KnownBytes.{Appends}
-use Rattle.std.proofs.Common.{MutBor, inl, inr}
+use Rattle.std.proofs.Common.{Global, MutBor, inl, inr}
 use Rattle.ec_wire.specs.declared.io.Io.{Io}
 use Rattle.ec_wire.specs.Stream.{stream, has_failed, taken, WritesFront}
 use Rattle.ec_lines.specs.declared.answer.Answer.{Answer}
@@ -136,6 +136,30 @@ Does (job.Plan workers nodes) units cert out w = IfLent out (Plans (asked_for wo
 -- a run does its job, and tells what is to be written for it
 abbrev pub IsRun : {R C W O : Type 0} → Job → Use R → Lent C → Use W → Lent O → ℕ → Type 0
 IsRun j units cert text out code = Tells (Does j units cert out) text code
+
+-- ---- jobs with the paths that they name, of whose files nothing is known
+
+-- a plan is written for the units, or that its certificate couldn't be
+pub record PlansAway {R : Type 0} (nodes : ℕ) (units : Use R) (w : Written) : Type 0 where
+  pub read : Reads units 1048577 w
+  pub honest : IsSound units → IfSome (before units) (λ bytes. Refuses refusal.Write w ⊎ ((cert : Option (List ℕ)) × IsPlanWritten nodes bytes w cert))
+
+-- without the path of a certificate to write; of a check, whose certificate isn't known, only what it reads
+abbrev pub DoesAlone : {R : Type 0} → Job → Use R → Written → Type 0
+DoesAlone job.Cost units w = Costs units w
+DoesAlone (job.Plan workers nodes) units w = Plans nodes units w
+DoesAlone job.Check units w = Reads units 1048577 w
+
+-- and with one
+abbrev pub DoesAway : {R : Type 0} → Job → Use R → Written → Type 0
+DoesAway job.Cost units w = Costs units w
+DoesAway (job.Plan workers nodes) units w = PlansAway nodes units w
+DoesAway job.Check units w = Reads units 1048577 w
+
+-- what a command line does with the units, and what is to be written for it
+abbrev pub DoesLine : {R : Type 0} → Job → Option (String Global) → Use R → Written → Type 0
+DoesLine j None units w = DoesAlone j units w
+DoesLine j (Some path) units w = DoesAway j units w
 
 -- ---- what a caller brings
 

@@ -1,15 +1,16 @@
 //! Does what a command line says, with the paths that it names.
 
-ghost use Rattle.std.specs.Prelude.{◌≡◌, None, true, false};
+ghost use Rattle.std.specs.Prelude.{◌≡◌, None, false};
 ghost use Rattle.ec_wire.specs.Stream.{has_failed};
-ghost use Rattle.ec_jobs.specs.Runs.{used, Tells, Costs};
+ghost use Rattle.ec_jobs.specs.Runs.{used, Tells, Reads, Costs, DoesAlone, DoesAway, DoesLine};
+ghost use Rattle.ec_lines.specs.Output.{refused};
 ghost use Rattle.ec_lines.specs.Words.{HasPath, JobFits};
 
 use crate::job::{Status, write_status};
 use crate::late::Late;
 use crate::plain::run_plain;
 use crate::running::run;
-use ec_lines::{Job, Line};
+use ec_lines::{Job, Line, Refusal};
 use ec_wire::Io;
 use std::alloc::Global;
 use std::io::{Read, Write};
@@ -31,6 +32,14 @@ fn cost_alone<R: Read, W: Write>(alloc: Global, units: &mut Io<R>, text: &mut Io
     run_plain(alloc, &Job::Cost, units, none, text, nowhere)
 }
 
+/// Says that a path can't be opened for reading.
+fn not_opened<W: Write>(text: &mut Io<W>) -> Status
+    requires { has_failed text.old ≡ false }
+    ensures { Tells (λ w. w ≡ refused Refusal.Read) (used W.contents text.old text.new) result.code }
+{
+    write_status(text, NOT_OPENED, 4)
+}
+
 /// Checks the certificate at this path, which is opened before the units are read.
 fn check_at<R: Read, W: Write, F: Files>(
     files: &F,
@@ -41,10 +50,10 @@ fn check_at<R: Read, W: Write, F: Files>(
 ) -> Status
     requires units { has_failed units.old ≡ false }
     requires text { has_failed text.old ≡ false }
-    ensures failed { has_failed text.new ≡ true → result.code ≡ 4 }
+    ensures { Tells (Reads (used R.remaining units.old units.new) 1048577) (used W.contents text.old text.new) result.code }
 {
     let Ok(file) = fs::open(files, path) else {
-        return write_status(text, NOT_OPENED, 4);
+        return not_opened(text);
     };
     let mut cert = Io::new(file);
     let nowhere: Option<&mut Io<io::Sink>> = None;
@@ -64,7 +73,7 @@ fn plan_alone<R: Read, W: Write, T: Wait>(
     requires path { HasPath job.now None }
     requires units { has_failed units.old ≡ false }
     requires text { has_failed text.old ≡ false }
-    ensures failed { has_failed text.new ≡ true → result.code ≡ 4 }
+    ensures { Tells (DoesAlone job.now (used R.remaining units.old units.new)) (used W.contents text.old text.new) result.code }
 {
     let none: Option<&mut Io<io::Empty>> = None;
     let nowhere: Option<&mut Io<io::Sink>> = None;
@@ -85,7 +94,7 @@ fn plan_to<R: Read, W: Write, F: Files, T: Wait>(
     requires path { HasPath job.now None }
     requires units { has_failed units.old ≡ false }
     requires text { has_failed text.old ≡ false }
-    ensures failed { has_failed text.new ≡ true → result.code ≡ 4 }
+    ensures { Tells (DoesAway job.now (used R.remaining units.old units.new)) (used W.contents text.old text.new) result.code }
 {
     let mut out = Io::new(Late::new(files, path));
     let none: Option<&mut Io<io::Empty>> = None;
@@ -106,7 +115,7 @@ pub fn do_line<R: Read, W: Write, F: Files, T: Wait>(
     requires path { HasPath line.now.job line.now.cert }
     requires units { has_failed units.old ≡ false }
     requires text { has_failed text.old ≡ false }
-    ensures failed { has_failed text.new ≡ true → result.code ≡ 4 }
+    ensures { Tells (DoesLine line.now.job line.now.out (used R.remaining units.old units.new)) (used W.contents text.old text.new) result.code }
 {
     match line.job {
         Job::Cost => cost_alone(alloc, units, text),
