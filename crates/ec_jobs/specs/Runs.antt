@@ -140,20 +140,20 @@ IsRun j units cert text out code = Tells (Does j units cert out) text code
 -- ---- jobs with the paths that they name, of whose files nothing is known
 
 -- a plan is written for the units, or that its certificate couldn't be
-pub record PlansAway {R : Type 0} (nodes : ℕ) (units : Use R) (w : Written) : Type 0 where
+pub record PlansAway {R : Type 0} (asked : Asked) (units : Use R) (w : Written) : Type 0 where
   pub read : Reads units 1048577 w
-  pub honest : IsSound units → IfSome (before units) (λ bytes. Refuses refusal.Write w ⊎ ((cert : Option (List ℕ)) × IsPlanWritten nodes bytes w cert))
+  pub honest : IsSound units → IfSome (before units) (λ bytes. Refuses refusal.Write w ⊎ ((cert : Option (List ℕ)) × IsPlanWritten asked bytes w cert))
 
 -- without the path of a certificate to write; of a check, whose certificate isn't known, only what it reads
 abbrev pub DoesAlone : {R : Type 0} → Job → Use R → Written → Type 0
 DoesAlone job.Cost units w = Costs units w
-DoesAlone (job.Plan workers nodes) units w = Plans nodes units w
+DoesAlone (job.Plan workers nodes) units w = Plans (asked_for workers nodes) units w
 DoesAlone job.Check units w = Reads units 1048577 w
 
 -- and with one
 abbrev pub DoesAway : {R : Type 0} → Job → Use R → Written → Type 0
 DoesAway job.Cost units w = Costs units w
-DoesAway (job.Plan workers nodes) units w = PlansAway nodes units w
+DoesAway (job.Plan workers nodes) units w = PlansAway (asked_for workers nodes) units w
 DoesAway job.Check units w = Reads units 1048577 w
 
 -- what a command line does with the units, and what is to be written for it
