@@ -15,7 +15,7 @@ use Rattle.ec_answers.specs.Planned.{AnswersPlan, GetsCertFront, IsPlanWritten, 
 use Rattle.ec_jobs.specs.Runs.{Use, used, Lent, either, Reads, Tells, IsFor, Refuses, Costs, Checks, Plans, PlansTo, PlansAway, Does, DoesAlone, DoesAway, IsSound, HasFailed, IsKept, before, after}
 use Rattle.ec_jobs.proofs.TellLemmas.{said_by}
 use Rattle.ec_answers.proofs.PlanLemmas.{plan_said}
-use Rattle.ec_workers.specs.Answers.{Asked}
+use Rattle.ec_workers.specs.Answers.{Asked, asked_for}
 
 -- what is told is also what follows from it
 pub tells_more : {W : Type 0} {P Q : Written → Type 0} {text : Use W} {code : ℕ} → ((w : Written) → P w → Q w) → Tells P text code → Tells Q text code
@@ -126,14 +126,14 @@ bool_cases : (b : Bool) → (b ≡ false) ⊎ (b ≡ true)
 bool_cases false = inl refl
 bool_cases true = inr refl
 
-away_known : (left : Option (List ℕ)) (nodes : ℕ) (gets : Option (List ℕ) → Type 0) (w : Written) → IfSome left (λ bytes. (cert : Option (List ℕ)) × IsPlanWritten nodes bytes w cert × gets cert)
-    → IfSome left (λ bytes. Refuses refusal.Write w ⊎ ((cert : Option (List ℕ)) × IsPlanWritten nodes bytes w cert))
-away_known None nodes gets w h = tt
-away_known (Some bytes) nodes gets w h = inr (h.0, h.1)
+away_known : (left : Option (List ℕ)) (asked : Asked) (gets : Option (List ℕ) → Type 0) (w : Written) → IfSome left (λ bytes. (cert : Option (List ℕ)) × IsPlanWritten asked bytes w cert × gets cert)
+    → IfSome left (λ bytes. Refuses refusal.Write w ⊎ ((cert : Option (List ℕ)) × IsPlanWritten asked bytes w cert))
+away_known None asked gets w h = tt
+away_known (Some bytes) asked gets w h = inr (h.0, h.1)
 
-away_refused : (left : Option (List ℕ)) (nodes : ℕ) (w : Written) → Refuses refusal.Write w → IfSome left (λ bytes. Refuses refusal.Write w ⊎ ((cert : Option (List ℕ)) × IsPlanWritten nodes bytes w cert))
-away_refused None nodes w h = tt
-away_refused (Some bytes) nodes w h = inl h
+away_refused : (left : Option (List ℕ)) (asked : Asked) (w : Written) → Refuses refusal.Write w → IfSome left (λ bytes. Refuses refusal.Write w ⊎ ((cert : Option (List ℕ)) × IsPlanWritten asked bytes w cert))
+away_refused None asked w h = tt
+away_refused (Some bytes) asked w h = inl h
 
 -- a job without a reader of a certificate, and without a writer of one
 pub does_alone : {R C O : Type 0} (j : Job) (units : Use R) (cert : Lent C) (out : Lent O) → cert.old ≡ None → out.old ≡ None → (w : Written) → Does j units cert out w → DoesAlone j units w
@@ -142,13 +142,13 @@ does_alone (job.Plan workers nodes) units cert out none no_out w h = either_none
 does_alone job.Check units cert out none no_out w h = absurd (either_none cert.old cert.new _ _ none h.0)
 
 -- and with one, of which nothing is known
-away : {R O : Type 0} (nodes : ℕ) (units : Use R) (out : Use O) (w : Written) → PlansTo nodes units out w → PlansAway nodes units w
-away nodes units out w h = elim (bool_cases (has_failed out.new)) [
-  | inl sound ↦ record { read = h.read; honest = λ fine. away_known (before units) nodes _ w (h.honest fine sound) }
-  | inr failed ↦ record { read = h.read; honest = λ fine. away_refused (before units) nodes w (h.failed failed) }
+away : {R O : Type 0} (asked : Asked) (units : Use R) (out : Use O) (w : Written) → PlansTo asked units out w → PlansAway asked units w
+away asked units out w h = elim (bool_cases (has_failed out.new)) [
+  | inl sound ↦ record { read = h.read; honest = λ fine. away_known (before units) asked _ w (h.honest fine sound) }
+  | inr failed ↦ record { read = h.read; honest = λ fine. away_refused (before units) asked w (h.failed failed) }
 ]
 
 pub does_away : {R C O : Type 0} (j : Job) (units : Use R) (cert : Lent C) (out : Lent O) (o : Io O) → cert.old ≡ None → out.old ≡ Some o → (w : Written) → Does j units cert out w → DoesAway j units w
 does_away job.Cost units cert out o none there w h = h.0
-does_away (job.Plan workers nodes) units cert out o none there w h = let to = either_some out.old out.new _ _ o there h.0 in away nodes units (used out.tells o to.0) w to.1
+does_away (job.Plan workers nodes) units cert out o none there w h = let to = either_some out.old out.new _ _ o there h.0 in away (asked_for workers nodes) units (used out.tells o to.0) w to.1
 does_away job.Check units cert out o none there w h = absurd (either_none cert.old cert.new _ _ none h.0)
