@@ -59,7 +59,8 @@ impl<T> Io<T> {
 impl<R: Read> Io<R> {
     ghost use Rattle.ec_wire.specs.Stream.{stream, has_failed, taken};
 
-    /// Reads some bytes into the front of `buf` and says how many; none at the end, or where `buf` is empty.
+    /// Reads some bytes into the front of `buf` and says how many; none at the end, or where `buf` is empty. After a
+    /// fault nothing is known of what `buf` holds.
     pub fn read(&mut self, buf: &mut [u8]) -> Result<usize, IoFault>
         ensures bound { ReadsAtMost result buf.new }
         ensures bytes { ReadConsumes (R.remaining (stream self.old)) (R.remaining (stream self.new)) result buf.new }
