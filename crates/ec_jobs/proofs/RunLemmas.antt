@@ -13,6 +13,7 @@ use Rattle.ec_answers.specs.Planned.{AnswersPlan, GetsCertFront, IsPlanWritten, 
 use Rattle.ec_jobs.specs.Runs.{Use, Reads, Tells, IsFor, Refuses, Costs, Checks, Plans, PlansTo, IsSound, HasFailed, IsKept, before, after}
 use Rattle.ec_jobs.proofs.TellLemmas.{said_by}
 use Rattle.ec_answers.proofs.PlanLemmas.{plan_said}
+use Rattle.ec_workers.specs.Answers.{Asked}
 
 -- what is told is also what follows from it
 pub tells_more : {W : Type 0} {P Q : Written → Type 0} {text : Use W} {code : ℕ} → ((w : Written) → P w → Q w) → Tells P text code → Tells Q text code
@@ -64,24 +65,24 @@ checks u c answer told known any read cert_known cert_any cert_read kept first w
 }
 
 -- a plan
-plan_told : (left : Option (List ℕ)) (nodes : ℕ) (gets : Option (List ℕ) → Type 0) (answer : Result Answer Refusal) (w : Written) → IsFor answer w → IfSome left (AnswersPlan nodes gets answer)
-    → IfSome left (λ bytes. (cert : Option (List ℕ)) × IsPlanWritten nodes bytes w cert × gets cert)
-plan_told None nodes gets answer w is h = tt
-plan_told (Some bytes) nodes gets answer w is h = (h.0, plan_said nodes bytes (written_of answer) w h.0 h.1 is, h.2)
+plan_told : (left : Option (List ℕ)) (asked : Asked) (gets : Option (List ℕ) → Type 0) (answer : Result Answer Refusal) (w : Written) → IsFor answer w → IfSome left (AnswersPlan asked gets answer)
+    → IfSome left (λ bytes. (cert : Option (List ℕ)) × IsPlanWritten asked bytes w cert × gets cert)
+plan_told None asked gets answer w is h = tt
+plan_told (Some bytes) asked gets answer w is h = (h.0, plan_said asked bytes (written_of answer) w h.0 h.1 is, h.2)
 
-plan_alone : (left : Option (List ℕ)) (nodes : ℕ) (answer : Result Answer Refusal) (w : Written) → IsFor answer w → IfSome left (AnswersPlan nodes Any answer) → IfSome left (λ bytes. (cert : Option (List ℕ)) × IsPlanWritten nodes bytes w cert)
-plan_alone None nodes answer w is h = tt
-plan_alone (Some bytes) nodes answer w is h = (h.0, plan_said nodes bytes (written_of answer) w h.0 h.1 is)
+plan_alone : (left : Option (List ℕ)) (asked : Asked) (answer : Result Answer Refusal) (w : Written) → IsFor answer w → IfSome left (AnswersPlan asked Any answer) → IfSome left (λ bytes. (cert : Option (List ℕ)) × IsPlanWritten asked bytes w cert)
+plan_alone None asked answer w is h = tt
+plan_alone (Some bytes) asked answer w is h = (h.0, plan_said asked bytes (written_of answer) w h.0 h.1 is)
 
-pub plans : {R : Type 0} (nodes : ℕ) (u : Use R) (answer : Result Answer Refusal) → (IsSound u → IfSome (before u) (AnswersPlan nodes Any answer)) → ConsumesAtMost (before u) (after u) 1048577 → taken u.new ≤ taken u.old + 1048577 → (HasFailed u → answer ≡ Err refusal.Read) → (w : Written) → IsFor answer w → Plans nodes u w
-plans nodes u answer told known any read w is = record { read = reads u 1048577 answer w is known any read; honest = λ sound. plan_alone (before u) nodes answer w is (told sound) }
+pub plans : {R : Type 0} (asked : Asked) (u : Use R) (answer : Result Answer Refusal) → (IsSound u → IfSome (before u) (AnswersPlan asked Any answer)) → ConsumesAtMost (before u) (after u) 1048577 → taken u.new ≤ taken u.old + 1048577 → (HasFailed u → answer ≡ Err refusal.Read) → (w : Written) → IsFor answer w → Plans asked u w
+plans asked u answer told known any read w is = record { read = reads u 1048577 answer w is known any read; honest = λ sound. plan_alone (before u) asked answer w is (told sound) }
 
-pub plans_to : {R O : Type 0} (nodes : ℕ) (u : Use R) (o : Use O) (answer : Result Answer Refusal) → (IsSound u → IsSound o → IfSome (before u) (AnswersPlan nodes (Gets o.tells o.old o.new) answer))
-    → (IsSound u → IfSome (before u) (GetsCertFront nodes (GetsFront o.tells o.old o.new))) → ConsumesAtMost (before u) (after u) 1048577 → taken u.new ≤ taken u.old + 1048577 → (HasFailed u → answer ≡ Err refusal.Read) → (HasFailed o → answer ≡ Err refusal.Write) → (HasFailed u → IsKept o)
-    → (w : Written) → IsFor answer w → PlansTo nodes u o w
-plans_to nodes u o answer told front known any read write kept w is = record {
+pub plans_to : {R O : Type 0} (asked : Asked) (u : Use R) (o : Use O) (answer : Result Answer Refusal) → (IsSound u → IsSound o → IfSome (before u) (AnswersPlan asked (Gets o.tells o.old o.new) answer))
+    → (IsSound u → IfSome (before u) (GetsCertFront asked (GetsFront o.tells o.old o.new))) → ConsumesAtMost (before u) (after u) 1048577 → taken u.new ≤ taken u.old + 1048577 → (HasFailed u → answer ≡ Err refusal.Read) → (HasFailed o → answer ≡ Err refusal.Write) → (HasFailed u → IsKept o)
+    → (w : Written) → IsFor answer w → PlansTo asked u o w
+plans_to asked u o answer told front known any read write kept w is = record {
   read = reads u 1048577 answer w is known any read;
-  honest = λ units out. plan_told (before u) nodes (Gets o.tells o.old o.new) answer w is (told units out);
+  honest = λ units out. plan_told (before u) asked (Gets o.tells o.old o.new) answer w is (told units out);
   front = front;
   failed = λ failed. refuses answer refusal.Write w is (write failed);
   kept = kept;

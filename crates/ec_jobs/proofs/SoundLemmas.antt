@@ -28,7 +28,7 @@ use Rattle.ec_lines.specs.Refusals.{refusal_code}
 use Rattle.ec_jobs.specs.Sound.{TellsLeast, TellsNoPlan, YesIsTrue}
 
 -- a status of 0 or 1 is no refusal's
-code_above : (r : Refusal) → 3 ≤ refusal_code r
+pub code_above : (r : Refusal) → 3 ≤ refusal_code r
 code_above (refusal.Unit fault.OutOfMemory) = omega arith
 code_above (refusal.Unit f) = omega arith
 code_above (refusal.Illegal f) = omega arith

@@ -13,6 +13,7 @@ use Rattle.ec_answers.specs.Input.{ConsumesAtMost, AreUnits}
 use Rattle.ec_lines.specs.Output.{Written, IsOutput, IsNoMemory, refused, written_of}
 use Rattle.ec_answers.specs.Planned.{IsPlanWritten, GetsCertFront, Gets, GetsFront}
 use Rattle.ec_lines.specs.Refusals.{out_of_memory}
+use Rattle.ec_workers.specs.Answers.{Asked, asked_for}
 
 -- ---- a reader or writer over a call
 
@@ -114,15 +115,15 @@ pub record Checks {R C : Type 0} (units : Use R) (cert : Use C) (w : Written) : 
   pub first : IfSome (before units) (λ bytes. ¬ (AreUnits bytes) → IsKept cert)
 
 -- a plan is written for the units
-pub record Plans {R : Type 0} (nodes : ℕ) (units : Use R) (w : Written) : Type 0 where
+pub record Plans {R : Type 0} (asked : Asked) (units : Use R) (w : Written) : Type 0 where
   pub read : Reads units 1048577 w
-  pub honest : IsSound units → IfSome (before units) (λ bytes. (cert : Option (List ℕ)) × IsPlanWritten nodes bytes w cert)
+  pub honest : IsSound units → IfSome (before units) (λ bytes. (cert : Option (List ℕ)) × IsPlanWritten asked bytes w cert)
 
 -- a plan is written for the units, and before it its certificate, or a front of it where that fails
-pub record PlansTo {R O : Type 0} (nodes : ℕ) (units : Use R) (out : Use O) (w : Written) : Type 0 where
+pub record PlansTo {R O : Type 0} (asked : Asked) (units : Use R) (out : Use O) (w : Written) : Type 0 where
   pub read : Reads units 1048577 w
-  pub honest : IsSound units → IsSound out → IfSome (before units) (λ bytes. (cert : Option (List ℕ)) × IsPlanWritten nodes bytes w cert × Gets out.tells out.old out.new cert)
-  pub front : IsSound units → IfSome (before units) (GetsCertFront nodes (GetsFront out.tells out.old out.new))
+  pub honest : IsSound units → IsSound out → IfSome (before units) (λ bytes. (cert : Option (List ℕ)) × IsPlanWritten asked bytes w cert × Gets out.tells out.old out.new cert)
+  pub front : IsSound units → IfSome (before units) (GetsCertFront asked (GetsFront out.tells out.old out.new))
   pub failed : HasFailed out → Refuses refusal.Write w
   pub kept : HasFailed units → IsKept out
 
@@ -130,7 +131,7 @@ pub record PlansTo {R O : Type 0} (nodes : ℕ) (units : Use R) (out : Use O) (w
 abbrev pub Does : {R C O : Type 0} → Job → Use R → Lent C → Lent O → Written → Type 0
 Does job.Cost units cert out w = Costs units w × IsLeft cert × IsLeft out
 Does job.Check units cert out w = IfLent cert ⊥ (λ c. Checks units c w) × IsLeft out
-Does (job.Plan workers nodes) units cert out w = IfLent out (Plans nodes units w) (λ o. PlansTo nodes units o w) × IsLeft cert
+Does (job.Plan workers nodes) units cert out w = IfLent out (Plans (asked_for workers nodes) units w) (λ o. PlansTo (asked_for workers nodes) units o w) × IsLeft cert
 
 -- a run does its job, and tells what is to be written for it
 abbrev pub IsRun : {R C W O : Type 0} → Job → Use R → Lent C → Use W → Lent O → ℕ → Type 0

@@ -1,11 +1,24 @@
--- What a check's yes is worth.
-use Rattle.std.specs.Prelude.{◌≡◌, ℕ, List, Option, Some, Ok}
+-- What the answers of a check and of a plan are worth.
+use Rattle.std.specs.Prelude.{◌≡◌, ◌≢◌, ℕ, List, ◌++◌, Option, Some, Ok}
+use Rattle.ec_units.specs.declared.slave.Place.{Place}
+use Rattle.ec_units.specs.declared.units.Units.{Units}
+use Rattle.ec_units.specs.Load.{loads_of}
 use Rattle.ec_units.specs.Reading.{reading}
-use Rattle.ec_units.specs.Views.{UnitsView, view_loads}
-use Rattle.ec_loads.specs.Search.{IsLeast, HasNoPlan}
+use Rattle.ec_units.specs.Views.{UnitsView, units_view, view_loads}
+use Rattle.ec_loads.specs.Cost.{plan_items, IsBusiest}
+use Rattle.ec_loads.specs.Legal.{IsLegal}
+use Rattle.ec_loads.specs.Search.{BoundsAll, IsLeast, HasNoPlan}
+use Rattle.ec_cert.specs.Shapes.{CertView}
+use Rattle.ec_cert.specs.Text.{certificate_text}
+use Rattle.ec_checker.specs.declared.fault.Verdict.{Verdict}
+use Rattle.ec_checker.specs.declared.fault.Verdict.TheVariants as verdict
+use Rattle.ec_workers.specs.Answers.{Asked}
+use Rattle.ec_workers.specs.Outcomes.{Shows}
+use Rattle.ec_answers.specs.Planned.{IsPlanWritten}
 use Rattle.ec_lines.specs.declared.job.Job.{Job}
 use Rattle.ec_lines.specs.declared.job.Job.TheVariants as job
-use Rattle.ec_lines.specs.Lines.{least_line, no_plan_line}
+use Rattle.ec_lines.specs.Lines.{least_line, no_plan_line, optimal_line}
+use Rattle.ec_lines.specs.Outcomes.{optimal_text}
 use Rattle.ec_lines.specs.Output.{Written, IsOutput}
 
 -- `least b` is written, and it is true of the units that the bytes say
@@ -30,3 +43,42 @@ YesIsTrue = (bytes cert : List ℕ) (w : Written) → IsOutput job.Check bytes (
 -- what is written is a function of the bytes that are read
 abbrev pub OneOutputEach : Type 0
 OneOutputEach = (j : Job) (bytes : List ℕ) (cert : Option (List ℕ)) (a b : Written) → IsOutput j bytes cert a → IsOutput j bytes cert b → a ≡ b
+
+-- the certificate that is written is one of these units, to which the checker says yes with this verdict
+abbrev pub IsShownBy : Units → Verdict → Option (List ℕ) → Type 0
+IsShownBy us v cert = (c : CertView) × (cert ≡ Some (certificate_text c)) × Shows us.units us.slots c v
+
+-- `optimal b` and a line for each unit are written, and they are true of the units that the bytes say: the plan of these lines is legal and busiest
+-- at b, every legal plan has a tick that costs at least b, and the certificate that is written before shows it
+pub record TellsOptimal (bytes : List ℕ) (w : Written) (cert : Option (List ℕ)) : Type 0 where
+  pub units : Units
+  pub said : reading bytes ≡ Ok (units_view units)
+  pub busiest : ℕ
+  pub plan : List Place
+  pub lines : w.text ≡ optimal_text units.units plan busiest
+  pub legal : IsLegal (loads_of units.units) units.slots plan
+  pub exact : IsBusiest (plan_items (loads_of units.units) plan) units.slots busiest
+  pub bounds : BoundsAll (loads_of units.units) units.slots (Some busiest)
+  pub shown : IsShownBy units (verdict.Least busiest) cert
+
+-- `no plan` is written, it is true of the units that the bytes say, and the certificate that is written before shows it
+pub record TellsWithoutPlan (bytes : List ℕ) (w : Written) (cert : Option (List ℕ)) : Type 0 where
+  pub units : Units
+  pub said : reading bytes ≡ Ok (units_view units)
+  pub line : w.text ≡ no_plan_line
+  pub none : HasNoPlan (loads_of units.units) units.slots
+  pub shown : IsShownBy units verdict.NoPlan cert
+
+-- whatever workers and nodes were asked for, a plan that ends with status 0 or 1 tells the truth
+abbrev pub PlanIsTrue : Type 0
+PlanIsTrue = (asked : Asked) (bytes : List ℕ) (w : Written) (cert : Option (List ℕ)) → IsPlanWritten asked bytes w cert → (w.code ≡ 0 → TellsOptimal bytes w cert) × (w.code ≡ 1 → TellsWithoutPlan bytes w cert)
+
+-- a text begins with the line `optimal b`
+abbrev pub BeginsOptimal : ℕ → Written → Type 0
+BeginsOptimal b w = (rest : List ℕ) × (w.text ≡ optimal_line b ++ rest)
+
+-- two plans of the same bytes, whatever workers and nodes each was asked for, that end with status 0 name one cost; and where one ends so, none ends with status 1
+abbrev pub OneLeastEach : Type 0
+OneLeastEach =
+    (m n : Asked) (bytes : List ℕ) (v w : Written) (c d : Option (List ℕ)) → IsPlanWritten m bytes v c → IsPlanWritten n bytes w d → v.code ≡ 0 →
+    (w.code ≡ 0 → (b : ℕ) × BeginsOptimal b v × BeginsOptimal b w) × (w.code ≢ 1)

@@ -11,6 +11,6 @@ mod running;
 pub use doing::do_line;
 pub use job::{Status, run_plan_to};
 pub use late::Late;
-pub use law::{a_yes_is_true, one_output_each};
+pub use law::{a_plan_is_true, a_yes_is_true, one_least_each, one_output_each};
 pub use plain::run_plain;
 pub use running::run;

@@ -7,7 +7,7 @@ ghost use Rattle.ec_loads.specs.Shape.{open_leaf};
 ghost use Rattle.ec_symmetry.specs.Orders.{IsOrder};
 ghost use Rattle.ec_cert.specs.Shapes.{shape_of};
 ghost use Rattle.ec_checker.specs.Certified.{lines_of as lines_spec};
-ghost use Rattle.ec_workers.specs.Answers.{IsCut, IsOutcome};
+ghost use Rattle.ec_workers.specs.Answers.{Asked, asked_for, IsCut, IsOutcome};
 ghost use Rattle.ec_book.specs.Books.{IsSameSearch};
 ghost use Rattle.ec_workers.specs.Outcomes.{IsFound};
 ghost use Rattle.ec_workers.specs.declared.outcome.Cut.TheVariants.{Budget, Journal, Memory};
@@ -63,7 +63,7 @@ fn proved(
     requires lines { lines ≡ lines_spec units.now.units }
     requires found { IsFound units.now.units units.now.slots order best (shape_of tree) }
     requires closed { open_count (shape_of tree) ≡ 0 }
-    ensures { (nodes : ℕ) → IsOutcome units.now.units units.now.slots nodes result }
+    ensures { (asked : Asked) → IsOutcome units.now.units units.now.slots asked result }
 {
     faults_refute();
     trees_bound();
@@ -92,7 +92,7 @@ fn proved(
 
 /// What comes of a search without its book, and why it ended.
 fn nothing(order: Order, cut: Cut) -> Outcome
-    ensures { (units : List SyncUnit) (n nodes : ℕ) → IsOrder (length units) order → IsCut nodes open_leaf cut → IsOutcome units n nodes result }
+    ensures { (units : List SyncUnit) (n : ℕ) (asked : Asked) → IsOrder (length units) order → IsCut asked open_leaf cut → IsOutcome units n asked result }
 {
     Outcome::Unproved {
         best: None,
@@ -115,7 +115,7 @@ pub fn solve<R: Wait, G: Gate + Sync>(
 ) -> Result<Outcome, SolveFault>
     requires workers { workers ≡ 1 }
     requires nodes { (1 ≤ nodes) × (nodes ≤ 10000000) }
-    ensures outcome { IfOk result (IsOutcome units.now.units units.now.slots nodes) }
+    ensures outcome { IfOk result (IsOutcome units.now.units units.now.slots (asked_for workers nodes)) }
     ensures fault { IfErr result (λ e. e ≡ OutOfMemory) }
 {
     let _ = workers;
