@@ -1,13 +1,12 @@
 -- A tree without open leaves, for units within their limits, has a text.
-use Rattle.std.proofs.Common.{◌≡◌, ℕ, zero, suc, ◌*◌, ◌<◌, ◌≤◌, min, All, List, [], ◌∷◌, length, set, get_or, Option, Some, refl, ap, arith, mul-le-mul}
-use Rattle.std.proofs.lemmas.List.Elements.{All-head, All-tail, All-get_or}
+use Rattle.std.proofs.Common.{◌≡◌, ℕ, zero, suc, ◌<◌, ◌≤◌, All, List, [], ◌∷◌, length, set, Option, Some, refl, ap, arith}
+use Rattle.std.proofs.lemmas.List.Elements.{All-head, All-tail}
 use Rattle.ec_units.specs.declared.slave.Place.{Place}
-use Rattle.ec_units.specs.declared.unit.Load.{Load}
 use Rattle.ec_loads.specs.Held.{AreLoads}
-use Rattle.ec_loads.specs.Line.{Rules, slots_alone, Line}
+use Rattle.ec_loads.specs.Line.{Line}
 use Rattle.ec_loads.specs.Shape.{Leaf, tick, full, average, Shape, Shapes, split, leaf, open_leaf, no_shapes, more, shape_count}
-use Rattle.ec_loads.specs.Search.{Prefix, nobody, used, children_by, children, LeafHolds, TreeWith, TreesWith, HasShortTick, HasShortTicks, HaveShortTicks}
-use Rattle.ec_symmetry.proofs.ChoiceLemmas.{count_all}
+use Rattle.ec_loads.specs.Search.{Prefix, children, LeafHolds, TreeWith, TreesWith, HasShortTick, HasShortTicks, HaveShortTicks}
+use Rattle.ec_symmetry.proofs.RuleLemmas.{children-count}
 use Rattle.ec_cert.specs.Text.{IsLeafLine, HasLevels, HaveLevels}
 
 abbrev closed : Prefix → List ℕ → Type 0
@@ -19,22 +18,6 @@ trees-count line v no_shapes ps u order [] h = refl
 trees-count line v no_shapes ps u order (p ∷ rest) h = absurd h
 trees-count line v (more t ts) ps u order [] h = absurd h
 trees-count line v (more t ts) ps u order (p ∷ rest) h = ap suc (trees-count line v ts ps u order rest h.1)
-
-by_rules-count : (rules : Rules) (loads : List Load) (n : ℕ) (ps : Prefix) (u : ℕ) → AreLoads loads → 1 ≤ n → n ≤ 8 → u < length loads → (1 ≤ length (children_by rules loads n ps u)) × (length (children_by rules loads n ps u) ≤ 480)
-by_rules-count slots_alone loads n ps u within some few h =
-    let l = get_or loads u nobody in
-    let is = All-get_or (λ (x : Load). (1 ≤ x.period) × (x.period ≤ 60) × (x.bytes ≤ 1486)) loads u nobody h within in
-    let count = count_all l.period n (used ps) in
-    let least : 1 ≤ min (suc (used ps)) n = omega arith in
-    let most : min (suc (used ps)) n ≤ 8 = omega arith in
-    let low : 1 * 1 ≤ min (suc (used ps)) n * l.period = mul-le-mul least is.0 in
-    let high : min (suc (used ps)) n * l.period ≤ 8 * 60 = mul-le-mul most is.1 in
-    (omega (arith, count, low), omega (arith, count, high))
-
--- a unit has 1 to 480 children
-children-count : (line : Line) (ps : Prefix) (u : ℕ) → AreLoads line.loads → 1 ≤ line.slots → line.slots ≤ 8 → u < length line.loads → (1 ≤ length (children line ps u)) × (length (children line ps u) ≤ 480)
-unfolding children
-children-count line ps u = by_rules-count line.rules line.loads line.slots ps u
 
 -- a leaf that holds in a tick that is short has a line
 leaf-line : (line : Line) (v : Option ℕ) (ps : Prefix) (l : Leaf) → line.slots ≤ 8 → HasShortTick l → LeafHolds line v ps l → IsLeafLine l
