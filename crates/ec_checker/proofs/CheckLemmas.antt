@@ -94,3 +94,7 @@ refutes units n c (fault.Depth k) other h = λ is. (node_from (loads_of units) n
 -- what the walk found
 pub found_is : (loads : List Load) (n : ℕ) (c : CertView) (held : Held) (value : Option ℕ) (order : List ℕ) (r : Result ℕ CheckFault) → held ≡ record { loads = loads; slots = n; places = no_places loads } → value ≡ value_of c.best → order ≡ c.order → r ≡ tree_judged (line_by slots_alone held.loads held.slots) value c.tree held.places order 0 → r ≡ tree_found loads n c
 found_is loads n c held value order r at val ord is = is ∙ (λ j. tree_judged (line_by slots_alone (at j).loads (at j).slots) (val j) c.tree (at j).places (ord j) 0)
+
+-- what is found in a tree is never want of memory
+pub tree_memory : (loads : List Load) (n : ℕ) (c : CertView) (e : CheckFault) → tree_found loads n c ≡ Err e → e ≡ fault.OutOfMemory → ⊥
+tree_memory loads n c e found is = subst IsNodeFault is (node_from loads n c e found).0

@@ -1,8 +1,10 @@
 //! The checker.
 
-ghost use Rattle.std.specs.Prelude.{IfOk};
+ghost use Rattle.std.specs.Prelude.{◌≡◌, ◌≢◌, IfOk, Err};
 ghost use Rattle.ec_units.specs.Load.{loads_of};
 ghost use Rattle.ec_cert.specs.Shapes.{cert_view};
+ghost use Rattle.ec_loads.specs.Held.{no_places};
+ghost use Rattle.ec_checker.specs.declared.fault.CheckFault.TheVariants.{OutOfMemory};
 ghost use Rattle.ec_checker.specs.Certified.{IsAnswer, IsClaim};
 
 use crate::best::value_of;
@@ -21,10 +23,16 @@ use std::alloc::Global;
 /// that none is legal. A yes says so of every legal plan; a no is the first fault: of the units, the order, the
 /// plan, its stated cost, and then of the tree, node by node.
 ///
-/// It takes memory once, for the places of the units, and visits each node once.
-pub fn check(alloc: Global, units: &Units, cert: &Cert) -> Result<Verdict, CheckFault>
+/// The loads are those of the units, with no place, and are so again afterwards. Takes no memory, and visits each
+/// node once.
+pub fn check_in(loads: &mut Loads, units: &Units, cert: &Cert) -> Result<Verdict, CheckFault>
+    requires { loads.old ≡ record { loads = loads_of units.now.units; slots = units.now.slots; places = no_places (loads_of units.now.units) } }
+    ensures same { loads.new ≡ loads.old }
     ensures sound { IfOk result (IsClaim (loads_of units.now.units) units.now.slots cert.now.best) }
     ensures exact { IsAnswer units.now.units units.now.slots (cert_view cert.now) result }
+
+    // Memory is never what is wanting.
+    ensures memory { result ≢ Err OutOfMemory }
 {
     trees_bound();
     if !is_for(units, cert) {
@@ -35,11 +43,19 @@ pub fn check(alloc: Global, units: &Units, cert: &Cert) -> Result<Verdict, Check
         return Err(CheckFault::Order);
     }
     let value = value_of(units, &cert.best)?;
-    let mut loads = Loads::new(alloc, units)?;
     let mut rest = Rest::all(units);
-    walk(&mut loads, &mut rest, value, order, &cert.tree, 0)?;
+    walk(loads, &mut rest, value, order, &cert.tree, 0)?;
     match value {
         Some(value) => Ok(Verdict::Least(value)),
         None => Ok(Verdict::NoPlan),
     }
+}
+
+/// What `check_in` answers, over loads that are made for it. It takes memory once, for the places of the units.
+pub fn check(alloc: Global, units: &Units, cert: &Cert) -> Result<Verdict, CheckFault>
+    ensures sound { IfOk result (IsClaim (loads_of units.now.units) units.now.slots cert.now.best) }
+    ensures exact { IsAnswer units.now.units units.now.slots (cert_view cert.now) result }
+{
+    let mut loads = Loads::new(alloc, units)?;
+    check_in(&mut loads, units, cert)
 }

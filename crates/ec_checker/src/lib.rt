@@ -10,6 +10,6 @@ mod order;
 mod same;
 mod walk;
 
-pub use checking::check;
+pub use checking::{check, check_in};
 pub use fault::{CheckFault, Verdict};
 pub use law::faults_refute;
