@@ -11,26 +11,27 @@ use Rattle.ec_wire.specs.declared.io.Io.{Io}
 use Rattle.ec_wire.specs.Stream.{stream, WritesFront}
 use Rattle.ec_lines.specs.Outcomes.{outcome_output}
 use Rattle.ec_lines.specs.Refusals.{out_of_memory}
+use Rattle.ec_workers.specs.Answers.{Asked}
 
 -- what is answered where there is an outcome, and where there is none
-answered : (nodes : ℕ) (bytes : List ℕ) (us : Units) (o : Outcome) (answer : Result Answer Refusal) (gets : Option (List ℕ) → Type 0) → IsPlanOf nodes bytes us o → IfOk answer (λ a. shown a ≡ outcome_output us.units o)
-    → IfErr answer (λ r. (r ≡ out_of_memory) × gets None) → IfOk answer (λ _. gets (outcome_cert o)) → AnswersPlan nodes gets answer bytes
-answered nodes bytes us o (Ok a) gets plan ok err got = (outcome_cert o, inl (record { units = us; found = o; answer = plan; text = ok; certificate = refl }), got)
-answered nodes bytes us o (Err r) gets plan ok err got = (None, inr (record { refusal = r; fault = inr (inl err.0); line = refl; certificate = refl }), err.1)
+answered : (asked : Asked) (bytes : List ℕ) (us : Units) (o : Outcome) (answer : Result Answer Refusal) (gets : Option (List ℕ) → Type 0) → IsPlanOf asked bytes us o → IfOk answer (λ a. shown a ≡ outcome_output us.units o)
+    → IfErr answer (λ r. (r ≡ out_of_memory) × gets None) → IfOk answer (λ _. gets (outcome_cert o)) → AnswersPlan asked gets answer bytes
+answered asked bytes us o (Ok a) gets plan ok err got = (outcome_cert o, inl (record { units = us; found = o; answer = plan; text = ok; certificate = refl }), got)
+answered asked bytes us o (Err r) gets plan ok err got = (None, inr (record { refusal = r; fault = inr (inl err.0); line = refl; certificate = refl }), err.1)
 
-pub answered_known : (left : Option (List ℕ)) (nodes : ℕ) (us : Units) (o : Outcome) (answer : Result Answer Refusal) (gets : Option (List ℕ) → Type 0) → IfSome left (PlansFrom nodes (Ok (us, o))) → IfOk answer (λ a. shown a ≡ outcome_output us.units o)
-    → IfErr answer (λ r. (r ≡ out_of_memory) × gets None) → IfOk answer (λ _. gets (outcome_cert o)) → IfSome left (AnswersPlan nodes gets answer)
-answered_known None nodes us o answer gets plan ok err got = tt
-answered_known (Some bytes) nodes us o answer gets plan ok err got = answered nodes bytes us o answer gets plan ok err got
+pub answered_known : (left : Option (List ℕ)) (asked : Asked) (us : Units) (o : Outcome) (answer : Result Answer Refusal) (gets : Option (List ℕ) → Type 0) → IfSome left (PlansFrom asked (Ok (us, o))) → IfOk answer (λ a. shown a ≡ outcome_output us.units o)
+    → IfErr answer (λ r. (r ≡ out_of_memory) × gets None) → IfOk answer (λ _. gets (outcome_cert o)) → IfSome left (AnswersPlan asked gets answer)
+answered_known None asked us o answer gets plan ok err got = tt
+answered_known (Some bytes) asked us o answer gets plan ok err got = answered asked bytes us o answer gets plan ok err got
 
-pub unplanned_known : (left : Option (List ℕ)) (nodes : ℕ) (r : Refusal) (answer : Result Answer Refusal) (gets : Option (List ℕ) → Type 0) → answer ≡ Err r → IfSome left (PlansFrom nodes (Err r)) → gets None → IfSome left (AnswersPlan nodes gets answer)
-unplanned_known None nodes r answer gets is fault got = tt
-unplanned_known (Some bytes) nodes r answer gets is fault got = (None, inr (record { refusal = r; fault = fault; line = ap written_of is; certificate = refl }), got)
+pub unplanned_known : (left : Option (List ℕ)) (asked : Asked) (r : Refusal) (answer : Result Answer Refusal) (gets : Option (List ℕ) → Type 0) → answer ≡ Err r → IfSome left (PlansFrom asked (Err r)) → gets None → IfSome left (AnswersPlan asked gets answer)
+unplanned_known None asked r answer gets is fault got = tt
+unplanned_known (Some bytes) asked r answer gets is fault got = (None, inr (record { refusal = r; fault = fault; line = ap written_of is; certificate = refl }), got)
 
 -- the front of a certificate
-pub front_known : (left : Option (List ℕ)) (nodes : ℕ) (us : Units) (o : Outcome) (gets : Option (List ℕ) → Type 0) → IfSome left (PlansFrom nodes (Ok (us, o))) → gets (outcome_cert o) → IfSome left (GetsCertFront nodes gets)
-front_known None nodes us o gets plan got = tt
-front_known (Some bytes) nodes us o gets plan got = (outcome_cert o, inl (us, o, plan, refl), got)
+pub front_known : (left : Option (List ℕ)) (asked : Asked) (us : Units) (o : Outcome) (gets : Option (List ℕ) → Type 0) → IfSome left (PlansFrom asked (Ok (us, o))) → gets (outcome_cert o) → IfSome left (GetsCertFront asked gets)
+front_known None asked us o gets plan got = tt
+front_known (Some bytes) asked us o gets plan got = (outcome_cert o, inl (us, o, plan, refl), got)
 
 -- nothing is a front of each certificate
 front_empty : (held : Option (List ℕ)) (bytes : List ℕ) → WritesFront held held bytes

@@ -14,7 +14,7 @@ use Rattle.ec_cert.specs.Text.{IsWellFormed, certificate_text}
 use Rattle.ec_workers.specs.declared.outcome.Cut.{Cut}
 use Rattle.ec_workers.specs.declared.outcome.Outcome.{Outcome}
 use Rattle.ec_workers.specs.declared.outcome.Outcome.TheVariants as outcome
-use Rattle.ec_workers.specs.Answers.{IsOutcome}
+use Rattle.ec_workers.specs.Answers.{Asked, IsOutcome}
 use Rattle.ec_lines.specs.declared.answer.Answer.{Answer}
 use Rattle.ec_lines.specs.declared.refusal.Refusal.{Refusal}
 use Rattle.ec_answers.specs.Input.{IsUnitsFault}
@@ -35,25 +35,25 @@ HasText (outcome.NoPlan cert) = IsWellFormed (cert_view cert)
 HasText (outcome.Unproved best order tree why) = Unit {0}
 
 -- what comes of a search over the units that the bytes say, with this budget
-pub record IsPlanOf (nodes : ℕ) (bytes : List ℕ) (us : Units) (o : Outcome) : Type 0 where
+pub record IsPlanOf (asked : Asked) (bytes : List ℕ) (us : Units) (o : Outcome) : Type 0 where
   pub short : length bytes ≤ 1048576
   pub said : reading bytes ≡ Ok (units_view us)
-  pub answer : IsOutcome us.units us.slots nodes o
+  pub answer : IsOutcome us.units us.slots asked o
 
 -- why bytes have no outcome: they give no units, or memory ran out
 abbrev pub IsPlanFault : List ℕ → Refusal → Type 0
 IsPlanFault bytes r = IsUnitsFault bytes r ⊎ IsPlanMemory r
 
 -- units with an outcome that bytes have, or why they have none
-abbrev pub PlansFrom : ℕ → Result (Units × Outcome) Refusal → List ℕ → Type 0
-PlansFrom nodes (Ok found) bytes = IsPlanOf nodes bytes found.0 found.1
-PlansFrom nodes (Err r) bytes = IsPlanFault bytes r
+abbrev pub PlansFrom : Asked → Result (Units × Outcome) Refusal → List ℕ → Type 0
+PlansFrom asked (Ok found) bytes = IsPlanOf asked bytes found.0 found.1
+PlansFrom asked (Err r) bytes = IsPlanFault bytes r
 
 -- written is the text of this outcome, and this is its certificate, if it has one
-pub record IsOutcomeWritten (nodes : ℕ) (bytes : List ℕ) (w : Written) (cert : Option (List ℕ)) : Type 0 where
+pub record IsOutcomeWritten (asked : Asked) (bytes : List ℕ) (w : Written) (cert : Option (List ℕ)) : Type 0 where
   pub units : Units
   pub found : Outcome
-  pub answer : IsPlanOf nodes bytes units found
+  pub answer : IsPlanOf asked bytes units found
   pub text : w ≡ outcome_output units.units found
   pub certificate : cert ≡ outcome_cert found
 
@@ -65,12 +65,12 @@ pub record IsUnplanned (bytes : List ℕ) (w : Written) (cert : Option (List ℕ
   pub certificate : cert ≡ None
 
 -- what is written for the bytes of units, and the certificate that is written before it
-abbrev pub IsPlanWritten : ℕ → List ℕ → Written → Option (List ℕ) → Type 0
-IsPlanWritten nodes bytes w cert = IsOutcomeWritten nodes bytes w cert ⊎ IsUnplanned bytes w cert
+abbrev pub IsPlanWritten : Asked → List ℕ → Written → Option (List ℕ) → Type 0
+IsPlanWritten asked bytes w cert = IsOutcomeWritten asked bytes w cert ⊎ IsUnplanned bytes w cert
 
 -- a certificate of the units that bytes say, or none
-abbrev pub IsCertOf : ℕ → List ℕ → Option (List ℕ) → Type 0
-IsCertOf nodes bytes cert = ((us : Units) × (o : Outcome) × IsPlanOf nodes bytes us o × (cert ≡ outcome_cert o)) ⊎ (cert ≡ None)
+abbrev pub IsCertOf : Asked → List ℕ → Option (List ℕ) → Type 0
+IsCertOf asked bytes cert = ((us : Units) × (o : Outcome) × IsPlanOf asked bytes us o × (cert ≡ outcome_cert o)) ⊎ (cert ≡ None)
 
 -- a writer gets a certificate; where there is none it is left as it was
 abbrev pub Gets : {O : Type 0} → (O → Option (List ℕ)) → Io O → Io O → Option (List ℕ) → Type 0
@@ -87,9 +87,9 @@ abbrev pub Any : Option (List ℕ) → Type 0
 Any cert = Unit {0}
 
 -- an answer is what is written for the bytes, and the certificate goes where it shall
-abbrev pub AnswersPlan : ℕ → (Option (List ℕ) → Type 0) → Result Answer Refusal → List ℕ → Type 0
-AnswersPlan nodes gets answer bytes = (cert : Option (List ℕ)) × IsPlanWritten nodes bytes (written_of answer) cert × gets cert
+abbrev pub AnswersPlan : Asked → (Option (List ℕ) → Type 0) → Result Answer Refusal → List ℕ → Type 0
+AnswersPlan asked gets answer bytes = (cert : Option (List ℕ)) × IsPlanWritten asked bytes (written_of answer) cert × gets cert
 
 -- the front of a certificate goes where it shall
-abbrev pub GetsCertFront : ℕ → (Option (List ℕ) → Type 0) → List ℕ → Type 0
-GetsCertFront nodes gets bytes = (cert : Option (List ℕ)) × IsCertOf nodes bytes cert × gets cert
+abbrev pub GetsCertFront : Asked → (Option (List ℕ) → Type 0) → List ℕ → Type 0
+GetsCertFront asked gets bytes = (cert : Option (List ℕ)) × IsCertOf asked bytes cert × gets cert

@@ -1,7 +1,7 @@
 //! What a plan answers, and the certificate that it writes before.
 
 ghost use Rattle.std.specs.Prelude.{◌≡◌, ◌+◌, ◌≤◌, true, false, IfOk, IfErr, IfSome, OnOk, OnErr};
-ghost use Rattle.ec_workers.specs.Answers.{IsOutcome};
+ghost use Rattle.ec_workers.specs.Answers.{IsOutcome, asked_for};
 ghost use Rattle.ec_wire.specs.Stream.{stream, has_failed, taken};
 ghost use Rattle.ec_answers.specs.Input.{ConsumesAtMost};
 ghost use Rattle.ec_lines.specs.Outcomes.{HasPlaces, outcome_output};
@@ -75,8 +75,8 @@ fn planned<R: Read, T: Wait>(
     requires workers { workers ≡ 1 }
     requires nodes { (1 ≤ nodes) × (nodes ≤ 10000000) }
     requires fresh { has_failed units.old ≡ false }
-    ensures told { has_failed units.new ≡ false → IfSome (R.remaining (stream units.old)) (PlansFrom nodes result) }
-    ensures outcome { IfOk result (λ found. IsOutcome found.0.units found.0.slots nodes found.1) }
+    ensures told { has_failed units.new ≡ false → IfSome (R.remaining (stream units.old)) (PlansFrom (asked_for workers nodes) result) }
+    ensures outcome { IfOk result (λ found. IsOutcome found.0.units found.0.slots (asked_for workers nodes) found.1) }
     ensures read { has_failed units.new ≡ true → result ≡ Err Refusal.Read }
     ensures consumed { ConsumesAtMost (R.remaining (stream units.old)) (R.remaining (stream units.new)) 1048577 }
     ensures taken { taken units.new ≤ taken units.old + 1048577 }
@@ -97,7 +97,7 @@ pub fn plan_answer<R: Read, T: Wait>(
     requires workers { workers ≡ 1 }
     requires nodes { (1 ≤ nodes) × (nodes ≤ 10000000) }
     requires fresh { has_failed units.old ≡ false }
-    ensures told { has_failed units.new ≡ false → IfSome (R.remaining (stream units.old)) (AnswersPlan nodes Any result) }
+    ensures told { has_failed units.new ≡ false → IfSome (R.remaining (stream units.old)) (AnswersPlan (asked_for workers nodes) Any result) }
     ensures read { has_failed units.new ≡ true → result ≡ Err Refusal.Read }
     ensures consumed { ConsumesAtMost (R.remaining (stream units.old)) (R.remaining (stream units.new)) 1048577 }
     ensures taken { taken units.new ≤ taken units.old + 1048577 }
@@ -120,8 +120,8 @@ pub fn certified_answer<R: Read, T: Wait, O: Write>(
     requires fresh { has_failed units.old ≡ false }
     requires out { has_failed out.old ≡ false }
     ensures told { has_failed units.new ≡ false → has_failed out.new ≡ false → IfSome (R.remaining (stream units.old))
-        (AnswersPlan nodes (Gets O.contents out.old out.new) result) }
-    ensures front { has_failed units.new ≡ false → IfSome (R.remaining (stream units.old)) (GetsCertFront nodes (GetsFront O.contents out.old out.new)) }
+        (AnswersPlan (asked_for workers nodes) (Gets O.contents out.old out.new) result) }
+    ensures front { has_failed units.new ≡ false → IfSome (R.remaining (stream units.old)) (GetsCertFront (asked_for workers nodes) (GetsFront O.contents out.old out.new)) }
     ensures read { has_failed units.new ≡ true → result ≡ Err Refusal.Read }
     ensures unwritten { has_failed out.new ≡ true → result ≡ Err Refusal.Write }
     ensures kept { has_failed units.new ≡ true → out.new ≡ out.old }

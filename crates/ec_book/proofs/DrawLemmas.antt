@@ -119,6 +119,12 @@ nodes_suc (t ∷ ts) (suc i) x h is = let rest = nodes_suc ts i x (le_of_suc-le-
 pub nodes_step : (ts : List Tree) (i : ℕ) (x : Tree) → i < length ts → x ≡ get_or ts i x → node_counts (shapes_of (take (i + 1) ts)) ≡ node_counts (shapes_of (take i ts)) + node_count (shape_of x)
 nodes_step ts i x h is = rw add-one (nodes_suc ts i x h is)
 
+-- a child has no more open leaves than all have
+pub opens_child : (ts : List Tree) (i : ℕ) (x : Tree) → i < length ts → x ≡ get_or ts i x → open_count (shape_of x) ≤ open_counts (shapes_of ts)
+opens_child [] i x h is = absurd (not-suc-le-zero h)
+opens_child (t ∷ ts) zero x h is = let same = ap (λ w. open_count (shape_of w)) is in omega (arith, same)
+opens_child (t ∷ ts) (suc i) x h is = let rest = opens_child ts i x (le_of_suc-le-suc h) is in omega (arith, rest)
+
 -- one child fewer
 pub rows_done : (f : ℕ → Shape) (ts ls : List Tree) (i k : ℕ) (child new : Tree) → i < length ls → slice_get ts i ≡ Some child → shape_of new ≡ draw f (numbered k (shape_of child))
     → shapes_of (drop (suc i) ls) ≡ draws f (all_numbered (k + open_count (shape_of child)) (shapes_of (drop (suc i) ts))) → shapes_of (drop i (set ls i new)) ≡ draws f (all_numbered k (shapes_of (drop i ts)))

@@ -36,5 +36,5 @@ module _ (line : Line) (order : List ℕ) (pieces : List Piece) (prefixes : List
   pub drawn-open : (shape : Shape) → shape ≡ plain tree → open_count shape ≡ live_count pieces
   drawn-open shape is = ap open_count is ∙ gaps-plain (StandsAt line.loads order prefixes) line value tree (no_places line.loads) order h.tree ∙ h.pieces_are.count_is
 
-  pub drawn-closed : (shape : Shape) → shape ≡ plain tree → live_count pieces ≡ 0 → IsTree line value shape (no_places line.loads) order
-  drawn-closed shape is none = tree-closed (λ _ _. Unit {0}) (λ _ _. ⊥) line value shape (no_places line.loads) order (drawn-open shape is ∙ none) (drawn-partial shape is).0
+  pub drawn-closed : (shape : Shape) → shape ≡ plain tree → open_count shape ≡ 0 → IsTree line value shape (no_places line.loads) order
+  drawn-closed shape is none = tree-closed (λ _ _. Unit {0}) (λ _ _. ⊥) line value shape (no_places line.loads) order none (drawn-partial shape is).0

@@ -3,18 +3,15 @@ use Rattle.std.proofs.Common.{◌≡◌, ℕ, ◌+◌, ◌-◌, ◌<◌, ◌≤�
 use Rattle.std.proofs.lemmas.List.{drop_more, drop_all}
 use Rattle.ec_units.specs.declared.slave.Place.{Place}
 use Rattle.ec_units.specs.declared.unit.Load.{Load}
-use Rattle.ec_loads.specs.Line.{slots_alone, Line, line_by}
-use Rattle.ec_loads.specs.Search.{nobody, places_for, different_numbers, children}
+use Rattle.ec_loads.specs.Line.{Line}
+use Rattle.ec_loads.specs.Search.{children}
 use Rattle.ec_loads.specs.Shape.{split, more}
 use Rattle.ec_cert.specs.declared.tree.Tree.{Tree, Split}
 use Rattle.ec_cert.specs.Shapes.{shape_of, shapes_of}
 use Rattle.ec_cert.proofs.TreeLemmas.{shape_of-Split, shapes_of-drop}
-use Rattle.ec_symmetry.specs.Orders.{IsOrder, prefix_of}
-use Rattle.ec_symmetry.proofs.InLemmas.{children-is}
-use Rattle.ec_symmetry.proofs.SlotLemmas.{slots_of}
-use Rattle.ec_symmetry.proofs.ReachLemmas.{used-same}
+use Rattle.ec_symmetry.specs.Orders.{prefix_of}
 use Rattle.ec_book.specs.Open.{leaf_places, all_leaf_places, open_places}
-use Rattle.ec_book.proofs.OrderLemmas.{slots-prefix, leads-more}
+use Rattle.ec_book.proofs.OrderLemmas.{leads-more}
 
 -- what these trees leave open, for these children of the unit
 abbrev pub opened_from : Line → List ℕ → List Tree → ℕ → List Place → List Place → List (List Place)
@@ -24,18 +21,11 @@ opened_from line order ts u q kids = all_leaf_places line (shapes_of ts) (prefix
 abbrev pub opened_all : Line → List ℕ → List Tree → ℕ → List Place → List (List Place)
 opened_all line order ts u q = opened_from line order ts u q (children line (prefix_of line.loads order q) u)
 
--- the children after the places of a path are those of its prefix
-kids-after : (loads : List Load) (n : ℕ) (order : List ℕ) (u : ℕ) (q kids : List Place) → IsOrder (length loads) order → length q ≤ length order
-    → kids ≡ places_for (get_or loads u nobody).period n (different_numbers (slots_of q)) → kids ≡ children (line_by slots_alone loads n) (prefix_of loads order q) u
-kids-after loads n order u q kids is short e =
-    e ∙ ap (places_for (get_or loads u nobody).period n) (sym (used-same (prefix_of loads order q) q (slots-prefix loads order q is short)))
-    ∙ sym (children-is loads n (prefix_of loads order q) u)
-
 -- before the walk over them all trees of the split are left
-pub opened_first : (loads : List Load) (n : ℕ) (order : List ℕ) (ts : List Tree) (u : ℕ) (q path kids : List Place) (out : List (List Place)) → IsOrder (length loads) order → length q ≤ length order → path ≡ q
-    → kids ≡ places_for (get_or loads u nobody).period n (different_numbers (slots_of path)) → out ++ opened_from (line_by slots_alone loads n) order ts u q kids ≡ out ++ opened_all (line_by slots_alone loads n) order ts u q
-opened_first loads n order ts u q path kids out is short same e =
-    ap (λ w. out ++ opened_from (line_by slots_alone loads n) order ts u q w) (kids-after loads n order u q kids is short (e ∙ ap (λ w. places_for (get_or loads u nobody).period n (different_numbers (slots_of w))) same))
+pub opened_first : (line : Line) (order : List ℕ) (ts : List Tree) (u w : ℕ) (q path kids : List Place) (out : List (List Place)) → path ≡ q → w ≡ u
+    → kids ≡ children line (prefix_of line.loads order path) w → out ++ opened_from line order ts u q kids ≡ out ++ opened_all line order ts u q
+opened_first line order ts u w q path kids out same next e =
+    ap (λ k. out ++ opened_from line order ts u q k) (e ∙ (λ j. children line (prefix_of line.loads order (same j)) (next j)))
 
 pub leads-here : (loads : List Load) (order : List ℕ) (q : List Place) (u : ℕ) → length q < length order → u ≡ get_or order (length q) 0 → u ∷ drop (length q + 1) order ≡ drop (length q) order
 leads-here loads order q u h is = (λ j. is j ∷ drop (length q + 1) order) ∙ sym (drop_more order (length q) 0 h)

@@ -1,37 +1,13 @@
 -- Orders of units, and the prefixes that places make along them.
-use Rattle.std.proofs.Common.{◌≡◌, ℕ, ◌≤◌, ◌==◌, false, List, [], ◌∷◌, ◌++◌, length, set, drop, Some, refl, ap, sym, subst, ◌∙◌, arith}
-use Rattle.std.specs.List.{list_any}
-use Rattle.std.proofs.lemmas.Bool.{or_parts}
+use Rattle.std.proofs.Common.{◌≡◌, ℕ, ◌≤◌, List, [], ◌∷◌, ◌++◌, length, set, drop, Some, ap, sym, subst, ◌∙◌, arith}
 use Rattle.ec_units.specs.declared.slave.Place.{Place}
 use Rattle.ec_units.specs.declared.unit.Load.{Load}
 use Rattle.ec_loads.specs.Held.{no_places}
 use Rattle.ec_loads.specs.Line.{Line}
 use Rattle.ec_loads.specs.Search.{Prefix, children}
 use Rattle.ec_symmetry.specs.Reached.{In}
-use Rattle.ec_symmetry.specs.Orders.{has_repeat, IsOrder, with_places, prefix_of, AreChildren, IsReachedPrefix}
-use Rattle.ec_symmetry.proofs.FreeLemmas.{AreFree, AreFree-set, AreFree-none}
-use Rattle.ec_symmetry.proofs.ReachLemmas.{SameSlots, SameSlots-none, SameSlots-more}
+use Rattle.ec_symmetry.specs.Orders.{with_places, AreChildren, IsReachedPrefix}
 use Rattle.ec_book.specs.Open.{LeadsTo}
-
--- the places of a prefix are in the slots of the prefix
-slots-along : (ps : Prefix) (us : List ℕ) (before q : List Place) → has_repeat us ≡ false → AreFree ps us → length q ≤ length us → SameSlots ps before → SameSlots (with_places ps us q) (before ++ q)
-slots-along ps us before [] once free short same = subst (λ w. SameSlots ps w) (sym (append-nil before)) same
-  where
-    append-nil : (xs : List Place) → xs ++ [] ≡ xs
-    append-nil [] = refl
-    append-nil (x ∷ xs) = ap (λ w. x ∷ w) (append-nil xs)
-slots-along ps [] before (p ∷ q) once free short same = absurd (omega arith)
-slots-along ps (u ∷ us) before (p ∷ q) once free short same =
-    let parts = or_parts (list_any (λ w. u == w) us) (has_repeat us) once in
-    let more = slots-along (set ps u (Some p)) us (before ++ p ∷ []) q parts.1 (AreFree-set ps u (Some p) us parts.0 free.1) (omega arith) (SameSlots-more ps before u p free.0 same) in
-    subst (λ w. SameSlots (with_places (set ps u (Some p)) us q) w) (assoc before p q) more
-  where
-    assoc : (a : List Place) (p : Place) (c : List Place) → (a ++ p ∷ []) ++ c ≡ a ++ (p ∷ c)
-    assoc [] p c = refl
-    assoc (x ∷ a) p c = ap (λ w. x ∷ w) (assoc a p c)
-
-pub slots-prefix : (loads : List Load) (order : List ℕ) (q : List Place) → IsOrder (length loads) order → length q ≤ length order → SameSlots (prefix_of loads order q) q
-slots-prefix loads order q is short = slots-along (no_places loads) order [] q is.once (AreFree-none loads order is.below) short (SameSlots-none loads)
 
 with-more : (ps : Prefix) (us : List ℕ) (q : List Place) (p : Place) (u : ℕ) (rest : List ℕ) → u ∷ rest ≡ drop (length q) us → with_places ps us (q ++ p ∷ []) ≡ set (with_places ps us q) u (Some p)
 with-more ps [] [] p u rest e = absurd (cc)

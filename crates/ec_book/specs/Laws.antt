@@ -1,11 +1,11 @@
 -- Laws of books.
-use Rattle.std.specs.Prelude.{◌≡◌, ◌⊎◌, ℕ, ◌≤◌, List, Option}
+use Rattle.std.specs.Prelude.{◌≡◌, ◌⊎◌, ℕ, ◌≤◌, List, [], Option}
 use Rattle.ec_loads.specs.Line.{Line}
 use Rattle.ec_loads.specs.Shape.{Shape}
 use Rattle.ec_loads.specs.Search.{Prefix, IsPartialTree, IsAtMost}
 use Rattle.ec_book.specs.declared.step.Step.{Step}
 use Rattle.ec_book.specs.Steps.{PiecesState, IsHistory, replay, taken_count, live_count}
-use Rattle.ec_book.specs.Views.{BookView}
+use Rattle.ec_book.specs.Views.{BookView, state_of, opening}
 use Rattle.ec_book.specs.Faults.{HasNothing}
 
 -- a partial tree at a value is one at each smaller value
@@ -19,3 +19,7 @@ HistoriesReplay = (n : ℕ) (s : PiecesState) (es : List Step) (t : PiecesState)
 -- where nothing can be handed out and no piece is taken, no piece is left or all nodes are spent
 abbrev pub DoneIsSpent : Type 0
 DoneIsSpent = (b : BookView) → b.spent ≤ b.nodes → HasNothing b → taken_count b.pieces ≡ 0 → (live_count b.pieces ≡ 0) ⊎ (b.spent ≡ b.nodes)
+
+-- a book with an empty log has spent nothing
+abbrev pub EmptyLogsSpendNothing : Type 0
+EmptyLogsSpendNothing = (b : BookView) → IsHistory b.nodes (opening b) b.log (state_of b) → b.log ≡ [] → b.spent ≡ 0

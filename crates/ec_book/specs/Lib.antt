@@ -7,3 +7,4 @@ pub mod Kept
 pub mod Faults
 pub mod Finishing
 pub mod Laws
+pub mod Books

@@ -8,7 +8,7 @@ use Rattle.ec_book.specs.declared.step.Step.{Step}
 use Rattle.ec_book.specs.declared.step.Step.TheVariants.{Took, Reported, Better, Back}
 use Rattle.ec_book.specs.declared.piece.Piece.{Piece}
 use Rattle.ec_book.specs.declared.piece.Piece.TheVariants.{Free, Taken, Ended}
-use Rattle.ec_book.specs.Steps.{PiecesState}
+use Rattle.ec_book.specs.Steps.{PiecesState, start}
 
 -- the units' loads and the slot count, the order of the units, the nodes that may be spent; the pieces by their numbers and the places that lead to each;
 -- the best plan; the nodes spent; what happened
@@ -29,6 +29,14 @@ book_view loads slots order nodes pieces prefixes best spent log =
 
 abbrev pub state_of : BookView → PiecesState
 state_of b = record { pieces = b.pieces; value = value_of b.best; spent = b.spent }
+
+-- how a book's search began, before its log
+abbrev pub opening : BookView → PiecesState
+opening b = start
+
+-- the nodes of the tree that a book's search was given
+abbrev pub given_nodes : BookView → ℕ
+given_nodes b = 0
 
 -- the piece is taken, and that is written down
 abbrev pub after_took : BookView → ℕ → ℕ → ℕ → BookView

@@ -2,20 +2,19 @@
 
 ghost use Rattle.std.specs.Prelude.{◌≡◌, ◌≢◌, ℕ, ◌+◌, ◌<◌, ◌≤◌, ◌^◌, ◌++◌, ◌∷◌, [], IfOk, IfSome, IfErr, OnOk, OnErr, OnSome, IfNone, ◌↔◌, MatchOption, None, Some, length, slice_get, replicate, drop, vec_capacity, vec_len};
 ghost use Rattle.ec_units.specs.Load.{loads_of};
-ghost use Rattle.ec_loads.specs.Held.{no_places};
 ghost use Rattle.ec_loads.specs.Line.{slots_alone, line_by};
-ghost use Rattle.ec_loads.specs.Search.{IsTree, IsPartialTree, node_count as node_count_of, open_count};
+ghost use Rattle.ec_loads.specs.Search.{IsPartialTree, node_count as node_count_of};
 ghost use Rattle.ec_cert.specs.Shapes.{shape_of};
 ghost use Rattle.ec_symmetry.specs.Orders.{IsOrder, prefix_of};
 ghost use Rattle.ec_book.specs.declared.piece.Piece.TheVariants.{Free};
-ghost use Rattle.ec_book.specs.Steps.{start, live_one, live_count, IsHistory, replay};
+ghost use Rattle.ec_book.specs.Steps.{live_one, live_count, IsHistory};
 ghost use Rattle.ec_book.specs.Open.{open_places};
-ghost use Rattle.ec_cert.specs.BestPlan.{value_of, IsBestPlan};
-ghost use Rattle.ec_book.specs.Views.{book_view, state_of, after_back, after_better, after_report};
+ghost use Rattle.ec_cert.specs.BestPlan.{value_of};
+ghost use Rattle.ec_book.specs.Views.{book_view, state_of, opening, after_back, after_better, after_report};
 ghost use Rattle.ec_book.specs.Kept.{NoneFreeBelow};
 ghost use Rattle.ec_book.specs.Faults.{IsLowestFree, IsHandedOut, IsHoldFault, IsBetterFault, IsPlanOf, IsReportFault, IsTakenBy, IsWelcome};
 ghost use Rattle.ec_book.specs.Steps.{IsBelow};
-ghost use Rattle.ec_book.specs.Finishing.{ShowsPieces};
+ghost use Rattle.ec_book.specs.Finishing.{IsFinishedOf};
 ghost use Rattle.ec_book.specs.declared.fault.BookFault.TheVariants.{OutOfMemory};
 
 use crate::fault::BookFault;
@@ -318,7 +317,7 @@ impl Book {
     /// The log: every step so far.
     pub fn log(&self) -> &[Step]
         ensures value { result.now ≡ self.now.log }
-        ensures history { IsHistory self.now.nodes start result.now (state_of self.now) }
+        ensures history { IsHistory self.now.nodes (opening self.now) result.now (state_of self.now) }
     {
         self.log.as_slice()
     }
@@ -341,14 +340,7 @@ impl Book {
     /// What came of the search; it takes time and memory in proportion to the whole. Where memory runs out the book is
     /// handed back.
     pub fn finish(self) -> Result<Finished, (Book, AllocError)>
-        ensures best { IfOk result (λ f. (f.best ≡ self.best) × IsBestPlan self.loads self.slots f.best) }
-        ensures tree { IfOk result (λ f. IsPartialTree (line_by slots_alone self.loads self.slots) (value_of self.best) (shape_of f.tree) (no_places self.loads) self.order) }
-        ensures closed { IfOk result (λ f. live_count self.pieces ≡ 0 → IsTree (line_by slots_alone self.loads self.slots) (value_of self.best) (shape_of f.tree) (no_places self.loads) self.order) }
-        ensures pieces { IfOk result (λ f. ShowsPieces self (shape_of f.tree)) }
-        ensures nodes { IfOk result (λ f. (f.spent ≡ self.spent) × (node_count_of (shape_of f.tree) ≡ self.spent)) }
-        ensures open { IfOk result (λ f. open_count (shape_of f.tree) ≡ live_count self.pieces) }
-        ensures log { IfOk result (λ f. f.log ≡ self.log) }
-        ensures history { IfOk result (λ f. IsHistory self.nodes start f.log (state_of self) × (replay start f.log ≡ state_of self)) }
+        ensures ok { IfOk result (IsFinishedOf self) }
         ensures err { IfErr result (λ e. e.0 ≡ self) }
     {
         let alloc = *self.log.allocator();

@@ -1,6 +1,6 @@
 //! Laws of books.
 
-ghost use Rattle.ec_book.specs.Laws.{TreesFall, HistoriesReplay, DoneIsSpent};
+ghost use Rattle.ec_book.specs.Laws.{TreesFall, HistoriesReplay, DoneIsSpent, EmptyLogsSpendNothing};
 
 /// A partial tree at a value is one at each smaller value.
 pub fn trees_fall()
@@ -15,4 +15,9 @@ pub fn histories_replay()
 /// Where a worker is told that the search is done, no piece is left or all nodes are spent.
 pub fn done_is_spent()
     ensures { DoneIsSpent }
+{}
+
+/// A book with an empty log has spent nothing.
+pub fn empty_logs_spend_nothing()
+    ensures { EmptyLogsSpendNothing }
 {}

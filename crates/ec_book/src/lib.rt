@@ -16,7 +16,8 @@ mod tree;
 
 pub use book::{Book, Finished};
 pub use fault::BookFault;
-pub use law::{done_is_spent, histories_replay, trees_fall};
+pub use law::{done_is_spent, empty_logs_spend_nothing, histories_replay, trees_fall};
 pub use piece::Piece;
 pub use step::{Step, Steps};
 pub use taken::{Taken, Took};
+pub use tree::is_closed;

@@ -1,6 +1,6 @@
 //! Trees whose open leaves are filled.
 
-ghost use Rattle.std.specs.Prelude.{◌≡◌, ◌+◌, ◌-◌, ◌<◌, ◌≤◌, ◌^◌, ◌++◌, length, take};
+ghost use Rattle.std.specs.Prelude.{◌≡◌, ◌+◌, ◌-◌, ◌<◌, ◌≤◌, ◌^◌, ◌++◌, ◌↔◌, IsTrue, length, take};
 ghost use Rattle.ec_cert.specs.Shapes.{shape_of};
 ghost use Rattle.ec_loads.specs.Search.{open_count};
 ghost use Rattle.ec_book.specs.Numbered.{numbered, draw};
@@ -30,5 +30,23 @@ pub(crate) fn filled(tree: Tree, built: &mut Vec<Tree>) -> Tree
             None => unreachable!(),
         },
         closed => closed,
+    }
+}
+
+/// Whether no leaf of a tree is open. Each node is visited once at most, and no recursion is deeper than the tree.
+pub fn is_closed(tree: &Tree) -> bool
+    ensures { IsTrue result ↔ (open_count (shape_of tree.now) ≡ 0) }
+{
+    match tree {
+        Tree::Split(trees) => {
+            for i in 0..trees.len() {
+                if !is_closed(&trees[i]) {
+                    return false;
+                }
+            }
+            true
+        }
+        Tree::OpenLeaf => false,
+        _ => true,
     }
 }

@@ -87,7 +87,7 @@ mutual
 text-order : (units : ℕ) (order : List ℕ) → units ≤ 48 → AllByRecursion (λ i. i < units) order → are_text (order_line order) ≡ true
 text-order units order few h = text-append (flat_map index_word order) _ (text-flat_map index_word (λ i. i < units) (text-index units few) order h) refl
 
-text-certificate : (c : CertView) → IsWellFormed c → are_text (certificate_text c) ≡ true
+pub text-certificate : (c : CertView) → IsWellFormed c → are_text (certificate_text c) ≡ true
 text-certificate c f =
     let tree = text-append (node_lines c.tree) (codes "end\n") (text-nodes 49 c.tree f.tree) refl in
     let best = text-append (best_lines c.best) (tree_lines c.tree) (text-best (length c.units) c.best f.best) tree in

@@ -1,5 +1,8 @@
 pub mod ByteLaws
+pub mod CloserLemmas
 pub mod DecimalLemmas
+pub mod FrontLaws
+pub mod FrontLemmas
 pub mod HeadLaws
 pub mod LineLemmas
 pub mod ManyLaws
@@ -7,6 +10,7 @@ pub mod ManyLemmas
 pub mod NameLemmas
 pub mod NodeLaws
 pub mod NumberLemmas
+pub mod PartLaws
 pub mod TextLaws
 pub mod TreeLemmas
 pub mod WordLaws

@@ -25,7 +25,7 @@ nothing_found p x e =
       | inr y ↦ let (l, read, then) = bind_ok (line_at p) (λ l. Err (fault.Late p.line)) x y.1 in absurd cc
     ]
 
-end_found : (p : At) (x : Unit {0}) → end_at p ≡ Ok x → p.rest ≡ codes "end\n"
+pub end_found : (p : At) (x : Unit {0}) → end_at p ≡ Ok x → p.rest ≡ codes "end\n"
 unfolding end_at
 end_found p x e =
     let (l, read, then) = bind_ok (line_at p) _ x e in

@@ -1,4 +1,5 @@
 pub mod BestPlan
+pub mod Fronts
 pub mod Reading
 pub mod Shapes
 pub mod Text

@@ -11,7 +11,7 @@ use Rattle.ec_units.proofs.Viewed.{loads_of-views}
 use Rattle.ec_loads.specs.Cost.{plan_items, tick_cost, IsBusiest}
 use Rattle.ec_loads.specs.Search.{IsLeast, HasNoPlan}
 use Rattle.ec_cert.specs.Shapes.{cert_view}
-use Rattle.ec_workers.specs.Answers.{IsOutcome}
+use Rattle.ec_workers.specs.Answers.{Asked, IsOutcome}
 use Rattle.ec_workers.specs.declared.outcome.Outcome.{Outcome}
 use Rattle.ec_workers.specs.declared.outcome.Outcome.TheVariants as outcome
 use Rattle.ec_lines.specs.declared.refusal.Refusal.{Refusal}
@@ -34,26 +34,26 @@ refusal_true bytes w cert r is =
     )
 
 -- the text of an outcome says what the outcome does
-outcome_true : (nodes : ℕ) (bytes : List ℕ) (us : Units) (o : Outcome) (w : Written) (cert : Option (List ℕ)) → reading bytes ≡ Ok (units_view us) → IsOutcome us.units us.slots nodes o → w ≡ outcome_output us.units o → cert ≡ outcome_cert o → Truth bytes w cert
-outcome_true nodes bytes us (outcome.Optimal plan b c) w cert said h is kept =
+outcome_true : (asked : Asked) (bytes : List ℕ) (us : Units) (o : Outcome) (w : Written) (cert : Option (List ℕ)) → reading bytes ≡ Ok (units_view us) → IsOutcome us.units us.slots asked o → w ≡ outcome_output us.units o → cert ≡ outcome_cert o → Truth bytes w cert
+outcome_true asked bytes us (outcome.Optimal plan b c) w cert said h is kept =
     let code : w.code ≡ 0 = ap (λ (v : Written). v.code) is in (
       λ zero. (record { units = us; said = said; busiest = b; plan = plan.places; lines = ap (λ (v : Written). v.text) is; legal = h.legal; exact = h.busiest; bounds = h.bounds; shown = (cert_view c, kept, h.shows) }),
       λ one. absurd (omega (arith, code, one)),
     )
-outcome_true nodes bytes us (outcome.NoPlan c) w cert said h is kept =
+outcome_true asked bytes us (outcome.NoPlan c) w cert said h is kept =
     let code : w.code ≡ 1 = ap (λ (v : Written). v.code) is in (
       λ zero. absurd (omega (arith, code, zero)),
       λ one. (record { units = us; said = said; line = ap (λ (v : Written). v.text) is; none = h.none; shown = (cert_view c, kept, h.shows) }),
     )
-outcome_true nodes bytes us (outcome.Unproved best order tree why) w cert said h is kept =
+outcome_true asked bytes us (outcome.Unproved best order tree why) w cert said h is kept =
     let code : w.code ≡ 2 = ap (λ (v : Written). v.code) is in (
       λ zero. absurd (omega (arith, code, zero)),
       λ one. absurd (omega (arith, code, one)),
     )
 
 pub plan_true : PlanIsTrue
-plan_true nodes bytes w cert (inl h) = outcome_true nodes bytes h.units h.found w cert h.answer.said h.answer.answer h.text h.certificate
-plan_true nodes bytes w cert (inr h) = refusal_true bytes w cert h.refusal h.line
+plan_true asked bytes w cert (inl h) = outcome_true asked bytes h.units h.found w cert h.answer.said h.answer.answer h.text h.certificate
+plan_true asked bytes w cert (inr h) = refusal_true bytes w cert h.refusal h.line
 
 -- units that the same bytes say
 same_ok : (r : Result UnitsView UnitFault) (u v : UnitsView) → r ≡ Ok u → r ≡ Ok v → u ≡ v

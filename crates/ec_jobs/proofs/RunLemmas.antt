@@ -20,6 +20,7 @@ use Rattle.ec_lines.specs.Refusals.{out_of_memory, refusal_code}
 use Rattle.ec_units.specs.declared.unit.Unit.{Unit as SyncUnit}
 use Rattle.ec_workers.specs.declared.outcome.Outcome.{Outcome}
 use Rattle.ec_workers.specs.declared.outcome.Outcome.TheVariants as outcome
+use Rattle.ec_workers.specs.Answers.{Asked, asked_for}
 
 -- what is told is also what follows from it
 pub tells_more : {W : Type 0} {P Q : Written → Type 0} {text : Use W} {code : ℕ} → ((w : Written) → P w → Q w) → Tells P text code → Tells Q text code
@@ -91,32 +92,32 @@ outcome_below us (outcome.Optimal plan b cert) = omega arith
 outcome_below us (outcome.NoPlan cert) = omega arith
 outcome_below us (outcome.Unproved best order tree why) = omega arith
 
-plan_said : (nodes : ℕ) (bytes : List ℕ) (answer : Result Answer Refusal) (w : Written) (cert : Option (List ℕ)) → IsPlanWritten nodes bytes (written_of answer) cert → IsFor answer w → IsPlanWritten nodes bytes w cert
-plan_said nodes bytes (Ok a) w cert h is = subst (λ (x : Written). IsPlanWritten nodes bytes x cert) (sym is) h
-plan_said nodes bytes (Err r) w cert h (inl is) = subst (λ (x : Written). IsPlanWritten nodes bytes x cert) (sym is) h
-plan_said nodes bytes (Err r) w cert (inl h) (inr is) =
+plan_said : (asked : Asked) (bytes : List ℕ) (answer : Result Answer Refusal) (w : Written) (cert : Option (List ℕ)) → IsPlanWritten asked bytes (written_of answer) cert → IsFor answer w → IsPlanWritten asked bytes w cert
+plan_said asked bytes (Ok a) w cert h is = subst (λ (x : Written). IsPlanWritten asked bytes x cert) (sym is) h
+plan_said asked bytes (Err r) w cert h (inl is) = subst (λ (x : Written). IsPlanWritten asked bytes x cert) (sym is) h
+plan_said asked bytes (Err r) w cert (inl h) (inr is) =
     let code : refusal_code r ≡ (outcome_output h.units.units h.found).code = ap (λ (v : Written). v.code) h.text in
     absurd (omega (arith, code, code_above r, outcome_below h.units.units h.found))
-plan_said nodes bytes (Err r) w cert (inr h) (inr is) = inr (record { refusal = out_of_memory; fault = inr (inl refl); line = is; certificate = h.certificate })
+plan_said asked bytes (Err r) w cert (inr h) (inr is) = inr (record { refusal = out_of_memory; fault = inr (inl refl); line = is; certificate = h.certificate })
 
-plan_told : (left : Option (List ℕ)) (nodes : ℕ) (gets : Option (List ℕ) → Type 0) (answer : Result Answer Refusal) (w : Written) → IsFor answer w → IfSome left (AnswersPlan nodes gets answer)
-    → IfSome left (λ bytes. (cert : Option (List ℕ)) × IsPlanWritten nodes bytes w cert × gets cert)
-plan_told None nodes gets answer w is h = tt
-plan_told (Some bytes) nodes gets answer w is h = (h.0, plan_said nodes bytes answer w h.0 h.1 is, h.2)
+plan_told : (left : Option (List ℕ)) (asked : Asked) (gets : Option (List ℕ) → Type 0) (answer : Result Answer Refusal) (w : Written) → IsFor answer w → IfSome left (AnswersPlan asked gets answer)
+    → IfSome left (λ bytes. (cert : Option (List ℕ)) × IsPlanWritten asked bytes w cert × gets cert)
+plan_told None asked gets answer w is h = tt
+plan_told (Some bytes) asked gets answer w is h = (h.0, plan_said asked bytes answer w h.0 h.1 is, h.2)
 
-plan_alone : (left : Option (List ℕ)) (nodes : ℕ) (answer : Result Answer Refusal) (w : Written) → IsFor answer w → IfSome left (AnswersPlan nodes Any answer) → IfSome left (λ bytes. (cert : Option (List ℕ)) × IsPlanWritten nodes bytes w cert)
-plan_alone None nodes answer w is h = tt
-plan_alone (Some bytes) nodes answer w is h = (h.0, plan_said nodes bytes answer w h.0 h.1 is)
+plan_alone : (left : Option (List ℕ)) (asked : Asked) (answer : Result Answer Refusal) (w : Written) → IsFor answer w → IfSome left (AnswersPlan asked Any answer) → IfSome left (λ bytes. (cert : Option (List ℕ)) × IsPlanWritten asked bytes w cert)
+plan_alone None asked answer w is h = tt
+plan_alone (Some bytes) asked answer w is h = (h.0, plan_said asked bytes answer w h.0 h.1 is)
 
-pub plans : {R : Type 0} (nodes : ℕ) (u : Use R) (answer : Result Answer Refusal) → (IsSound u → IfSome (before u) (AnswersPlan nodes Any answer)) → ConsumesAtMost (before u) (after u) 1048577 → taken u.new ≤ taken u.old + 1048577 → (HasFailed u → answer ≡ Err refusal.Read) → (w : Written) → IsFor answer w → Plans nodes u w
-plans nodes u answer told known any read w is = record { read = reads u 1048577 answer w is known any read; honest = λ sound. plan_alone (before u) nodes answer w is (told sound) }
+pub plans : {R : Type 0} (asked : Asked) (u : Use R) (answer : Result Answer Refusal) → (IsSound u → IfSome (before u) (AnswersPlan asked Any answer)) → ConsumesAtMost (before u) (after u) 1048577 → taken u.new ≤ taken u.old + 1048577 → (HasFailed u → answer ≡ Err refusal.Read) → (w : Written) → IsFor answer w → Plans asked u w
+plans asked u answer told known any read w is = record { read = reads u 1048577 answer w is known any read; honest = λ sound. plan_alone (before u) asked answer w is (told sound) }
 
-pub plans_to : {R O : Type 0} (nodes : ℕ) (u : Use R) (o : Use O) (answer : Result Answer Refusal) → (IsSound u → IsSound o → IfSome (before u) (AnswersPlan nodes (Gets o.tells o.old o.new) answer))
-    → (IsSound u → IfSome (before u) (GetsCertFront nodes (GetsFront o.tells o.old o.new))) → ConsumesAtMost (before u) (after u) 1048577 → taken u.new ≤ taken u.old + 1048577 → (HasFailed u → answer ≡ Err refusal.Read) → (HasFailed o → answer ≡ Err refusal.Write) → (HasFailed u → IsKept o)
-    → (w : Written) → IsFor answer w → PlansTo nodes u o w
-plans_to nodes u o answer told front known any read write kept w is = record {
+pub plans_to : {R O : Type 0} (asked : Asked) (u : Use R) (o : Use O) (answer : Result Answer Refusal) → (IsSound u → IsSound o → IfSome (before u) (AnswersPlan asked (Gets o.tells o.old o.new) answer))
+    → (IsSound u → IfSome (before u) (GetsCertFront asked (GetsFront o.tells o.old o.new))) → ConsumesAtMost (before u) (after u) 1048577 → taken u.new ≤ taken u.old + 1048577 → (HasFailed u → answer ≡ Err refusal.Read) → (HasFailed o → answer ≡ Err refusal.Write) → (HasFailed u → IsKept o)
+    → (w : Written) → IsFor answer w → PlansTo asked u o w
+plans_to asked u o answer told front known any read write kept w is = record {
   read = reads u 1048577 answer w is known any read;
-  honest = λ units out. plan_told (before u) nodes (Gets o.tells o.old o.new) answer w is (told units out);
+  honest = λ units out. plan_told (before u) asked (Gets o.tells o.old o.new) answer w is (told units out);
   front = front;
   failed = λ failed. refuses answer refusal.Write w is (write failed);
   kept = kept;
@@ -147,14 +148,14 @@ bool_cases : (b : Bool) → (b ≡ false) ⊎ (b ≡ true)
 bool_cases false = inl refl
 bool_cases true = inr refl
 
-away_known : (left : Option (List ℕ)) (nodes : ℕ) (gets : Option (List ℕ) → Type 0) (w : Written) → IfSome left (λ bytes. (cert : Option (List ℕ)) × IsPlanWritten nodes bytes w cert × gets cert)
-    → IfSome left (λ bytes. Refuses refusal.Write w ⊎ ((cert : Option (List ℕ)) × IsPlanWritten nodes bytes w cert))
-away_known None nodes gets w h = tt
-away_known (Some bytes) nodes gets w h = inr (h.0, h.1)
+away_known : (left : Option (List ℕ)) (asked : Asked) (gets : Option (List ℕ) → Type 0) (w : Written) → IfSome left (λ bytes. (cert : Option (List ℕ)) × IsPlanWritten asked bytes w cert × gets cert)
+    → IfSome left (λ bytes. Refuses refusal.Write w ⊎ ((cert : Option (List ℕ)) × IsPlanWritten asked bytes w cert))
+away_known None asked gets w h = tt
+away_known (Some bytes) asked gets w h = inr (h.0, h.1)
 
-away_refused : (left : Option (List ℕ)) (nodes : ℕ) (w : Written) → Refuses refusal.Write w → IfSome left (λ bytes. Refuses refusal.Write w ⊎ ((cert : Option (List ℕ)) × IsPlanWritten nodes bytes w cert))
-away_refused None nodes w h = tt
-away_refused (Some bytes) nodes w h = inl h
+away_refused : (left : Option (List ℕ)) (asked : Asked) (w : Written) → Refuses refusal.Write w → IfSome left (λ bytes. Refuses refusal.Write w ⊎ ((cert : Option (List ℕ)) × IsPlanWritten asked bytes w cert))
+away_refused None asked w h = tt
+away_refused (Some bytes) asked w h = inl h
 
 -- a job without a reader of a certificate, and without a writer of one
 pub does_alone : {R C O : Type 0} (j : Job) (units : Use R) (cert : Lent C) (out : Lent O) → cert.old ≡ None → out.old ≡ None → (w : Written) → Does j units cert out w → DoesAlone j units w
@@ -163,13 +164,13 @@ does_alone (job.Plan workers nodes) units cert out none no_out w h = either_none
 does_alone job.Check units cert out none no_out w h = absurd (either_none cert.old cert.new _ _ none h.0)
 
 -- and with one, of which nothing is known
-away : {R O : Type 0} (nodes : ℕ) (units : Use R) (out : Use O) (w : Written) → PlansTo nodes units out w → PlansAway nodes units w
-away nodes units out w h = elim (bool_cases (has_failed out.new)) [
-  | inl sound ↦ record { read = h.read; honest = λ fine. away_known (before units) nodes _ w (h.honest fine sound) }
-  | inr failed ↦ record { read = h.read; honest = λ fine. away_refused (before units) nodes w (h.failed failed) }
+away : {R O : Type 0} (asked : Asked) (units : Use R) (out : Use O) (w : Written) → PlansTo asked units out w → PlansAway asked units w
+away asked units out w h = elim (bool_cases (has_failed out.new)) [
+  | inl sound ↦ record { read = h.read; honest = λ fine. away_known (before units) asked _ w (h.honest fine sound) }
+  | inr failed ↦ record { read = h.read; honest = λ fine. away_refused (before units) asked w (h.failed failed) }
 ]
 
 pub does_away : {R C O : Type 0} (j : Job) (units : Use R) (cert : Lent C) (out : Lent O) (o : Io O) → cert.old ≡ None → out.old ≡ Some o → (w : Written) → Does j units cert out w → DoesAway j units w
 does_away job.Cost units cert out o none there w h = h.0
-does_away (job.Plan workers nodes) units cert out o none there w h = let to = either_some out.old out.new _ _ o there h.0 in away nodes units (used out.tells o to.0) w to.1
+does_away (job.Plan workers nodes) units cert out o none there w h = let to = either_some out.old out.new _ _ o there h.0 in away (asked_for workers nodes) units (used out.tells o to.0) w to.1
 does_away job.Check units cert out o none there w h = absurd (either_none cert.old cert.new _ _ none h.0)

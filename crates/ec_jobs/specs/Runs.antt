@@ -13,6 +13,7 @@ use Rattle.ec_answers.specs.Input.{ConsumesAtMost, AreUnits}
 use Rattle.ec_lines.specs.Output.{Written, IsOutput, IsNoMemory, refused, shown}
 use Rattle.ec_answers.specs.Planned.{IsPlanWritten, GetsCertFront, Gets, GetsFront}
 use Rattle.ec_lines.specs.Refusals.{out_of_memory}
+use Rattle.ec_workers.specs.Answers.{Asked, asked_for}
 
 -- ---- a reader or writer over a call
 
@@ -115,15 +116,15 @@ pub record Checks {R C : Type 0} (units : Use R) (cert : Use C) (w : Written) : 
   pub first : IfSome (before units) (λ bytes. ¬ (AreUnits bytes) → IsKept cert)
 
 -- a plan is written for the units
-pub record Plans {R : Type 0} (nodes : ℕ) (units : Use R) (w : Written) : Type 0 where
+pub record Plans {R : Type 0} (asked : Asked) (units : Use R) (w : Written) : Type 0 where
   pub read : Reads units 1048577 w
-  pub honest : IsSound units → IfSome (before units) (λ bytes. (cert : Option (List ℕ)) × IsPlanWritten nodes bytes w cert)
+  pub honest : IsSound units → IfSome (before units) (λ bytes. (cert : Option (List ℕ)) × IsPlanWritten asked bytes w cert)
 
 -- a plan is written for the units, and before it its certificate, or a front of it where that fails
-pub record PlansTo {R O : Type 0} (nodes : ℕ) (units : Use R) (out : Use O) (w : Written) : Type 0 where
+pub record PlansTo {R O : Type 0} (asked : Asked) (units : Use R) (out : Use O) (w : Written) : Type 0 where
   pub read : Reads units 1048577 w
-  pub honest : IsSound units → IsSound out → IfSome (before units) (λ bytes. (cert : Option (List ℕ)) × IsPlanWritten nodes bytes w cert × Gets out.tells out.old out.new cert)
-  pub front : IsSound units → IfSome (before units) (GetsCertFront nodes (GetsFront out.tells out.old out.new))
+  pub honest : IsSound units → IsSound out → IfSome (before units) (λ bytes. (cert : Option (List ℕ)) × IsPlanWritten asked bytes w cert × Gets out.tells out.old out.new cert)
+  pub front : IsSound units → IfSome (before units) (GetsCertFront asked (GetsFront out.tells out.old out.new))
   pub failed : HasFailed out → Refuses refusal.Write w
   pub kept : HasFailed units → IsKept out
 
@@ -131,7 +132,7 @@ pub record PlansTo {R O : Type 0} (nodes : ℕ) (units : Use R) (out : Use O) (w
 abbrev pub Does : {R C O : Type 0} → Job → Use R → Lent C → Lent O → Written → Type 0
 Does job.Cost units cert out w = Costs units w × IsLeft cert × IsLeft out
 Does job.Check units cert out w = IfLent cert ⊥ (λ c. Checks units c w) × IsLeft out
-Does (job.Plan workers nodes) units cert out w = IfLent out (Plans nodes units w) (λ o. PlansTo nodes units o w) × IsLeft cert
+Does (job.Plan workers nodes) units cert out w = IfLent out (Plans (asked_for workers nodes) units w) (λ o. PlansTo (asked_for workers nodes) units o w) × IsLeft cert
 
 -- a run does its job, and tells what is to be written for it
 abbrev pub IsRun : {R C W O : Type 0} → Job → Use R → Lent C → Use W → Lent O → ℕ → Type 0
@@ -140,20 +141,20 @@ IsRun j units cert text out code = Tells (Does j units cert out) text code
 -- ---- jobs with the paths that they name, of whose files nothing is known
 
 -- a plan is written for the units, or that its certificate couldn't be
-pub record PlansAway {R : Type 0} (nodes : ℕ) (units : Use R) (w : Written) : Type 0 where
+pub record PlansAway {R : Type 0} (asked : Asked) (units : Use R) (w : Written) : Type 0 where
   pub read : Reads units 1048577 w
-  pub honest : IsSound units → IfSome (before units) (λ bytes. Refuses refusal.Write w ⊎ ((cert : Option (List ℕ)) × IsPlanWritten nodes bytes w cert))
+  pub honest : IsSound units → IfSome (before units) (λ bytes. Refuses refusal.Write w ⊎ ((cert : Option (List ℕ)) × IsPlanWritten asked bytes w cert))
 
 -- without the path of a certificate to write; of a check, whose certificate isn't known, only what it reads
 abbrev pub DoesAlone : {R : Type 0} → Job → Use R → Written → Type 0
 DoesAlone job.Cost units w = Costs units w
-DoesAlone (job.Plan workers nodes) units w = Plans nodes units w
+DoesAlone (job.Plan workers nodes) units w = Plans (asked_for workers nodes) units w
 DoesAlone job.Check units w = Reads units 1048577 w
 
 -- and with one
 abbrev pub DoesAway : {R : Type 0} → Job → Use R → Written → Type 0
 DoesAway job.Cost units w = Costs units w
-DoesAway (job.Plan workers nodes) units w = PlansAway nodes units w
+DoesAway (job.Plan workers nodes) units w = PlansAway (asked_for workers nodes) units w
 DoesAway job.Check units w = Reads units 1048577 w
 
 -- what a command line does with the units, and what is to be written for it

@@ -12,6 +12,7 @@ use Rattle.ec_cert.specs.Shapes.{CertView}
 use Rattle.ec_cert.specs.Text.{certificate_text}
 use Rattle.ec_checker.specs.declared.fault.Verdict.{Verdict}
 use Rattle.ec_checker.specs.declared.fault.Verdict.TheVariants as verdict
+use Rattle.ec_workers.specs.Answers.{Asked}
 use Rattle.ec_workers.specs.Outcomes.{Shows}
 use Rattle.ec_answers.specs.Planned.{IsPlanWritten}
 use Rattle.ec_lines.specs.declared.job.Job.{Job}
@@ -68,16 +69,16 @@ pub record TellsWithoutPlan (bytes : List ℕ) (w : Written) (cert : Option (Lis
   pub none : HasNoPlan (loads_of units.units) units.slots
   pub shown : IsShownBy units verdict.NoPlan cert
 
--- whatever the budget of nodes, a plan that ends with status 0 or 1 tells the truth
+-- whatever workers and nodes were asked for, a plan that ends with status 0 or 1 tells the truth
 abbrev pub PlanIsTrue : Type 0
-PlanIsTrue = (nodes : ℕ) (bytes : List ℕ) (w : Written) (cert : Option (List ℕ)) → IsPlanWritten nodes bytes w cert → (w.code ≡ 0 → TellsOptimal bytes w cert) × (w.code ≡ 1 → TellsWithoutPlan bytes w cert)
+PlanIsTrue = (asked : Asked) (bytes : List ℕ) (w : Written) (cert : Option (List ℕ)) → IsPlanWritten asked bytes w cert → (w.code ≡ 0 → TellsOptimal bytes w cert) × (w.code ≡ 1 → TellsWithoutPlan bytes w cert)
 
 -- a text begins with the line `optimal b`
 abbrev pub BeginsOptimal : ℕ → Written → Type 0
 BeginsOptimal b w = (rest : List ℕ) × (w.text ≡ optimal_line b ++ rest)
 
--- two plans of the same bytes, whatever their budgets, that end with status 0 name one cost; and where one ends so, none ends with status 1
+-- two plans of the same bytes, whatever workers and nodes each was asked for, that end with status 0 name one cost; and where one ends so, none ends with status 1
 abbrev pub OneLeastEach : Type 0
 OneLeastEach =
-    (m n : ℕ) (bytes : List ℕ) (v w : Written) (c d : Option (List ℕ)) → IsPlanWritten m bytes v c → IsPlanWritten n bytes w d → v.code ≡ 0 →
+    (m n : Asked) (bytes : List ℕ) (v w : Written) (c d : Option (List ℕ)) → IsPlanWritten m bytes v c → IsPlanWritten n bytes w d → v.code ≡ 0 →
     (w.code ≡ 0 → (b : ℕ) × BeginsOptimal b v × BeginsOptimal b w) × (w.code ≢ 1)

@@ -5,6 +5,7 @@ ghost use Rattle.std.specs.Io.KnownBytes.{Appends};
 ghost use Rattle.ec_wire.specs.Stream.{stream, has_failed, WritesFront};
 ghost use Rattle.ec_jobs.specs.Runs.{used, Tells, IsFor, Costs, Checks, Plans, PlansTo};
 ghost use Rattle.ec_lines.specs.Refusals.{refusal_line};
+ghost use Rattle.ec_workers.specs.Answers.{asked_for};
 
 use ec_answers::{certified_answer, cost_answer, plan_answer, whole_answer};
 use ec_lines::{Answer, Refusal};
@@ -96,7 +97,7 @@ pub fn run_plan<R: Read, W: Write, T: Wait>(
     requires nodes { (1 ≤ nodes) × (nodes ≤ 10000000) }
     requires units { has_failed units.old ≡ false }
     requires text { has_failed text.old ≡ false }
-    ensures { Tells (Plans nodes (used R.remaining units.old units.new)) (used W.contents text.old text.new) result.code }
+    ensures { Tells (Plans (asked_for workers nodes) (used R.remaining units.old units.new)) (used W.contents text.old text.new) result.code }
 {
     let answer = plan_answer(rt, alloc, workers, nodes, units);
     finish(alloc, answer, text)
@@ -118,7 +119,7 @@ pub fn run_plan_to<R: Read, W: Write, O: Write, T: Wait>(
     requires units { has_failed units.old ≡ false }
     requires text { has_failed text.old ≡ false }
     requires out { has_failed out.old ≡ false }
-    ensures { Tells (PlansTo nodes (used R.remaining units.old units.new) (used O.contents out.old out.new)) (used W.contents text.old text.new) result.code }
+    ensures { Tells (PlansTo (asked_for workers nodes) (used R.remaining units.old units.new) (used O.contents out.old out.new)) (used W.contents text.old text.new) result.code }
 {
     let answer = certified_answer(rt, alloc, workers, nodes, units, out);
     finish(alloc, answer, text)

@@ -21,13 +21,13 @@ pub fn a_yes_is_true()
 
 /// Where a plan writes `optimal B`, status 0, the plan whose lines it writes is a legal one of the units that were read,
 /// busiest at B, every legal plan has a tick that costs at least B, and the certificate that it writes before shows it.
-/// Where it writes `no plan`, status 1, none of their plans is legal, and the certificate shows that. Whatever the
-/// budget of nodes.
+/// Where it writes `no plan`, status 1, none of their plans is legal, and the certificate shows that. Whatever
+/// workers and nodes were asked for.
 pub fn a_plan_is_true()
     ensures { PlanIsTrue }
 {}
 
-/// Two plans of the same units that end with status 0 name the same cost, whatever their budgets; and where one ends with
+/// Two plans of the same units that end with status 0 name the same cost, whatever was asked for; and where one ends with
 /// status 0, none ends with status 1.
 pub fn one_least_each()
     ensures { OneLeastEach }

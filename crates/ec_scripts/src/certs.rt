@@ -8,6 +8,7 @@ use ec_checker::check;
 use ec_units::Units;
 use ec_wire::Io;
 use std::alloc::{AllocError, Global};
+use std::fmt::Write as _;
 use std::io;
 use std::io::{ErrorKind, Write};
 
@@ -161,8 +162,35 @@ fn repeated(alloc: Global, call: &Call<'_>, count: usize) -> Result<Vec<u8>, All
     Ok(bytes)
 }
 
+/// Adds sixty splits into sixty leaves each, which this tick closes.
+fn add_splits(text: &mut String, tick: u32) -> Result<(), AllocError> {
+    text.push_str("S 60\n")?;
+    for _ in 0..60u32 {
+        text.push_str("S 60\n")?;
+        for _ in 0..60u32 {
+            write!(text, "T {tick}\n")?;
+        }
+    }
+    Ok(())
+}
+
+/// A certificate of 219,661 nodes: three units of 1 byte every 60 ticks, all placed in each branch, and each leaf
+/// closed by the tick of the first unit; those of the last phase by this tick.
+fn wide(alloc: Global, last: u32) -> Result<String, AllocError> {
+    let mut text = String::from_str(
+        alloc,
+        "ecplan 1\nslots 1\nunit a 1 60\nunit b 1 60\nunit c 1 60\norder 0 1 2\nvalue 84\nplace 0 0\nplace 0 0\nplace 0 0\ntree\nS 60\n",
+    )?;
+    for tick in 0..59u32 {
+        add_splits(&mut text, tick)?;
+    }
+    add_splits(&mut text, last)?;
+    text.push_str("end\n")?;
+    Ok(text)
+}
+
 /// What a call about certificates answers: `read TEXT`, `write ROOM TEXT`, `check TEXT`; `lines FIRST LAST TEXT` and
-/// `judge FIRST LAST TEXT` read and check the example with these lines replaced, `example ROOM` writes it; any other
+/// `judge FIRST LAST TEXT` read and check the example with these lines replaced, `example ROOM` writes it; `wide LAST` checks one of many nodes; any other
 /// name reads a text that it makes.
 pub(crate) fn answer(alloc: Global, units: &Units, call: &Call<'_>) -> Result<String, AllocError> {
     match call.name() {
@@ -173,6 +201,7 @@ pub(crate) fn answer(alloc: Global, units: &Units, call: &Call<'_>) -> Result<St
         }
         b"example" => rewritten(alloc, EXAMPLE.as_bytes(), call.index(1)),
         b"check" => checked(alloc, units, unbarred(alloc, call.after(1))?.as_slice()),
+        b"wide" => checked(alloc, units, wide(alloc, call.count(1))?.as_bytes()),
         b"lines" => {
             let text = edited(alloc, call.index(1), call.index(2), call.after(3))?;
             reading(alloc, text.as_slice())

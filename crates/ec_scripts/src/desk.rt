@@ -29,7 +29,7 @@ impl Model for Desk {
     ghost use Rattle.std.specs.Prelude.{length};
     ghost use Rattle.ec_symmetry.specs.Orders.{IsOrder};
     ghost use Rattle.ec_book.specs.Views.{BookView};
-    ghost use Rattle.ec_workers.specs.Books.{IsBookOf};
+    ghost use Rattle.ec_book.specs.Books.{IsBookOf};
 
     ghost Value = { BookView };
 

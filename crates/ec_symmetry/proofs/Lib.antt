@@ -9,3 +9,4 @@ pub mod InLemmas
 pub mod ReachLemmas
 pub mod FreeLemmas
 pub mod RuleLemmas
+pub mod PrefixLemmas

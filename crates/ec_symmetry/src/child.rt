@@ -1,9 +1,10 @@
 //! The places that a unit can take after a prefix.
 
-ghost use Rattle.std.specs.Prelude.{◌≡◌, ℕ, ◌<◌, ◌≤◌, if◌then◌else◌, length, map, get_or};
+ghost use Rattle.std.specs.Prelude.{◌≡◌, ℕ, ◌<◌, ◌≤◌, if◌then◌else◌, length, get_or};
 ghost use Rattle.std.specs.Iterator.{YieldsFirst, item_count};
 ghost use Rattle.ec_loads.specs.Line.{slots_alone, line_of};
-ghost use Rattle.ec_loads.specs.Search.{places_for, different_numbers, nobody, children};
+ghost use Rattle.ec_loads.specs.Search.{places_for, children};
+ghost use Rattle.ec_symmetry.specs.Orders.{IsOrder, prefix_of};
 
 use crate::slots::{NO_PLACES, gather, used_slots};
 use ec_loads::Loads;
@@ -50,13 +51,14 @@ pub fn choices(period: u16, slots: u8, used: u8, turned: bool) -> Children
     }
 }
 
-/// The places that a unit can take after these places of the units before it, in child order. The places lie in any
-/// order, and those that the loads hold don't count. Takes no memory.
-pub fn children_after(loads: &Loads, unit: usize, before: &[Place]) -> Children
-    requires inside { unit < length loads.now.loads }
-    requires few { length before.now ≤ length loads.now.loads }
-    ensures { result ≡ places_for (get_or loads.now.loads unit nobody).period loads.now.slots (different_numbers (map (λ p. p.slot) before.now)) }
+/// The places that the next unit of an order can take after these places of the units before it, by the rules of
+/// slots alone, in child order. What the loads hold doesn't count. Takes no memory.
+pub fn children_after(loads: &Loads, order: &[u8], before: &[Place]) -> Children
+    requires order { IsOrder (length loads.now.loads) order.now }
+    requires few { length before.now < length order.now }
+    ensures { result ≡ children (line_of slots_alone loads.now) (prefix_of loads.now.loads order.now before.now) (get_or order.now (length before.now) 0) }
 {
+    let unit = usize::from(order[before.len()]);
     choices(
         loads.loads()[unit].period,
         loads.slots(),
@@ -73,7 +75,12 @@ pub fn children_of(loads: &Loads, unit: usize) -> Children
 {
     let mut table = NO_PLACES;
     let count = gather(loads.places(), &mut table);
-    children_after(loads, unit, &table[..count])
+    choices(
+        loads.loads()[unit].period,
+        loads.slots(),
+        used_slots(&table[..count]),
+        false,
+    )
 }
 
 impl Iterator for Children {

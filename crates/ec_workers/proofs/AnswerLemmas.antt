@@ -17,7 +17,7 @@ use Rattle.ec_tree.specs.Trees.{TreesBound}
 use Rattle.ec_checker.specs.Certified.{lines_of}
 use Rattle.ec_checker.specs.Laws.{FaultsRefute}
 use Rattle.ec_workers.specs.declared.outcome.Cut.TheVariants as cut
-use Rattle.ec_workers.specs.Answers.{IsUnproved}
+use Rattle.ec_workers.specs.Answers.{Asked, IsUnproved}
 use Rattle.ec_workers.specs.Outcomes.{cert_for, IsFound, IsOptimal, IsWithoutPlan}
 use Rattle.ec_workers.proofs.ShowLemmas.{AreFew, shows, bounds}
 
@@ -76,7 +76,7 @@ optimal refute law us order best tree lines c b plan found is said copied made =
     }))
 
 -- where not even the certificate's plan could be copied
-pub uncopied : (us : List SyncUnit) (n nodes : ℕ) (order : List ℕ) (best given : Option Best) (tree : Shape) → IsFound us n order best tree → open_count tree ≡ 0 → best ≡ given → IsUnproved us n nodes given order tree cut.Memory
-uncopied us n nodes order best given tree found closed is =
+pub uncopied : (us : List SyncUnit) (n : ℕ) (asked : Asked) (order : List ℕ) (best given : Option Best) (tree : Shape) → IsFound us n order best tree → open_count tree ≡ 0 → best ≡ given → IsUnproved us n asked given order tree cut.Memory
+uncopied us n asked order best given tree found closed is =
     let now : IsFound us n order given tree = subst (λ b. IsFound us n order b tree) is found in
     record { order_is = now.order_is; best_is = now.best_is; tree_is = (tree-partial (line_by slots_alone (loads_of us) n) (value_of given) tree (no_places (loads_of us)) order now.tree_is, now.short); cut_is = λ _. closed }

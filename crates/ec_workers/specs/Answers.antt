@@ -16,21 +16,30 @@ use Rattle.ec_workers.specs.declared.outcome.Outcome.{Outcome}
 use Rattle.ec_workers.specs.declared.outcome.Outcome.TheVariants as outcome
 use Rattle.ec_workers.specs.Outcomes.{IsOptimal, IsWithoutPlan}
 
--- why a search of one worker ended without a proof: all nodes are spent and a leaf is open, else memory was refused; never because notes disagree
-abbrev pub IsCut : ℕ → Shape → Cut → Type 0
-IsCut nodes tree cut.Journal = ⊥
-IsCut nodes tree cut.Budget = (node_count tree ≡ nodes) × (0 < open_count tree)
-IsCut nodes tree cut.Memory = node_count tree ≡ nodes → open_count tree ≡ 0
+-- what a search was asked for: how many workers, and how many nodes may be split and closed
+pub record Asked : Type 0 where
+  pub workers : ℕ
+  pub nodes : ℕ
+
+abbrev pub asked_for : ℕ → ℕ → Asked
+asked_for workers nodes = record { workers = workers; nodes = nodes }
+
+-- why a search ended without a proof: the notes of several workers disagree, which those of one never do; else all nodes are spent and a leaf is open; else memory
+-- was refused
+abbrev pub IsCut : Asked → Shape → Cut → Type 0
+IsCut asked tree cut.Journal = 1 < asked.workers
+IsCut asked tree cut.Budget = (node_count tree ≡ asked.nodes) × (0 < open_count tree)
+IsCut asked tree cut.Memory = node_count tree ≡ asked.nodes → open_count tree ≡ 0
 
 -- the best plan, if any, is legal and costs what is stated, and the tree is a partial one at that value
-pub record IsUnproved (units : List SyncUnit) (n nodes : ℕ) (best : Option Best) (order : List ℕ) (tree : Shape) (why : Cut) : Type 0 where
+pub record IsUnproved (units : List SyncUnit) (n : ℕ) (asked : Asked) (best : Option Best) (order : List ℕ) (tree : Shape) (why : Cut) : Type 0 where
   pub order_is : IsOrder (length units) order
   pub best_is : IsBestPlan (loads_of units) n best
   pub tree_is : IsPartialTree (line_by slots_alone (loads_of units) n) (value_of best) tree (no_places (loads_of units)) order
-  pub cut_is : IsCut nodes tree why
+  pub cut_is : IsCut asked tree why
 
--- what an outcome says of these units, where so many nodes are allowed
-abbrev pub IsOutcome : List SyncUnit → ℕ → ℕ → Outcome → Type 0
-IsOutcome units n nodes (outcome.Optimal plan b cert) = IsOptimal units n plan.places b (cert_view cert)
-IsOutcome units n nodes (outcome.NoPlan cert) = IsWithoutPlan units n (cert_view cert)
-IsOutcome units n nodes (outcome.Unproved best order tree why) = IsUnproved units n nodes best order (shape_of tree) why
+-- what an outcome says of these units, where so many workers and nodes were asked for
+abbrev pub IsOutcome : List SyncUnit → ℕ → Asked → Outcome → Type 0
+IsOutcome units n asked (outcome.Optimal plan b cert) = IsOptimal units n plan.places b (cert_view cert)
+IsOutcome units n asked (outcome.NoPlan cert) = IsWithoutPlan units n (cert_view cert)
+IsOutcome units n asked (outcome.Unproved best order tree why) = IsUnproved units n asked best order (shape_of tree) why

@@ -1,4 +1,3 @@
 pub mod Answers
-pub mod Books
 pub mod Outcomes
 pub mod Turns

@@ -4,7 +4,7 @@ ghost use Rattle.std.specs.Prelude.{◌≡◌, ℕ, ◌≤◌, length};
 ghost use Rattle.ec_units.specs.Load.{loads_of};
 ghost use Rattle.ec_loads.specs.Line.{slots_alone, line_by};
 ghost use Rattle.ec_symmetry.specs.Orders.{IsOrder, IsReachedPrefix};
-ghost use Rattle.ec_workers.specs.Books.{IsBookOf};
+ghost use Rattle.ec_book.specs.Books.{IsBookOf};
 
 use crate::gate::Gate;
 use crate::turn::{ALONE, Turn, take_turn};

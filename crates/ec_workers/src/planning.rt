@@ -3,11 +3,12 @@
 ghost use Rattle.std.specs.Prelude.{◌≡◌, ◌≢◌, ℕ, ◌≤◌, IfOk, IfErr, List, length};
 ghost use Rattle.ec_units.specs.declared.unit.Unit.{Unit as SyncUnit};
 ghost use Rattle.ec_loads.specs.Search.{open_count};
+ghost use Rattle.ec_loads.specs.Shape.{open_leaf};
 ghost use Rattle.ec_symmetry.specs.Orders.{IsOrder};
 ghost use Rattle.ec_cert.specs.Shapes.{shape_of};
 ghost use Rattle.ec_checker.specs.Certified.{lines_of as lines_spec};
-ghost use Rattle.ec_workers.specs.Answers.{IsOutcome};
-ghost use Rattle.ec_workers.specs.Books.{IsSameSearch};
+ghost use Rattle.ec_workers.specs.Answers.{Asked, asked_for, IsCut, IsOutcome};
+ghost use Rattle.ec_book.specs.Books.{IsSameSearch};
 ghost use Rattle.ec_workers.specs.Outcomes.{IsFound};
 ghost use Rattle.ec_workers.specs.declared.outcome.Cut.TheVariants.{Budget, Journal, Memory};
 ghost use Rattle.ec_workers.specs.declared.outcome.SolveFault.TheVariants.{OutOfMemory};
@@ -18,7 +19,7 @@ use crate::gate::Gate;
 use crate::outcome::{Cut, Outcome, SolveFault};
 use crate::turn::offer;
 use crate::watch::copy_of;
-use ec_book::{Book, Finished};
+use ec_book::{Book, Finished, is_closed};
 use ec_branch::{greedy, search_order};
 use ec_cert::{Best, Order, Tree, UnitLines};
 use ec_checker::faults_refute;
@@ -62,7 +63,7 @@ fn proved(
     requires lines { lines ≡ lines_spec units.now.units }
     requires found { IsFound units.now.units units.now.slots order best (shape_of tree) }
     requires closed { open_count (shape_of tree) ≡ 0 }
-    ensures { (nodes : ℕ) → IsOutcome units.now.units units.now.slots nodes result }
+    ensures { (asked : Asked) → IsOutcome units.now.units units.now.slots asked result }
 {
     faults_refute();
     trees_bound();
@@ -89,15 +90,15 @@ fn proved(
     }
 }
 
-/// What comes of a search without its book.
-fn nothing(order: Order) -> Outcome
-    ensures { (units : List SyncUnit) (n nodes : ℕ) → 1 ≤ nodes → IsOrder (length units) order → IsOutcome units n nodes result }
+/// What comes of a search without its book, and why it ended.
+fn nothing(order: Order, cut: Cut) -> Outcome
+    ensures { (units : List SyncUnit) (n : ℕ) (asked : Asked) → IsOrder (length units) order → IsCut asked open_leaf cut → IsOutcome units n asked result }
 {
     Outcome::Unproved {
         best: None,
         order,
         tree: Tree::OpenLeaf,
-        cut: Cut::Memory,
+        cut,
     }
 }
 
@@ -114,7 +115,7 @@ pub fn solve<R: Wait, G: Gate + Sync>(
 ) -> Result<Outcome, SolveFault>
     requires workers { workers ≡ 1 }
     requires nodes { (1 ≤ nodes) × (nodes ≤ 10000000) }
-    ensures outcome { IfOk result (IsOutcome units.now.units units.now.slots nodes) }
+    ensures outcome { IfOk result (IsOutcome units.now.units units.now.slots (asked_for workers nodes)) }
     ensures fault { IfErr result (λ e. e ≡ OutOfMemory) }
 {
     let _ = workers;
@@ -124,10 +125,9 @@ pub fn solve<R: Wait, G: Gate + Sync>(
     if offered_greedy(alloc, units, &mut book) {
         work(rt, alloc, units, order.as_slice(), &mut book, gate);
     }
-    let open = book.open_pieces();
     let order_of = Order::new(order);
     let Ok(finished) = book.finish() else {
-        return Ok(nothing(order_of));
+        return Ok(nothing(order_of, Cut::Memory));
     };
     let Finished {
         best,
@@ -135,7 +135,7 @@ pub fn solve<R: Wait, G: Gate + Sync>(
         spent,
         ..
     } = finished;
-    if open == 0 {
+    if is_closed(&tree) {
         return Ok(proved(alloc, units, lines, order_of, best, tree));
     }
     Ok(Outcome::Unproved {

@@ -6,7 +6,7 @@ ghost use Rattle.ec_loads.specs.Line.{slots_alone, line_by};
 ghost use Rattle.ec_loads.specs.Search.{IsPartialTree, node_count};
 ghost use Rattle.ec_symmetry.specs.Orders.{IsOrder, IsReachedPrefix, prefix_of};
 ghost use Rattle.ec_cert.specs.Shapes.{shape_of};
-ghost use Rattle.ec_workers.specs.Books.{IsBookOf, IsSameSearch};
+ghost use Rattle.ec_book.specs.Books.{IsBookOf, IsSameSearch};
 ghost use Rattle.ec_workers.specs.Turns.{IsLowered, FindsLower};
 ghost use Rattle.ec_workers.specs.declared.turn.Turn.TheVariants.{Stopped};
 

@@ -10,11 +10,16 @@ use Rattle.ec_book.proofs.open.+add_open.Goals as goal
 pub loop-i-init : goal.loop-i-init
 loop-i-init t c =
     let loads = c.args.loads.now in
+    let order = c.args.order.now in
+    let path = c.args.path.now.items in
+    let u = c.from-unit.result in
+    let long : c.len-in-Split.result ≡ length path = omega (arith, c.len-in-Split.ensures) in
+    let next : get_or order (length c.as_slice.result.now) 0 ≡ u = (λ j. get_or order (length (c.as_slice.ensures.value j)) 0) ∙ ap (λ w. get_or order w 0) (sym long) ∙ sym c.from-unit.ensures in
     record {
       path = refl;
       out =
-          opened_first loads.loads loads.slots c.args.order.now c.in-Split.trees.items c.from-unit.result c.args.path.now.items c.as_slice.result.now c.children_after-places.result c.args.out.now.items
-          c.requires.order c.requires.long c.as_slice.ensures.value c.children_after-places.ensures;
+          opened_first (line_by slots_alone loads.loads loads.slots) order c.in-Split.trees.items u _ path c.as_slice.result.now c.children_after-places.result c.args.out.now.items
+          c.as_slice.ensures.value next c.children_after-places.ensures;
     }
 
 pub returns-in_default-next-clause-out : goal.returns-in_default-next-clause-out

@@ -1,4 +1,4 @@
-use Rattle.ec_workers.specs.Books.{IsBookOf}
+use Rattle.ec_book.specs.Books.{IsBookOf}
 use Rattle.ec_workers.proofs.alone.work.Given as goal
 
 abbrev pub invariant-loop : goal.invariant-loop

@@ -11,4 +11,4 @@ returns-in-Ok c = λ _.
     optimal c.faults_refute.ensures c.trees_bound.ensures c.args.units.now c.args.order c.args.best (shape_of c.args.tree) c.args.lines (cert_view c.certificate-cert-in-Ok.result) c.in-Some.best c.in-Ok.plan.places c.requires.found c.in-Some.is c.requires.lines c.in-Ok.ensures c.certificate-cert-in-Ok.ensures
 
 pub returns-in-Err : goal.returns-in-Err
-returns-in-Err c = λ nodes. uncopied c.args.units.now.units c.args.units.now.slots nodes c.args.order c.args.best _ (shape_of c.args.tree) c.requires.found c.requires.closed c.in-Some.is
+returns-in-Err c = λ asked. uncopied c.args.units.now.units c.args.units.now.slots asked c.args.order c.args.best _ (shape_of c.args.tree) c.requires.found c.requires.closed c.in-Some.is

@@ -1,45 +1,37 @@
-use Rattle.std.proofs.Common.{refl}
+use Rattle.std.proofs.Common.{◌≡◌, refl, sym, ◌∙◌, zero-add}
 use Rattle.ec_loads.specs.Line.{slots_alone, line_by}
-use Rattle.ec_book.specs.Numbered.{gap}
+use Rattle.ec_cert.specs.Shapes.{shape_of}
+use Rattle.ec_cert.specs.BestPlan.{value_of}
+use Rattle.ec_book.specs.Numbered.{gap, plain}
 use Rattle.ec_book.specs.Grown.{grown}
 use Rattle.ec_book.specs.Steps.{start}
-use Rattle.ec_cert.specs.BestPlan.{value_of}
 use Rattle.ec_book.proofs.HistoryLemmas.{history-replays}
 use Rattle.ec_book.proofs.FinishLemmas.{drawn, drawn-partial, drawn-nodes, drawn-open, drawn-closed}
 use Rattle.ec_book.proofs.book.Book.finish.Goals as goal
 
-pub returns-clause-tree : goal.returns-clause-tree
-returns-clause-tree c =
+pub returns-clause-ok : goal.returns-clause-ok
+returns-clause-ok c =
     let b = c.self.inside in
-    let is = drawn (line_by slots_alone b.loads.loads b.loads.slots) b.order.items b.pieces.items b.prefixes.items b.reports.items (value_of b.best) b.spent c.self.invariant.grown c.len.result _ _ c.assembled-tree.ensures c.in-Ok.ensures in
-    rw (← c.self.view_is) (drawn-partial (line_by slots_alone b.loads.loads b.loads.slots) b.order.items b.pieces.items b.prefixes.items b.reports.items (value_of b.best) b.spent c.self.invariant.grown _ is)
-
-pub returns-clause-closed : goal.returns-clause-closed
-returns-clause-closed c =
-    let b = c.self.inside in
-    let is = drawn (line_by slots_alone b.loads.loads b.loads.slots) b.order.items b.pieces.items b.prefixes.items b.reports.items (value_of b.best) b.spent c.self.invariant.grown c.len.result _ _ c.assembled-tree.ensures c.in-Ok.ensures in
-    rw (← c.self.view_is) (drawn-closed (line_by slots_alone b.loads.loads b.loads.slots) b.order.items b.pieces.items b.prefixes.items b.reports.items (value_of b.best) b.spent c.self.invariant.grown _ is)
-
-pub returns-clause-pieces : goal.returns-clause-pieces
-returns-clause-pieces c =
-    let b = c.self.inside in
-    let is = drawn (line_by slots_alone b.loads.loads b.loads.slots) b.order.items b.pieces.items b.prefixes.items b.reports.items (value_of b.best) b.spent c.self.invariant.grown c.len.result _ _ c.assembled-tree.ensures c.in-Ok.ensures in
-    rw (← c.self.view_is) (grown (gap 0) b.reports.items, is, c.self.invariant.grown.pieces_are, c.self.invariant.grown.tree)
-
-pub returns-clause-nodes : goal.returns-clause-nodes
-returns-clause-nodes c =
-    let b = c.self.inside in
-    let is = drawn (line_by slots_alone b.loads.loads b.loads.slots) b.order.items b.pieces.items b.prefixes.items b.reports.items (value_of b.best) b.spent c.self.invariant.grown c.len.result _ _ c.assembled-tree.ensures c.in-Ok.ensures in
-    rw (← c.self.view_is) (refl, drawn-nodes (line_by slots_alone b.loads.loads b.loads.slots) b.order.items b.pieces.items b.prefixes.items b.reports.items (value_of b.best) b.spent c.self.invariant.grown _ is)
-
-pub returns-clause-open : goal.returns-clause-open
-returns-clause-open c =
-    let b = c.self.inside in
-    let is = drawn (line_by slots_alone b.loads.loads b.loads.slots) b.order.items b.pieces.items b.prefixes.items b.reports.items (value_of b.best) b.spent c.self.invariant.grown c.len.result _ _ c.assembled-tree.ensures c.in-Ok.ensures in
-    rw (← c.self.view_is) (drawn-open (line_by slots_alone b.loads.loads b.loads.slots) b.order.items b.pieces.items b.prefixes.items b.reports.items (value_of b.best) b.spent c.self.invariant.grown _ is)
-
-pub returns-clause-history : goal.returns-clause-history
-returns-clause-history c =
-    let b = c.self.inside in
-    let h = c.self.invariant.counted.history in
-    rw (← c.self.view_is) (rw c.new.ensures (h, history-replays b.nodes start b.log.items (record { pieces = b.pieces.items; value = value_of b.best; spent = b.spent }) h))
+    let line = line_by slots_alone b.loads.loads b.loads.slots in
+    let order = b.order.items in
+    let pieces = b.pieces.items in
+    let prefixes = b.prefixes.items in
+    let reports = b.reports.items in
+    let value = value_of b.best in
+    let made = c.self.invariant.grown in
+    let past = c.self.invariant.counted.history in
+    let shape = shape_of c.assembled-tree.result in
+    let is : shape ≡ plain (grown (gap 0) reports) = drawn line order pieces prefixes reports value b.spent made c.len.result _ _ c.assembled-tree.ensures c.in-Ok.ensures in
+    rw (← c.self.view_is) (record {
+      best = refl;
+      legal = c.self.invariant.for.best_is;
+      tree = drawn-partial line order pieces prefixes reports value b.spent made shape is;
+      closed = drawn-closed line order pieces prefixes reports value b.spent made shape is;
+      pieces = (grown (gap 0) reports, is, made.pieces_are, made.tree);
+      live = drawn-open line order pieces prefixes reports value b.spent made shape is;
+      spent = refl;
+      nodes = drawn-nodes line order pieces prefixes reports value b.spent made shape is ∙ sym (zero-add b.spent);
+      log = c.new.ensures;
+      history = rw c.new.ensures past;
+      replayed = rw c.new.ensures (history-replays b.nodes start b.log.items (record { pieces = pieces; value = value; spent = b.spent }) past);
+    })
