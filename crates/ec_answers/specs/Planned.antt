@@ -49,15 +49,15 @@ abbrev pub PlansFrom : Asked → Result (Units × Outcome) Refusal → List ℕ 
 PlansFrom asked (Ok found) bytes = IsPlanOf asked bytes found.0 found.1
 PlansFrom asked (Err r) bytes = IsPlanFault bytes r
 
--- written is the text of this outcome, or the line that says that memory ran out; this is its certificate, if it has one
+-- written is the text of this outcome, and this is its certificate, if it has one
 pub record IsOutcomeWritten (asked : Asked) (bytes : List ℕ) (w : Written) (cert : Option (List ℕ)) : Type 0 where
   pub units : Units
   pub found : Outcome
   pub answer : IsPlanOf asked bytes units found
-  pub text : (w ≡ outcome_output units.units found) ⊎ (w ≡ refused out_of_memory)
+  pub text : w ≡ outcome_output units.units found
   pub certificate : cert ≡ outcome_cert found
 
--- written is the line that says why there is no outcome, and no certificate
+-- written is the line that says why there is no outcome, or that memory ran out over it, and no certificate
 pub record IsUnplanned (bytes : List ℕ) (w : Written) (cert : Option (List ℕ)) : Type 0 where
   pub refusal : Refusal
   pub fault : IsPlanFault bytes refusal

@@ -42,7 +42,8 @@ fn write_certificate<O: Write>(outcome: &Outcome, out: &mut Io<O>) -> Result<(),
     }
 }
 
-/// Writes the certificate of an outcome, if it has one, and then makes its text.
+/// Makes the text of an outcome, and then writes its certificate, if it has one. So memory is wanted no more once a byte of
+/// the certificate is written.
 fn certified<O: Write>(
     alloc: Global,
     units: &Units,
@@ -53,13 +54,14 @@ fn certified<O: Write>(
     requires places { HasPlaces units.now.units outcome.now }
     requires fresh { has_failed out.old ≡ false }
     ensures ok { IfOk result (λ answer. shown answer ≡ outcome_output units.now.units outcome.now) }
-    ensures err { has_failed out.new ≡ false → IfErr result (λ r. r ≡ out_of_memory) }
+    ensures err { has_failed out.new ≡ false → IfErr result (λ r. (r ≡ out_of_memory) × (out.new ≡ out.old)) }
     ensures unwritten { has_failed out.new ≡ true → result ≡ Err Refusal.Write }
-    ensures all { has_failed out.new ≡ false → Gets O.contents out.old out.new (outcome_cert outcome.now) }
+    ensures all { has_failed out.new ≡ false → IfOk result (λ _. Gets O.contents out.old out.new (outcome_cert outcome.now)) }
     ensures front { GetsFront O.contents out.old out.new (outcome_cert outcome.now) }
 {
+    let answer = outcome_answer(alloc, units, outcome)?;
     write_certificate(outcome, out)?;
-    Ok(outcome_answer(alloc, units, outcome)?)
+    Ok(answer)
 }
 
 /// The units that the reader has, and what comes of a search over them with this budget.
@@ -104,7 +106,7 @@ pub fn plan_answer<R: Read, T: Wait>(
     Ok(outcome_answer(alloc, &line, &outcome)?)
 }
 
-/// What a plan answers of the units that the reader has, after its certificate, if it has one, is written to `out`.
+/// What a plan answers of the units that the reader has; its certificate, if it has one, is written to `out`.
 pub fn certified_answer<R: Read, T: Wait, O: Write>(
     rt: &T,
     alloc: Global,

@@ -17,7 +17,7 @@ use Rattle.ec_workers.specs.declared.outcome.Outcome.TheVariants as outcome
 use Rattle.ec_lines.specs.declared.refusal.Refusal.{Refusal}
 use Rattle.ec_lines.specs.Outcomes.{outcome_output, optimal_text}
 use Rattle.ec_lines.specs.Output.{Written, refused}
-use Rattle.ec_lines.specs.Refusals.{refusal_code, out_of_memory}
+use Rattle.ec_lines.specs.Refusals.{refusal_code}
 use Rattle.ec_answers.specs.Planned.{IsPlanWritten, outcome_cert}
 use Rattle.ec_jobs.specs.Sound.{TellsOptimal, TellsWithoutPlan, PlanIsTrue, OneLeastEach}
 use Rattle.ec_jobs.proofs.SoundLemmas.{code_above}
@@ -52,10 +52,7 @@ outcome_true asked bytes us (outcome.Unproved best order tree why) w cert said h
     )
 
 pub plan_true : PlanIsTrue
-plan_true asked bytes w cert (inl h) = elim h.text [
-  | inl is ↦ outcome_true asked bytes h.units h.found w cert h.answer.said h.answer.answer is h.certificate
-  | inr is ↦ refusal_true bytes w cert out_of_memory is
-]
+plan_true asked bytes w cert (inl h) = outcome_true asked bytes h.units h.found w cert h.answer.said h.answer.answer h.text h.certificate
 plan_true asked bytes w cert (inr h) = refusal_true bytes w cert h.refusal h.line
 
 -- units that the same bytes say

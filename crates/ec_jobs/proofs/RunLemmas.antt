@@ -1,5 +1,5 @@
 -- What a run does, from what its job answers.
-use Rattle.std.proofs.Common.{◌≡◌, ℕ, Bool, true, false, List, [], Option, Some, None, Result, Err, refl, ap, ◌∙◌, inl, inr, subst, arith}
+use Rattle.std.proofs.Common.{◌≡◌, ℕ, Bool, true, false, List, [], Option, Some, None, Result, Ok, Err, refl, ap, sym, ◌∙◌, inl, inr, subst, arith}
 use Rattle.std.specs.Prelude.{◌⊎◌, ◌≤◌, ◌+◌, IfSome}
 use Rattle.std.specs.Io.KnownBytes.{Appends}
 use Rattle.ec_wire.specs.Stream.{stream, has_failed, taken, WritesFront}
@@ -10,11 +10,16 @@ use Rattle.ec_lines.specs.declared.job.Job.{Job}
 use Rattle.ec_lines.specs.declared.job.Job.TheVariants as job
 use Rattle.ec_wire.specs.declared.io.Io.{Io}
 use Rattle.ec_answers.specs.Input.{AreUnits, ConsumesAtMost}
-use Rattle.ec_lines.specs.Output.{Written, Answers, IsOutput, IsNoMemory, written_of}
+use Rattle.ec_lines.specs.Output.{Written, Answers, IsOutput, IsNoMemory, refused, written_of}
 use Rattle.ec_answers.specs.Planned.{AnswersPlan, GetsCertFront, IsPlanWritten, Any, Gets, GetsFront}
 use Rattle.ec_jobs.specs.Runs.{Use, used, Lent, either, Reads, Tells, IsFor, Refuses, Costs, Checks, Plans, PlansTo, PlansAway, Does, DoesAlone, DoesAway, IsSound, HasFailed, IsKept, before, after}
 use Rattle.ec_jobs.proofs.TellLemmas.{said_by}
-use Rattle.ec_answers.proofs.PlanLemmas.{plan_said}
+use Rattle.ec_jobs.proofs.SoundLemmas.{code_above}
+use Rattle.ec_lines.specs.Outcomes.{outcome_output}
+use Rattle.ec_lines.specs.Refusals.{out_of_memory, refusal_code}
+use Rattle.ec_units.specs.declared.unit.Unit.{Unit as SyncUnit}
+use Rattle.ec_workers.specs.declared.outcome.Outcome.{Outcome}
+use Rattle.ec_workers.specs.declared.outcome.Outcome.TheVariants as outcome
 use Rattle.ec_workers.specs.Answers.{Asked, asked_for}
 
 -- what is told is also what follows from it
@@ -43,9 +48,13 @@ tells_text w text code k bytes same status whole front failed = record {
   failed = failed;
 }
 
+-- an answer as it is written, or the line that says that memory ran out
+for_either : (answer : Result Answer Refusal) (w : Written) → IsFor answer w → (w ≡ written_of answer) ⊎ (w ≡ refused out_of_memory)
+for_either (Ok a) w is = inl is
+for_either (Err r) w is = is
+
 refuses : (answer : Result Answer Refusal) (r : Refusal) (w : Written) → IsFor answer w → answer ≡ Err r → Refuses r w
-refuses answer r w (inl e) is = inl (e ∙ ap written_of is)
-refuses answer r w (inr e) is = inr e
+refuses answer r w h is = subst (λ (a : Result Answer Refusal). IsFor a w) is h
 
 pub reads : {X : Type 0} (s : Use X) (most : ℕ) (answer : Result Answer Refusal) (w : Written) → IsFor answer w → ConsumesAtMost (before s) (after s) most → taken s.new ≤ taken s.old + most → (HasFailed s → answer ≡ Err refusal.Read) → Reads s most w
 reads s most answer w is known any read = record { known = known; any = any; failed = λ failed. refuses answer refusal.Read w is (read failed) }
@@ -53,7 +62,7 @@ reads s most answer w is known any read = record { known = known; any = any; fai
 -- a cost
 cost_said : (left : Option (List ℕ)) (answer : Result Answer Refusal) (w : Written) → IsFor answer w → IfSome left (λ bytes. Answers job.Cost answer (IsOutput job.Cost bytes None)) → IfSome left (λ bytes. IsOutput job.Cost bytes None w ⊎ IsNoMemory job.Cost w)
 cost_said None answer w is h = tt
-cost_said (Some bytes) answer w is h = said_by job.Cost bytes None answer w h is
+cost_said (Some bytes) answer w is h = said_by job.Cost bytes None answer w h (for_either answer w is)
 
 pub costs : {R : Type 0} (u : Use R) (answer : Result Answer Refusal) → (IsSound u → IfSome (before u) (λ bytes. Answers job.Cost answer (IsOutput job.Cost bytes None))) → ConsumesAtMost (before u) (after u) 1048577 → taken u.new ≤ taken u.old + 1048577 → (HasFailed u → answer ≡ Err refusal.Read)
     → (w : Written) → IsFor answer w → Costs u w
@@ -64,7 +73,7 @@ check_said : (left cert : Option (List ℕ)) (answer : Result Answer Refusal) (w
     → IfSome left (λ bytes. IfSome cert (λ text. IsOutput job.Check bytes (Some text) w ⊎ IsNoMemory job.Check w))
 check_said None cert answer w is h = tt
 check_said (Some bytes) None answer w is h = tt
-check_said (Some bytes) (Some text) answer w is h = said_by job.Check bytes (Some text) answer w h is
+check_said (Some bytes) (Some text) answer w is h = said_by job.Check bytes (Some text) answer w h (for_either answer w is)
 
 pub checks : {R C : Type 0} (u : Use R) (c : Use C) (answer : Result Answer Refusal) → (IsSound u → IsSound c → IfSome (before u) (λ bytes. IfSome (before c) (λ text. Answers job.Check answer (IsOutput job.Check bytes (Some text)))))
     → ConsumesAtMost (before u) (after u) 1048577 → taken u.new ≤ taken u.old + 1048577 → (HasFailed u → answer ≡ Err refusal.Read) → ConsumesAtMost (before c) (after c) 67108865 → taken c.new ≤ taken c.old + 67108865 → (HasFailed c → answer ≡ Err refusal.Read) → (HasFailed u → IsKept c) → IfSome (before u) (λ bytes. ¬ (AreUnits bytes) → IsKept c)
@@ -78,14 +87,27 @@ checks u c answer told known any read cert_known cert_any cert_read kept first w
 }
 
 -- a plan
+outcome_below : (us : List SyncUnit) (o : Outcome) → (outcome_output us o).code ≤ 2
+outcome_below us (outcome.Optimal plan b cert) = omega arith
+outcome_below us (outcome.NoPlan cert) = omega arith
+outcome_below us (outcome.Unproved best order tree why) = omega arith
+
+plan_said : (asked : Asked) (bytes : List ℕ) (answer : Result Answer Refusal) (w : Written) (cert : Option (List ℕ)) → IsPlanWritten asked bytes (written_of answer) cert → IsFor answer w → IsPlanWritten asked bytes w cert
+plan_said asked bytes (Ok a) w cert h is = subst (λ (x : Written). IsPlanWritten asked bytes x cert) (sym is) h
+plan_said asked bytes (Err r) w cert h (inl is) = subst (λ (x : Written). IsPlanWritten asked bytes x cert) (sym is) h
+plan_said asked bytes (Err r) w cert (inl h) (inr is) =
+    let code : refusal_code r ≡ (outcome_output h.units.units h.found).code = ap (λ (v : Written). v.code) h.text in
+    absurd (omega (arith, code, code_above r, outcome_below h.units.units h.found))
+plan_said asked bytes (Err r) w cert (inr h) (inr is) = inr (record { refusal = out_of_memory; fault = inr (inl refl); line = is; certificate = h.certificate })
+
 plan_told : (left : Option (List ℕ)) (asked : Asked) (gets : Option (List ℕ) → Type 0) (answer : Result Answer Refusal) (w : Written) → IsFor answer w → IfSome left (AnswersPlan asked gets answer)
     → IfSome left (λ bytes. (cert : Option (List ℕ)) × IsPlanWritten asked bytes w cert × gets cert)
 plan_told None asked gets answer w is h = tt
-plan_told (Some bytes) asked gets answer w is h = (h.0, plan_said asked bytes (written_of answer) w h.0 h.1 is, h.2)
+plan_told (Some bytes) asked gets answer w is h = (h.0, plan_said asked bytes answer w h.0 h.1 is, h.2)
 
 plan_alone : (left : Option (List ℕ)) (asked : Asked) (answer : Result Answer Refusal) (w : Written) → IsFor answer w → IfSome left (AnswersPlan asked Any answer) → IfSome left (λ bytes. (cert : Option (List ℕ)) × IsPlanWritten asked bytes w cert)
 plan_alone None asked answer w is h = tt
-plan_alone (Some bytes) asked answer w is h = (h.0, plan_said asked bytes (written_of answer) w h.0 h.1 is)
+plan_alone (Some bytes) asked answer w is h = (h.0, plan_said asked bytes answer w h.0 h.1 is)
 
 pub plans : {R : Type 0} (asked : Asked) (u : Use R) (answer : Result Answer Refusal) → (IsSound u → IfSome (before u) (AnswersPlan asked Any answer)) → ConsumesAtMost (before u) (after u) 1048577 → taken u.new ≤ taken u.old + 1048577 → (HasFailed u → answer ≡ Err refusal.Read) → (w : Written) → IsFor answer w → Plans asked u w
 plans asked u answer told known any read w is = record { read = reads u 1048577 answer w is known any read; honest = λ sound. plan_alone (before u) asked answer w is (told sound) }

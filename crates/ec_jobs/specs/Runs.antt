@@ -1,5 +1,5 @@
 -- What a run does with the readers and writers that it is lent.
-use Rattle.std.specs.Prelude.{◌≡◌, ◌⊎◌, ℕ, ◌+◌, ◌≤◌, true, false, List, Option, Some, None, Result, String, IfSome, option_map}
+use Rattle.std.specs.Prelude.{◌≡◌, ◌⊎◌, ℕ, ◌+◌, ◌≤◌, true, false, List, Option, Some, None, Result, Ok, Err, String, IfSome, option_map}
 use Rattle.std.specs.Io.KnownBytes.{Appends}
 use Rattle.std.proofs.Common.{Global, MutBor, inl, inr}
 use Rattle.ec_wire.specs.declared.io.Io.{Io}
@@ -10,7 +10,7 @@ use Rattle.ec_lines.specs.declared.refusal.Refusal.TheVariants as refusal
 use Rattle.ec_lines.specs.declared.job.Job.{Job}
 use Rattle.ec_lines.specs.declared.job.Job.TheVariants as job
 use Rattle.ec_answers.specs.Input.{ConsumesAtMost, AreUnits}
-use Rattle.ec_lines.specs.Output.{Written, IsOutput, IsNoMemory, refused, written_of}
+use Rattle.ec_lines.specs.Output.{Written, IsOutput, IsNoMemory, refused, shown}
 use Rattle.ec_answers.specs.Planned.{IsPlanWritten, GetsCertFront, Gets, GetsFront}
 use Rattle.ec_lines.specs.Refusals.{out_of_memory}
 use Rattle.ec_workers.specs.Answers.{Asked, asked_for}
@@ -85,9 +85,10 @@ pub record Tells {W : Type 0} (is : Written → Type 0) (text : Use W) (code : �
   pub front : WritesFront (before text) (after text) written.text
   pub failed : HasFailed text → code ≡ 4
 
--- an answer is written, or the line that says that memory ran out
+-- an answer is written, or in place of a refusal the line that says that memory ran out
 abbrev pub IsFor : Result Answer Refusal → Written → Type 0
-IsFor answer w = (w ≡ written_of answer) ⊎ (w ≡ refused out_of_memory)
+IsFor (Ok a) w = w ≡ shown a
+IsFor (Err r) w = (w ≡ refused r) ⊎ (w ≡ refused out_of_memory)
 
 -- a refusal is written, or the line that says that memory ran out
 abbrev pub Refuses : Refusal → Written → Type 0
@@ -160,6 +161,12 @@ DoesAway job.Check units w = Reads units 1048577 w
 abbrev pub DoesLine : {R : Type 0} → Job → Option (String Global) → Use R → Written → Type 0
 DoesLine j None units w = DoesAlone j units w
 DoesLine j (Some path) units w = DoesAway j units w
+
+-- ---- words that are no command line
+
+-- the text that says why, with status 5
+abbrev pub usage : List ℕ → Written
+usage text = record { text = text; code = 5 }
 
 -- ---- what a caller brings
 

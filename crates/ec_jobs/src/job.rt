@@ -42,7 +42,7 @@ pub(crate) fn write_status<W: Write>(text: &mut Io<W>, bytes: &[u8], code: u8) -
 }
 
 /// The line where memory ran out.
-const NO_MEMORY: &str = "refused U1 OutOfMemory\n";
+pub(crate) const NO_MEMORY: &str = "refused U1 OutOfMemory\n";
 
 /// Writes the text or the refusal whole, and says with which status the run ends.
 fn finish<W: Write>(alloc: Global, answer: Result<Answer, Refusal>, text: &mut Io<W>) -> Status

@@ -7,6 +7,7 @@ mod late;
 mod law;
 mod plain;
 mod running;
+mod usage;
 
 pub use doing::do_line;
 pub use job::{Status, run_plan_to};
@@ -14,3 +15,4 @@ pub use late::Late;
 pub use law::{a_plan_is_true, a_yes_is_true, one_least_each, one_output_each};
 pub use plain::run_plain;
 pub use running::run;
+pub use usage::{refuse_memory, refuse_words};

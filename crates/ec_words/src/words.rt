@@ -2,6 +2,7 @@
 
 ghost use Rattle.std.specs.Prelude.{◌≡◌, IfOk, IfSome};
 ghost use Rattle.ec_lines.specs.Words.{JobFits, HasPath, MayHaveOut};
+ghost use Rattle.ec_words.specs.Numbers.{HasNumbersOf};
 ghost use Rattle.ec_words.specs.declared.words.LineFault.TheVariants.{Memory};
 
 use clap::error::ErrorKind;
@@ -101,7 +102,8 @@ fn fault_of(alloc: Global, error: Error) -> LineFault {
 
 /// The workers and nodes of a plan, where they are within the limits.
 fn numbers_of(matches: &ArgMatches<'_>) -> Option<(usize, u32)>
-    ensures { IfSome result (λ numbers. JobFits (Job.Plan numbers.0 numbers.1)) }
+    ensures within { IfSome result (λ numbers. JobFits (Job.Plan numbers.0 numbers.1)) }
+    ensures said { IfSome result (λ numbers. HasNumbersOf matches.now (Job.Plan numbers.0 numbers.1)) }
 {
     let workers = matches.get_one::<usize>("workers")?;
     let nodes = matches.get_one::<u32>("nodes")?;
@@ -115,6 +117,7 @@ fn numbers_of(matches: &ArgMatches<'_>) -> Option<(usize, u32)>
 fn plan_line(alloc: Global, matches: &ArgMatches<'_>) -> Result<Line, LineFault>
     ensures within { IfOk result (λ line. JobFits line.job) }
     ensures paths { IfOk result (λ line. HasPath line.job line.cert) }
+    ensures said { IfOk result (λ line. HasNumbersOf matches.now line.job) }
     ensures out { IfOk result (λ line. MayHaveOut line.job line.out) }
 {
     let Some((workers, nodes)) = numbers_of(matches) else {

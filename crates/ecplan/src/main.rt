@@ -2,7 +2,7 @@
 //! units come on standard input, and the text goes to standard output.
 #![tactic(auto)]
 
-use ec_jobs::do_line;
+use ec_jobs::{do_line, refuse_memory, refuse_words};
 use ec_wire::Io;
 use ec_words::{LineFault, read_words};
 use std::io::ErrorKind;
@@ -18,26 +18,6 @@ fn words_of(rt: &HostRuntime) -> io::Result<Vec<String>> {
     Ok(words)
 }
 
-/// The exit status where memory ran out or a write failed.
-const FAILED: u8 = 4;
-
-/// The exit status of words that are no command.
-const REFUSED_WORDS: u8 = 5;
-
-/// Says that memory ran out before there was a job.
-fn refuse_memory(rt: &HostRuntime) -> u8 {
-    let _ = rt.print("refused U1 OutOfMemory\n");
-    FAILED
-}
-
-/// Says that the words are no command, by this text.
-fn refuse_words(rt: &HostRuntime, text: &str) -> u8 {
-    match rt.print(text) {
-        Ok(()) => REFUSED_WORDS,
-        Err(_) => FAILED,
-    }
-}
-
 /// Takes one of the numbers 0 to 2 that is free where a standard stream is closed, so that no file that is opened later
 /// is taken for that stream: a read of a directory fails, and so does a write to what is opened for reading.
 fn hold_number(rt: &HostRuntime) -> Option<fs::File> {
@@ -47,22 +27,24 @@ fn hold_number(rt: &HostRuntime) -> Option<fs::File> {
 /// Reads the words, does the job on the standard streams, and ends with its status.
 fn main(rt: HostRuntime) -> ExitCode {
     let _held = (hold_number(&rt), hold_number(&rt), hold_number(&rt));
+    let mut out = Io::new(io::writer(&rt));
     let words = match words_of(&rt) {
         Ok(words) => words,
         Err(error) if error.kind() == ErrorKind::InvalidData => {
-            return ExitCode::from(refuse_words(&rt, "error: a word is not UTF-8\n"));
+            let status = refuse_words(&mut out, "error: a word is not UTF-8\n");
+            return ExitCode::from(status.code);
         }
-        Err(_) => return ExitCode::from(refuse_memory(&rt)),
+        Err(_) => return ExitCode::from(refuse_memory(&mut out).code),
     };
     let line = match read_words(rt.alloc(), &words) {
         Ok(line) => line,
-        Err(LineFault::Memory) => return ExitCode::from(refuse_memory(&rt)),
+        Err(LineFault::Memory) => return ExitCode::from(refuse_memory(&mut out).code),
         Err(LineFault::Refused { text }) => {
-            return ExitCode::from(refuse_words(&rt, text.as_str()));
+            let status = refuse_words(&mut out, text.as_str());
+            return ExitCode::from(status.code);
         }
     };
     let mut units = Io::new(rt.reader());
-    let mut text = Io::new(io::writer(&rt));
-    let status = do_line(&rt, &rt, rt.alloc(), &line, &mut units, &mut text);
+    let status = do_line(&rt, &rt, rt.alloc(), &line, &mut units, &mut out);
     ExitCode::from(status.code)
 }

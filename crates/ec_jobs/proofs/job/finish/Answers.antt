@@ -6,15 +6,15 @@ use Rattle.ec_jobs.proofs.job.finish.Goals as goal
 
 pub returns-in-Ok : goal.returns-in-Ok
 returns-in-Ok g c =
-    tells_bytes c.args.answer (shown c.in-Ok.answer) _ _ c.in-Ok.answer.code c.as_bytes.result.now (inl (sym (ap written_of c.in-Ok.is))) c.as_bytes.ensures.value refl
+    tells_bytes c.args.answer (shown c.in-Ok.answer) _ _ c.in-Ok.answer.code c.as_bytes.result.now (rw c.in-Ok.is refl) c.as_bytes.ensures.value refl
     c.write_status.ensures.all c.write_status.ensures.front c.write_status.ensures.failed
 
 pub returns-in-Ok-refusal_text : goal.returns-in-Ok-refusal_text
 returns-in-Ok-refusal_text g c =
-    tells_bytes c.args.answer (refused c.in-Err.refusal) _ _ c.code.result c.as_bytes-in-Ok-refusal_text.result.now (inl (sym (ap written_of c.in-Err.is))) (c.as_bytes-in-Ok-refusal_text.ensures.value ∙ c.in-Ok-refusal_text.ensures) c.code.ensures
+    tells_bytes c.args.answer (refused c.in-Err.refusal) _ _ c.code.result c.as_bytes-in-Ok-refusal_text.result.now (rw c.in-Err.is (inl refl)) (c.as_bytes-in-Ok-refusal_text.ensures.value ∙ c.in-Ok-refusal_text.ensures) c.code.ensures
     c.write_status-in-Ok-refusal_text.ensures.all c.write_status-in-Ok-refusal_text.ensures.front c.write_status-in-Ok-refusal_text.ensures.failed
 
 pub returns-in-Err-refusal_text : goal.returns-in-Err-refusal_text
 returns-in-Err-refusal_text g c =
-    tells_bytes c.args.answer (refused out_of_memory) _ _ 4 c.as_bytes-in-Err-refusal_text.result.now (inr refl) c.as_bytes-in-Err-refusal_text.ensures.value refl
+    tells_bytes c.args.answer (refused out_of_memory) _ _ 4 c.as_bytes-in-Err-refusal_text.result.now (rw c.in-Err.is (inr refl)) c.as_bytes-in-Err-refusal_text.ensures.value refl
     c.write_status-in-Err-refusal_text.ensures.all c.write_status-in-Err-refusal_text.ensures.front c.write_status-in-Err-refusal_text.ensures.failed
