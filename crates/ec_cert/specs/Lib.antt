@@ -4,3 +4,4 @@ pub mod Reading
 pub mod Shapes
 pub mod Text
 pub mod Views
+pub mod Waiting

@@ -1,6 +1,7 @@
 //! Certificates: a plan with its value and the search tree that shows it least, as a text that has exactly one meaning.
 #![tactic(auto)]
 
+mod buffer;
 mod cert;
 mod digits;
 mod fault;

@@ -6,6 +6,6 @@ use Rattle.ec_cert.proofs.writing.write_places.Given as goal
 
 abbrev pub invariant-places : goal.invariant-places
 invariant-places g l = record {
-  text : IsWritten place_line (g.W.Write.contents (stream l.initial.io)) (g.W.Write.contents (stream l.io)) l.places l.place-index;
+  text : IsWritten place_line (g.W.Write.contents (stream l.initial.io)) l.initial.waiting.bytes.items (g.W.Write.contents (stream l.io)) l.waiting.bytes.items l.places l.place-index;
   same : has_failed l.io ≡ has_failed l.initial.io;
 }

@@ -6,6 +6,6 @@ use Rattle.ec_cert.proofs.writing.write_units.Given as goal
 
 abbrev pub invariant-units : goal.invariant-units
 invariant-units g l = record {
-  text : IsWritten unit_line (g.W.Write.contents (stream l.initial.io)) (g.W.Write.contents (stream l.io)) l.units l.unit-index;
+  text : IsWritten unit_line (g.W.Write.contents (stream l.initial.io)) l.initial.waiting.bytes.items (g.W.Write.contents (stream l.io)) l.waiting.bytes.items l.units l.unit-index;
   same : has_failed l.io ≡ has_failed l.initial.io;
 }

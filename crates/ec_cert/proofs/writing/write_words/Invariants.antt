@@ -6,6 +6,6 @@ use Rattle.ec_cert.proofs.writing.write_words.Given as goal
 
 abbrev pub invariant-words : goal.invariant-words
 invariant-words g l = record {
-  text : IsWritten index_word (g.W.Write.contents (stream l.initial.io)) (g.W.Write.contents (stream l.io)) l.order l.unit-index;
+  text : IsWritten index_word (g.W.Write.contents (stream l.initial.io)) l.initial.waiting.bytes.items (g.W.Write.contents (stream l.io)) l.waiting.bytes.items l.order l.unit-index;
   same : has_failed l.io ≡ has_failed l.initial.io;
 }
