@@ -6,3 +6,4 @@ pub mod Legal
 pub mod Line
 pub mod Search
 pub mod Shape
+pub mod Table
