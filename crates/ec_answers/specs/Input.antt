@@ -1,9 +1,9 @@
 -- What is read.
 use Rattle.std.specs.Prelude.{◌≡◌, ◌⊎◌, ℕ, ◌<◌, ◌≤◌, false, List, length, Option, Some, None, Result, Ok, Err, IfSome}
 use Rattle.std.specs.Io.KnownBytes.{Consumes}
-use Rattle.ec_units.specs.declared.fault.UnitFault.{UnitFault}
+use Rattle.ec_unit_text.specs.declared.fault.UnitFault.{UnitFault}
 use Rattle.ec_units.specs.declared.units.Units.{Units}
-use Rattle.ec_units.specs.Reading.{reading, IsValidText}
+use Rattle.ec_unit_text.specs.Reading.{reading, IsValidText}
 use Rattle.ec_units.specs.Views.{units_view}
 use Rattle.ec_lines.specs.declared.refusal.Refusal.{Refusal}
 use Rattle.ec_lines.specs.declared.refusal.Refusal.TheVariants as refusal

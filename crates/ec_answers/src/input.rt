@@ -9,7 +9,8 @@ ghost use Rattle.ec_lines.specs.declared.refusal.Refusal.TheVariants.{Cert};
 
 use ec_cert::{CertFault, MOST_BYTES};
 use ec_lines::Refusal;
-use ec_units::{Units, read_units};
+use ec_unit_text::read_units;
+use ec_units::Units;
 use ec_wire::{Io, IoFault};
 use std::alloc::Global;
 use std::io::Read;

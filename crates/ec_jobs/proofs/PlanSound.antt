@@ -1,11 +1,11 @@
 -- What a plan tells is true.
 use Rattle.std.proofs.Common.{◌≡◌, ℕ, ◌≤◌, List, Option, Some, Result, Ok, refl, ap, subst, sym, ◌∙◌, inl, inr, arith}
 use Rattle.ec_units.specs.declared.slave.Place.{Place}
-use Rattle.ec_units.specs.declared.fault.UnitFault.{UnitFault}
+use Rattle.ec_unit_text.specs.declared.fault.UnitFault.{UnitFault}
 use Rattle.ec_units.specs.declared.unit.Load.{Load}
 use Rattle.ec_units.specs.declared.units.Units.{Units}
 use Rattle.ec_units.specs.Load.{loads_of}
-use Rattle.ec_units.specs.Reading.{reading}
+use Rattle.ec_unit_text.specs.Reading.{reading}
 use Rattle.ec_units.specs.Views.{UnitsView, units_view, view_loads}
 use Rattle.ec_units.proofs.Viewed.{loads_of-views}
 use Rattle.ec_loads.specs.Cost.{plan_items, tick_cost, IsBusiest}

@@ -1,12 +1,12 @@
 -- A check's yes is true.
 use Rattle.std.proofs.Common.{◌≡◌, ℕ, ◌≤◌, List, Option, Some, None, Result, Ok, Err, refl, ap, subst, inl, inr, arith}
 use Rattle.std.specs.Prelude.{MatchResult}
-use Rattle.ec_units.specs.declared.fault.UnitFault.{UnitFault}
-use Rattle.ec_units.specs.declared.fault.UnitFault.TheVariants as fault
+use Rattle.ec_unit_text.specs.declared.fault.UnitFault.{UnitFault}
+use Rattle.ec_unit_text.specs.declared.fault.UnitFault.TheVariants as fault
 use Rattle.ec_units.specs.declared.unit.Load.{Load}
 use Rattle.ec_units.specs.declared.units.Units.{Units}
 use Rattle.ec_units.specs.Load.{loads_of}
-use Rattle.ec_units.specs.Reading.{reading}
+use Rattle.ec_unit_text.specs.Reading.{reading}
 use Rattle.ec_units.specs.Views.{UnitsView, units_view, view_loads}
 use Rattle.ec_units.proofs.Viewed.{loads_of-views}
 use Rattle.ec_loads.specs.Search.{IsLeast, HasNoPlan}

@@ -1,9 +1,9 @@
 -- The lines that refuse, and their statuses.
 use Rattle.std.specs.Prelude.{◌≡◌, ◌⊎◌, ℕ, List, ◌++◌, codes}
 use Rattle.std.specs.Fmt.{decimal}
-use Rattle.ec_units.specs.declared.fault.UnitFault.{UnitFault}
-use Rattle.ec_units.specs.declared.fault.UnitFault.TheVariants as fault
-use Rattle.ec_units.specs.FaultText.{key_text, spot_text}
+use Rattle.ec_unit_text.specs.declared.fault.UnitFault.{UnitFault}
+use Rattle.ec_unit_text.specs.declared.fault.UnitFault.TheVariants as fault
+use Rattle.ec_unit_text.specs.FaultText.{key_text, spot_text}
 use Rattle.ec_loads.specs.declared.plan.Illegal.{Illegal}
 use Rattle.ec_loads.specs.declared.plan.Illegal.TheVariants as illegal
 use Rattle.ec_cert.specs.declared.fault.CertFault.{CertFault}

@@ -7,7 +7,7 @@ ghost use Rattle.ec_lines.specs.declared.refusal.Refusal.TheVariants.{Unit as Un
 use ec_cert::CertFault;
 use ec_checker::CheckFault;
 use ec_loads::Illegal;
-use ec_units::UnitFault;
+use ec_unit_text::UnitFault;
 use ec_wire::WriteFault;
 use ec_workers::SolveFault;
 use std::alloc::{AllocError, AllocFailed};

@@ -1,6 +1,7 @@
 //! Lines of units that scripts name, and places as words.
 
-use ec_units::{Place, Units, read_units};
+use ec_unit_text::read_units;
+use ec_units::{Place, Units};
 use std::alloc::{AllocError, Global};
 use std::fmt::Write;
 

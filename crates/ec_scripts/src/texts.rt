@@ -2,7 +2,8 @@
 
 use crate::call::Call;
 use crate::samples::line_text;
-use ec_units::{Place, Slave, Unit, Units, bytes_of, read_units};
+use ec_unit_text::read_units;
+use ec_units::{Place, Slave, Unit, Units, bytes_of};
 use std::alloc::{AllocError, Global};
 use std::fmt::Write;
 

@@ -2,7 +2,8 @@
 
 use ec_cert::{Best, Cert, Order, Tree, UnitLine, UnitLines, one_text_each, well_formed};
 use ec_loads::{Places, Plan};
-use ec_units::{Name, Slaves, UnitFault, UnitList, read_units};
+use ec_unit_text::{UnitFault, read_units};
+use ec_units::{Name, Slaves, UnitList};
 use std::alloc::{AllocError, Global};
 use std::test::Fail;
 

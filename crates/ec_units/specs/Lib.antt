@@ -1,11 +1,5 @@
-pub mod AtKey
 pub mod Bytes
-pub mod FaultText
-pub mod Fits
 pub mod Load
 pub mod Names
-pub mod Rank
-pub mod Reading
 pub mod Together
-pub mod UnitText
 pub mod Views

@@ -1,0 +1,9 @@
+pub mod Alone
+pub mod Apart
+pub mod Beside
+pub mod Built
+pub mod Faultless
+pub mod Fitting
+pub mod OrderLaws
+pub mod Tabled
+pub mod Whole

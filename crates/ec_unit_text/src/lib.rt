@@ -1,0 +1,15 @@
+//! Sync units read from a TOML text, and the faults that such a text can have.
+#![tactic(auto)]
+
+mod build;
+mod fault;
+mod judge;
+mod law;
+mod read;
+mod rule;
+mod table;
+mod walk;
+
+pub use fault::{Key, Spot, UnitFault};
+pub use law::faults_in_order;
+pub use read::read_units;

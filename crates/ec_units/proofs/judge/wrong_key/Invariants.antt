@@ -1,9 +1,0 @@
-use Rattle.std.proofs.Common.{◌≡◌, drop}
-use Rattle.std.specs.List.{flat_map}
-use Rattle.toml.specs.View.{table_view}
-use Rattle.ec_units.specs.UnitText.{first, wrong_at}
-use Rattle.ec_units.proofs.judge.wrong_key.Given as goal
-
-abbrev pub invariant-loop-key : goal.invariant-loop-key
-invariant-loop-key l =
-    first (flat_map (wrong_at l.spot (table_view l.table)) (drop l.key-index l.keys)) ≡ first (flat_map (wrong_at l.spot (table_view l.table)) l.keys)

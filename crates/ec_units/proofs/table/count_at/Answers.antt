@@ -1,7 +1,0 @@
-use Rattle.std.proofs.Common.{◌∙◌, sym, ap}
-use Rattle.ec_units.specs.AtKey.{item_count}
-use Rattle.ec_units.proofs.Beside.{item_count-items_view}
-use Rattle.ec_units.proofs.table.count_at.Goals as goal
-
-pub returns : goal.returns
-returns c = sym (item_count-items_view c.values_at.result.now) ∙ ap item_count c.values_at.ensures
