@@ -1,21 +1,22 @@
 //! The book.
 
-ghost use Rattle.std.specs.Prelude.{◌≡◌, ◌≢◌, ℕ, ◌+◌, ◌<◌, ◌≤◌, ◌^◌, ◌++◌, ◌∷◌, [], IfOk, IfSome, IfErr, OnOk, OnErr, OnSome, IfNone, ◌↔◌, MatchOption, None, Some, length, slice_get, replicate, drop, vec_capacity, vec_len};
+ghost use Rattle.std.specs.Prelude.{◌≡◌, ◌≢◌, ℕ, ◌==◌, IsTrue, MatchBool, ◌+◌, ◌<◌, ◌≤◌, ◌^◌, ◌++◌, ◌∷◌, [], IfOk, IfSome, IfErr, OnOk, OnErr, OnSome, IfNone, ◌↔◌, MatchOption, None, Some, length, slice_get, replicate, drop, vec_capacity, vec_len};
 ghost use Rattle.ec_units.specs.Load.{loads_of};
 ghost use Rattle.ec_loads.specs.Line.{slots_alone, line_by};
 ghost use Rattle.ec_loads.specs.Search.{IsPartialTree, node_count as node_count_of};
 ghost use Rattle.ec_cert.specs.Shapes.{shape_of};
 ghost use Rattle.ec_symmetry.specs.Orders.{IsOrder, prefix_of};
 ghost use Rattle.ec_book.specs.declared.piece.Piece.TheVariants.{Free};
-ghost use Rattle.ec_book.specs.Steps.{live_one, live_count, IsHistory};
+ghost use Rattle.ec_book.specs.Steps.{live_one, live_count, taken_count, IsHistory};
 ghost use Rattle.ec_book.specs.Open.{open_places};
 ghost use Rattle.ec_cert.specs.BestPlan.{value_of};
 ghost use Rattle.ec_book.specs.Views.{book_view, state_of, opening, after_back, after_better, after_report};
 ghost use Rattle.ec_book.specs.Kept.{NoneFreeBelow};
-ghost use Rattle.ec_book.specs.Faults.{IsLowestFree, IsHandedOut, IsHoldFault, IsBetterFault, IsPlanOf, IsReportFault, IsTakenBy, IsWelcome};
+ghost use Rattle.ec_book.specs.Faults.{left_of, IsLowestFree, IsGiven, IsHandedOut, IsPieceHandedOut, IsPieceFault, IsHoldFault, IsBetterFault, IsPlanOf, IsReportFault, IsTakenBy, IsWelcome};
 ghost use Rattle.ec_book.specs.Steps.{IsBelow};
 ghost use Rattle.ec_book.specs.Finishing.{IsFinishedOf};
 ghost use Rattle.ec_book.specs.declared.fault.BookFault.TheVariants.{OutOfMemory};
+ghost use Rattle.ec_book.specs.declared.taken.Taken.TheVariants.{Later, Done};
 
 use crate::fault::BookFault;
 use crate::finish::{assembled, open_leaves};
@@ -160,19 +161,43 @@ impl Book {
         })
     }
 
-    /// Hands out the lowest free piece, for at most `most` nodes.
-    pub fn take(&mut self, worker: usize, most: u32) -> Result<Taken, BookFault>
-        requires { 1 ≤ most }
-        ensures ok { IfOk result (λ t. IsHandedOut self.old worker most t self.new) }
+    /// The nodes that are neither spent nor granted.
+    fn left(&self) -> u64
+        ensures { result ≡ left_of self.now }
+    {
+        self.nodes - self.spent - self.held
+    }
+
+    /// What is answered where nothing can be handed out.
+    fn none_left(&self) -> Taken
+        ensures { MatchBool (taken_count self.now.pieces == 0) (result ≡ Done) (result ≡ Later) }
+    {
+        if self.taken == 0 {
+            Taken::Done
+        } else {
+            Taken::Later
+        }
+    }
+
+    /// The lowest free piece. Those below it aren't looked at again before one of them is given back.
+    fn lowest(&mut self) -> Option<usize>
+        ensures same { self.new ≡ self.old }
+        ensures found { MatchOption result (NoneFreeBelow self.old.pieces (length self.old.pieces)) (IsLowestFree self.old.pieces) }
+    {
+        let found = lowest_free(self.pieces.as_slice(), self.low);
+        self.low = found.unwrap_or(self.pieces.len());
+        found
+    }
+
+    /// Hands out a free piece, where a node is left.
+    fn hand_out(&mut self, at: usize, worker: usize, most: u32) -> Result<Took, BookFault>
+        requires free { slice_get self.old.pieces at ≡ Some Free }
+        requires left { 0 < left_of self.old }
+        requires some { 1 ≤ most }
+        ensures ok { IfOk result (λ t. (t.piece ≡ at) × IsGiven self.old worker most t self.new) }
         ensures err { IfErr result (λ e. (e ≡ OutOfMemory) × (self.new ≡ self.old)) }
     {
-        let left = self.nodes - self.spent - self.held;
-        let at = match lowest_free(self.pieces.as_slice(), self.low) {
-            Some(at) if left > 0 => at,
-            _ if self.taken == 0 => return Ok(Taken::Done),
-            _ => return Ok(Taken::Later),
-        };
-        let grant = left.min(u64::from(most)) as u32;
+        let grant = self.left().min(u64::from(most)) as u32;
         let alloc = *self.log.allocator();
         let Ok(prefix) = Vec::from_slice(alloc, self.prefixes[at].as_slice()) else {
             return Err(BookFault::OutOfMemory);
@@ -192,13 +217,56 @@ impl Book {
         self.pieces[at] = Piece::Taken { worker, grant };
         self.held += u64::from(grant);
         self.taken += 1;
-        self.low = at;
-        Ok(Taken::Piece(Took {
+        Ok(Took {
             piece,
             prefix: Places::new(prefix),
             value: value_in(&self.best),
             grant,
-        }))
+        })
+    }
+
+    /// Hands out the lowest free piece, for at most `most` nodes.
+    pub fn take(&mut self, worker: usize, most: u32) -> Result<Taken, BookFault>
+        requires { 1 ≤ most }
+        ensures ok { IfOk result (λ t. IsHandedOut self.old worker most t self.new) }
+        ensures err { IfErr result (λ e. (e ≡ OutOfMemory) × (self.new ≡ self.old)) }
+    {
+        let Some(at) = self.lowest() else {
+            return Ok(self.none_left());
+        };
+        if self.left() == 0 {
+            return Ok(self.none_left());
+        }
+        match self.hand_out(at, worker, most) {
+            Ok(took) => Ok(Taken::Piece(took)),
+            Err(fault) => Err(fault),
+        }
+    }
+
+    /// Whether there is such a piece and it is free.
+    pub fn is_free(&self, piece: u64) -> bool
+        ensures { IsTrue result ↔ (slice_get self.now.pieces piece ≡ Some Free) }
+    {
+        let at = piece as usize;
+        at < self.pieces.len() && self.pieces[at] == Piece::Free
+    }
+
+    /// Hands out a piece by its number, where it is free, for at most `most` nodes.
+    pub fn take_piece(&mut self, worker: usize, piece: u64, most: u32) -> Result<Taken, BookFault>
+        requires { 1 ≤ most }
+        ensures ok { IfOk result (λ t. IsPieceHandedOut self.old worker piece most t self.new) }
+        ensures err { IfErr result (λ e. IsPieceFault self.old piece e × (self.new ≡ self.old)) }
+    {
+        if !self.is_free(piece) {
+            return Err(BookFault::NotFree);
+        }
+        if self.left() == 0 {
+            return Ok(self.none_left());
+        }
+        match self.hand_out(piece as usize, worker, most) {
+            Ok(took) => Ok(Taken::Piece(took)),
+            Err(fault) => Err(fault),
+        }
     }
 
     /// Gives a piece back that this worker has taken; it is free again, and its grant can be granted again. Takes no
