@@ -109,6 +109,12 @@ IsFullFault xs n _ = ⊥
 abbrev pub IsPlanOf : List Load → ℕ → List Place → ℕ → Type 0
 IsPlanOf loads n plan v = IsLegal loads n plan × IsBusiest (plan_items loads plan) n v
 
+-- why a legal plan of this cost is refused: it isn't better, else memory was refused
+abbrev pub IsOfferFault : Option ℕ → ℕ → BookFault → Type 0
+IsOfferFault value v (fault.NotBetter w) = (value ≡ Some w) × (w ≤ v)
+IsOfferFault value v fault.OutOfMemory = IsBelow v value
+IsOfferFault value v _ = ⊥
+
 -- why a plan is refused: it isn't legal, else it isn't better, else memory was refused
 abbrev pub IsBetterFault : BookView → List Place → BookFault → Type 0
 IsBetterFault b plan (fault.Illegal i) = IsIllegalBy b.loads b.slots plan i

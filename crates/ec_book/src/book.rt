@@ -9,10 +9,11 @@ ghost use Rattle.ec_symmetry.specs.Orders.{IsOrder, prefix_of};
 ghost use Rattle.ec_book.specs.declared.piece.Piece.TheVariants.{Free};
 ghost use Rattle.ec_book.specs.Steps.{live_one, live_count, taken_count, IsHistory};
 ghost use Rattle.ec_book.specs.Open.{open_places};
-ghost use Rattle.ec_cert.specs.BestPlan.{value_of};
+ghost use Rattle.ec_cert.specs.BestPlan.{value_of, IsBestPlan};
+ghost use Rattle.ec_loads.specs.Legal.{IsIllegalBy};
 ghost use Rattle.ec_book.specs.Views.{book_view, state_of, opening, after_back, after_better, after_report};
 ghost use Rattle.ec_book.specs.Kept.{NoneFreeBelow};
-ghost use Rattle.ec_book.specs.Faults.{left_of, IsLowestFree, IsGiven, IsHandedOut, IsPieceHandedOut, IsPieceFault, IsHoldFault, IsBetterFault, IsPlanOf, IsReportFault, IsTakenBy, IsWelcome};
+ghost use Rattle.ec_book.specs.Faults.{left_of, IsLowestFree, IsGiven, IsHandedOut, IsPieceHandedOut, IsPieceFault, IsHoldFault, IsBetterFault, IsOfferFault, IsPlanOf, IsReportFault, IsTakenBy, IsWelcome};
 ghost use Rattle.ec_book.specs.Steps.{IsBelow};
 ghost use Rattle.ec_book.specs.Finishing.{IsFinishedOf};
 ghost use Rattle.ec_book.specs.declared.fault.BookFault.TheVariants.{OutOfMemory};
@@ -28,8 +29,8 @@ use crate::report::Report;
 use crate::step::{Step, Steps};
 use crate::taken::{Taken, Took};
 use ec_cert::{Best, Subtree, Tree};
-use ec_loads::{Loads, Places, Plan};
-use ec_units::{Place, Units};
+use ec_loads::{Illegal, Loads, Places, Plan};
+use ec_units::{Load, Place, Units};
 use std::alloc::{AllocError, Global};
 use std::marker::Model;
 
@@ -295,24 +296,44 @@ impl Book {
             × (self.new ≡ after_better self.old worker (record { busiest = v; plan = plan }))) }
         ensures err { IfErr result (λ e. IsBetterFault self.old plan.places e.0 × (e.1 ≡ plan) × (self.new ≡ self.old)) }
     {
-        let value = match plan_cost(&mut self.loads, plan.places.as_slice()) {
-            Ok(value) => value,
+        let busiest = match self.cost_of(&plan) {
+            Ok(busiest) => busiest,
             Err(illegal) => return Err((BookFault::Illegal(illegal), plan)),
         };
+        match self.improve(worker, Best { busiest, plan }) {
+            Ok(()) => Ok(()),
+            Err((fault, Best { plan, .. })) => Err((fault, plan)),
+        }
+    }
+
+    /// What the busiest tick of a plan costs, where it is legal. Takes no memory.
+    fn cost_of(&mut self, plan: &Plan) -> Result<u64, Illegal>
+        ensures same { self.new ≡ self.old }
+        ensures ok { IfOk result (λ v. IsPlanOf self.old.loads self.old.slots plan.now.places v) }
+        ensures err { IfErr result (IsIllegalBy self.old.loads self.old.slots plan.now.places) }
+    {
+        plan_cost(&mut self.loads, plan.places.as_slice())
+    }
+
+    /// Offers a plan that is known to be legal, with what its busiest tick costs. It becomes the best one where that is
+    /// less than the value.
+    pub fn improve(&mut self, worker: usize, best: Best) -> Result<(), (BookFault, Best)>
+        requires plan { IsPlanOf self.old.loads self.old.slots best.plan.places best.busiest }
+        ensures ok { OnOk result (IsBelow best.busiest (value_of self.old.best) × (self.new ≡ after_better self.old worker best)) }
+        ensures err { IfErr result (λ e. IsOfferFault (value_of self.old.best) best.busiest e.0 × (e.1 ≡ best) × (self.new ≡ self.old)) }
+    {
+        let value = best.busiest;
         if let Some(old) = not_below(value, value_in(&self.best)) {
-            return Err((BookFault::NotBetter(old), plan));
+            return Err((BookFault::NotBetter(old), best));
         }
         let Some(more) = self.taken.checked_add(1) else {
-            return Err((BookFault::OutOfMemory, plan));
+            return Err((BookFault::OutOfMemory, best));
         };
         let Ok(()) = self.log.reserve(more) else {
-            return Err((BookFault::OutOfMemory, plan));
+            return Err((BookFault::OutOfMemory, best));
         };
         self.log.push_reserved(Step::Better { worker, value });
-        self.best = Some(Best {
-            busiest: value,
-            plan,
-        });
+        self.best = Some(best);
         Ok(())
     }
 
@@ -380,6 +401,61 @@ impl Book {
         self.taken -= 1;
         self.spent += spent;
         Ok(())
+    }
+
+    /// Why a report would be refused, memory aside. Nothing is changed.
+    pub fn judge(
+        &self,
+        worker: usize,
+        piece: u64,
+        prefix: &[Place],
+        sub: &Subtree,
+    ) -> Result<(), BookFault>
+        ensures ok { OnOk result ((g : ℕ) × IsWelcome self.now.pieces self.now.prefixes (value_of self.now.best) worker piece prefix.now sub.now.threshold (node_count_of (shape_of sub.now.tree)) g) }
+        ensures err { IfErr result (IsReportFault self.now.pieces self.now.prefixes (value_of self.now.best) worker piece prefix.now sub.now.threshold (node_count_of (shape_of sub.now.tree))) }
+    {
+        let value = value_in(&self.best);
+        match judged(
+            self.pieces.as_slice(),
+            self.prefixes.as_slice(),
+            value,
+            worker,
+            piece,
+            prefix,
+            sub,
+        ) {
+            Ok(_) => Ok(()),
+            Err(fault) => Err(fault),
+        }
+    }
+
+    /// What the busiest tick of the best plan costs, in wire bytes; none, as long as no plan is known.
+    pub fn value(&self) -> Option<u64>
+        ensures value { result ≡ value_of self.now.best }
+        ensures plan { IsBestPlan self.now.loads self.now.slots self.now.best }
+    {
+        value_in(&self.best)
+    }
+
+    /// Bytes and periods of the units, in file order.
+    pub fn loads(&self) -> &[Load]
+        ensures { result.now ≡ self.now.loads }
+    {
+        self.loads.loads()
+    }
+
+    /// The slot count.
+    pub fn slots(&self) -> u8
+        ensures { result ≡ self.now.slots }
+    {
+        self.loads.slots()
+    }
+
+    /// The units by their indices, in the order in which the search gives them places.
+    pub fn order(&self) -> &[u8]
+        ensures { result.now ≡ self.now.order }
+    {
+        self.order.as_slice()
     }
 
     /// The log: every step so far.

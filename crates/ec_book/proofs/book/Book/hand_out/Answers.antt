@@ -1,4 +1,4 @@
-use Rattle.std.proofs.Common.{◌≡◌, ◌<◌, ◌≤◌, ◌+◌, ◌-◌, arith, refl, vec_capacity, slice_get, Some}
+use Rattle.std.proofs.Common.{◌≡◌, ◌<◌, ◌+◌, ◌-◌, arith, refl, vec_capacity, slice_get, Some}
 use Rattle.ec_loads.specs.Line.{slots_alone, line_by}
 use Rattle.ec_book.specs.declared.piece.Piece.TheVariants.{Free, Taken}
 use Rattle.ec_cert.specs.BestPlan.{value_of}
