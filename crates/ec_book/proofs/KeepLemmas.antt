@@ -74,24 +74,25 @@ module _ (nodes : ℕ) (ps : List Piece) (value : Option ℕ) (spent held taken 
   abbrev now : PiecesState
   now = record { pieces = ps; value = value; spent = spent }
 
-  pub counted-took : (w p g more : ℕ) (new_log : List Step) → slice_get ps p ≡ Some Free → NoneFreeBelow ps p → 1 ≤ g → g ≤ nodes - spent - held → new_log ≡ log ++ (Took w p g) ∷ [] → length log + (taken + 2) ≤ more
-      → IsCounted nodes (set ps p (Taken w g)) value spent (held + g) (taken + 1) p new_log more
-  counted-took w p g more new_log at none some few log_is big =
+  pub counted-took : (w p g more : ℕ) (new_log : List Step) → slice_get ps p ≡ Some Free → 1 ≤ g → g ≤ nodes - spent - held → new_log ≡ log ++ (Took w p g) ∷ [] → length log + (taken + 2) ≤ more
+      → IsCounted nodes (set ps p (Taken w g)) value spent (held + g) (taken + 1) low new_log more
+  counted-took w p g more new_log at some few log_is big =
       let part = granted-set ps p Free (Taken w g) at in
       let count = taken-set ps p Free (Taken w g) at in
-      let long = ap length log_is ∙ length-push log (Took w p g) in
-      let inside = within ps p Free at in
       let size = length-set' ps p (Taken w g) in
-      let held_is = h.held_is in let fits = h.within in let taken_is = h.taken_is in
+      let held_is = h.held_is in let fits = h.within in let taken_is = h.taken_is in let low_in = h.low_in in
       rw log_is (record {
         history = history-push nodes start log (Took w p g) now _ h.history (at, some, omega (arith, held_is, fits, few, some), refl);
         held_is = omega (arith, held_is, part);
         within = omega (arith, fits, few, some);
         taken_is = omega (arith, taken_is, count);
         room_is = (let size_is = length-push log (Took w p g) in omega (arith, size_is, big));
-        low_is = none-free-set ps p p (Taken w g) (taken-not-free w g) none;
-        low_in = omega (arith, size, inside);
+        low_is = none-free-set ps p low (Taken w g) (taken-not-free w g) h.low_is;
+        low_in = omega (arith, size, low_in);
       })
+
+  pub counted-low : (new_low : ℕ) → NoneFreeBelow ps new_low → new_low ≤ length ps → IsCounted nodes ps value spent held taken new_low log room
+  counted-low new_low none inside = record { history = h.history; held_is = h.held_is; within = h.within; taken_is = h.taken_is; room_is = h.room_is; low_is = none; low_in = inside }
 
   pub counted-back : (w p g : ℕ) (new_log : List Step) → slice_get ps p ≡ Some (Taken w g) → new_log ≡ log ++ (Back w p) ∷ []
       → IsCounted nodes (set ps p Free) value spent (held - g) (taken - 1) (min low p) new_log room

@@ -16,6 +16,7 @@ use Rattle.ec_book.specs.declared.fault.BookFault.{BookFault}
 use Rattle.ec_book.specs.declared.fault.BookFault.TheVariants as fault
 use Rattle.ec_book.specs.declared.taken.Taken.{Taken as Handed}
 use Rattle.ec_book.specs.declared.taken.Taken.TheVariants as handed
+use Rattle.ec_book.specs.declared.taken.Took.{Took as Given}
 use Rattle.ec_book.specs.Steps.{granted, taken_count, IsBelow}
 use Rattle.ec_cert.specs.BestPlan.{value_of}
 use Rattle.ec_book.specs.Views.{BookView, after_took}
@@ -33,14 +34,33 @@ left_of b = b.nodes - (b.spent + granted b.pieces)
 abbrev pub HasNothing : BookView → Type 0
 HasNothing b = NoneFreeBelow b.pieces (length b.pieces) ⊎ (left_of b ≡ 0)
 
--- what a worker who asks for so many nodes is answered: the lowest free piece with its prefix, the value and the lesser of what it asked for and what is
--- left; nothing yet, where a piece is taken; or that the search is done
+-- a free piece is handed out: with its prefix, the value and the lesser of what was asked for and what is left
+pub record IsGiven (old : BookView) (worker most : ℕ) (t : Given) (new : BookView) : Type 0 where
+  pub free : slice_get old.pieces t.piece ≡ Some Free
+  pub place : slice_get old.prefixes t.piece ≡ Some t.prefix
+  pub reached : IsReachedPrefix (line_by slots_alone old.loads old.slots) old.order t.prefix
+  pub value : t.value ≡ value_of old.best
+  pub grant : t.grant ≡ min most (left_of old)
+  pub some : 1 ≤ t.grant
+  pub book : new ≡ after_took old worker t.piece t.grant
+
+-- what a worker who asks for so many nodes is answered: the lowest free piece; nothing yet, where a piece is taken; or that the search is done
 abbrev pub IsHandedOut : BookView → ℕ → ℕ → Handed → BookView → Type 0
-IsHandedOut old worker most (handed.Piece t) new =
-    IsLowestFree old.pieces t.piece × (slice_get old.prefixes t.piece ≡ Some t.prefix) × IsReachedPrefix (line_by slots_alone old.loads old.slots) old.order t.prefix × (t.value ≡ value_of old.best)
-    × (t.grant ≡ min most (left_of old)) × (1 ≤ t.grant) × (new ≡ after_took old worker t.piece t.grant)
+IsHandedOut old worker most (handed.Piece t) new = NoneFreeBelow old.pieces t.piece × IsGiven old worker most t new
 IsHandedOut old worker most handed.Later new = HasNothing old × (0 < taken_count old.pieces) × (new ≡ old)
 IsHandedOut old worker most handed.Done new = HasNothing old × (taken_count old.pieces ≡ 0) × (new ≡ old)
+
+-- what a worker who asks for one free piece is answered: that piece; or, where no node is left, nothing yet or that the search is done
+abbrev pub IsPieceHandedOut : BookView → ℕ → ℕ → ℕ → Handed → BookView → Type 0
+IsPieceHandedOut old worker piece most (handed.Piece t) new = (t.piece ≡ piece) × IsGiven old worker most t new
+IsPieceHandedOut old worker piece most handed.Later new = (slice_get old.pieces piece ≡ Some Free) × (left_of old ≡ 0) × (0 < taken_count old.pieces) × (new ≡ old)
+IsPieceHandedOut old worker piece most handed.Done new = (slice_get old.pieces piece ≡ Some Free) × (left_of old ≡ 0) × (taken_count old.pieces ≡ 0) × (new ≡ old)
+
+-- why one piece isn't handed out: it isn't free, else memory was refused
+abbrev pub IsPieceFault : BookView → ℕ → BookFault → Type 0
+IsPieceFault b piece fault.NotFree = slice_get b.pieces piece ≢ Some Free
+IsPieceFault b piece fault.OutOfMemory = slice_get b.pieces piece ≡ Some Free
+IsPieceFault b piece _ = ⊥
 
 -- the piece isn't taken by anyone
 abbrev pub IsNotTaken : List Piece → ℕ → Type 0
@@ -88,6 +108,12 @@ IsFullFault xs n _ = ⊥
 -- the plan is legal, and its busiest tick costs v
 abbrev pub IsPlanOf : List Load → ℕ → List Place → ℕ → Type 0
 IsPlanOf loads n plan v = IsLegal loads n plan × IsBusiest (plan_items loads plan) n v
+
+-- why a legal plan of this cost is refused: it isn't better, else memory was refused
+abbrev pub IsOfferFault : Option ℕ → ℕ → BookFault → Type 0
+IsOfferFault value v (fault.NotBetter w) = (value ≡ Some w) × (w ≤ v)
+IsOfferFault value v fault.OutOfMemory = IsBelow v value
+IsOfferFault value v _ = ⊥
 
 -- why a plan is refused: it isn't legal, else it isn't better, else memory was refused
 abbrev pub IsBetterFault : BookView → List Place → BookFault → Type 0

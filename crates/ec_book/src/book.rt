@@ -1,21 +1,23 @@
 //! The book.
 
-ghost use Rattle.std.specs.Prelude.{◌≡◌, ◌≢◌, ℕ, ◌+◌, ◌<◌, ◌≤◌, ◌^◌, ◌++◌, ◌∷◌, [], IfOk, IfSome, IfErr, OnOk, OnErr, OnSome, IfNone, ◌↔◌, MatchOption, None, Some, length, slice_get, replicate, drop, vec_capacity, vec_len};
+ghost use Rattle.std.specs.Prelude.{◌≡◌, ◌≢◌, ℕ, ◌==◌, IsTrue, MatchBool, ◌+◌, ◌<◌, ◌≤◌, ◌^◌, ◌++◌, ◌∷◌, [], IfOk, IfSome, IfErr, OnOk, OnErr, OnSome, IfNone, ◌↔◌, MatchOption, None, Some, length, slice_get, replicate, drop, vec_capacity, vec_len};
 ghost use Rattle.ec_units.specs.Load.{loads_of};
 ghost use Rattle.ec_loads.specs.Line.{slots_alone, line_by};
 ghost use Rattle.ec_loads.specs.Search.{IsPartialTree, node_count as node_count_of};
 ghost use Rattle.ec_cert.specs.Shapes.{shape_of};
 ghost use Rattle.ec_symmetry.specs.Orders.{IsOrder, prefix_of};
 ghost use Rattle.ec_book.specs.declared.piece.Piece.TheVariants.{Free};
-ghost use Rattle.ec_book.specs.Steps.{live_one, live_count, IsHistory};
+ghost use Rattle.ec_book.specs.Steps.{live_one, live_count, taken_count, IsHistory};
 ghost use Rattle.ec_book.specs.Open.{open_places};
-ghost use Rattle.ec_cert.specs.BestPlan.{value_of};
+ghost use Rattle.ec_cert.specs.BestPlan.{value_of, IsBestPlan};
+ghost use Rattle.ec_loads.specs.Legal.{IsIllegalBy};
 ghost use Rattle.ec_book.specs.Views.{book_view, state_of, opening, after_back, after_better, after_report};
 ghost use Rattle.ec_book.specs.Kept.{NoneFreeBelow};
-ghost use Rattle.ec_book.specs.Faults.{IsLowestFree, IsHandedOut, IsHoldFault, IsBetterFault, IsPlanOf, IsReportFault, IsTakenBy, IsWelcome};
+ghost use Rattle.ec_book.specs.Faults.{left_of, IsLowestFree, IsGiven, IsHandedOut, IsPieceHandedOut, IsPieceFault, IsHoldFault, IsBetterFault, IsOfferFault, IsPlanOf, IsReportFault, IsTakenBy, IsWelcome};
 ghost use Rattle.ec_book.specs.Steps.{IsBelow};
 ghost use Rattle.ec_book.specs.Finishing.{IsFinishedOf};
 ghost use Rattle.ec_book.specs.declared.fault.BookFault.TheVariants.{OutOfMemory};
+ghost use Rattle.ec_book.specs.declared.taken.Taken.TheVariants.{Later, Done};
 
 use crate::fault::BookFault;
 use crate::finish::{assembled, open_leaves};
@@ -27,8 +29,8 @@ use crate::report::Report;
 use crate::step::{Step, Steps};
 use crate::taken::{Taken, Took};
 use ec_cert::{Best, Subtree, Tree};
-use ec_loads::{Loads, Places, Plan};
-use ec_units::{Place, Units};
+use ec_loads::{Illegal, Loads, Places, Plan};
+use ec_units::{Load, Place, Units};
 use std::alloc::{AllocError, Global};
 use std::marker::Model;
 
@@ -160,19 +162,43 @@ impl Book {
         })
     }
 
-    /// Hands out the lowest free piece, for at most `most` nodes.
-    pub fn take(&mut self, worker: usize, most: u32) -> Result<Taken, BookFault>
-        requires { 1 ≤ most }
-        ensures ok { IfOk result (λ t. IsHandedOut self.old worker most t self.new) }
+    /// The nodes that are neither spent nor granted.
+    fn left(&self) -> u64
+        ensures { result ≡ left_of self.now }
+    {
+        self.nodes - self.spent - self.held
+    }
+
+    /// What is answered where nothing can be handed out.
+    fn none_left(&self) -> Taken
+        ensures { MatchBool (taken_count self.now.pieces == 0) (result ≡ Done) (result ≡ Later) }
+    {
+        if self.taken == 0 {
+            Taken::Done
+        } else {
+            Taken::Later
+        }
+    }
+
+    /// The lowest free piece. Those below it aren't looked at again before one of them is given back.
+    fn lowest(&mut self) -> Option<usize>
+        ensures same { self.new ≡ self.old }
+        ensures found { MatchOption result (NoneFreeBelow self.old.pieces (length self.old.pieces)) (IsLowestFree self.old.pieces) }
+    {
+        let found = lowest_free(self.pieces.as_slice(), self.low);
+        self.low = found.unwrap_or(self.pieces.len());
+        found
+    }
+
+    /// Hands out a free piece, where a node is left.
+    fn hand_out(&mut self, at: usize, worker: usize, most: u32) -> Result<Took, BookFault>
+        requires free { slice_get self.old.pieces at ≡ Some Free }
+        requires left { 0 < left_of self.old }
+        requires some { 1 ≤ most }
+        ensures ok { IfOk result (λ t. (t.piece ≡ at) × IsGiven self.old worker most t self.new) }
         ensures err { IfErr result (λ e. (e ≡ OutOfMemory) × (self.new ≡ self.old)) }
     {
-        let left = self.nodes - self.spent - self.held;
-        let at = match lowest_free(self.pieces.as_slice(), self.low) {
-            Some(at) if left > 0 => at,
-            _ if self.taken == 0 => return Ok(Taken::Done),
-            _ => return Ok(Taken::Later),
-        };
-        let grant = left.min(u64::from(most)) as u32;
+        let grant = self.left().min(u64::from(most)) as u32;
         let alloc = *self.log.allocator();
         let Ok(prefix) = Vec::from_slice(alloc, self.prefixes[at].as_slice()) else {
             return Err(BookFault::OutOfMemory);
@@ -192,13 +218,56 @@ impl Book {
         self.pieces[at] = Piece::Taken { worker, grant };
         self.held += u64::from(grant);
         self.taken += 1;
-        self.low = at;
-        Ok(Taken::Piece(Took {
+        Ok(Took {
             piece,
             prefix: Places::new(prefix),
             value: value_in(&self.best),
             grant,
-        }))
+        })
+    }
+
+    /// Hands out the lowest free piece, for at most `most` nodes.
+    pub fn take(&mut self, worker: usize, most: u32) -> Result<Taken, BookFault>
+        requires { 1 ≤ most }
+        ensures ok { IfOk result (λ t. IsHandedOut self.old worker most t self.new) }
+        ensures err { IfErr result (λ e. (e ≡ OutOfMemory) × (self.new ≡ self.old)) }
+    {
+        let Some(at) = self.lowest() else {
+            return Ok(self.none_left());
+        };
+        if self.left() == 0 {
+            return Ok(self.none_left());
+        }
+        match self.hand_out(at, worker, most) {
+            Ok(took) => Ok(Taken::Piece(took)),
+            Err(fault) => Err(fault),
+        }
+    }
+
+    /// Whether there is such a piece and it is free.
+    pub fn is_free(&self, piece: u64) -> bool
+        ensures { IsTrue result ↔ (slice_get self.now.pieces piece ≡ Some Free) }
+    {
+        let at = piece as usize;
+        at < self.pieces.len() && self.pieces[at] == Piece::Free
+    }
+
+    /// Hands out a piece by its number, where it is free, for at most `most` nodes.
+    pub fn take_piece(&mut self, worker: usize, piece: u64, most: u32) -> Result<Taken, BookFault>
+        requires { 1 ≤ most }
+        ensures ok { IfOk result (λ t. IsPieceHandedOut self.old worker piece most t self.new) }
+        ensures err { IfErr result (λ e. IsPieceFault self.old piece e × (self.new ≡ self.old)) }
+    {
+        if !self.is_free(piece) {
+            return Err(BookFault::NotFree);
+        }
+        if self.left() == 0 {
+            return Ok(self.none_left());
+        }
+        match self.hand_out(piece as usize, worker, most) {
+            Ok(took) => Ok(Taken::Piece(took)),
+            Err(fault) => Err(fault),
+        }
     }
 
     /// Gives a piece back that this worker has taken; it is free again, and its grant can be granted again. Takes no
@@ -227,24 +296,44 @@ impl Book {
             × (self.new ≡ after_better self.old worker (record { busiest = v; plan = plan }))) }
         ensures err { IfErr result (λ e. IsBetterFault self.old plan.places e.0 × (e.1 ≡ plan) × (self.new ≡ self.old)) }
     {
-        let value = match plan_cost(&mut self.loads, plan.places.as_slice()) {
-            Ok(value) => value,
+        let busiest = match self.cost_of(&plan) {
+            Ok(busiest) => busiest,
             Err(illegal) => return Err((BookFault::Illegal(illegal), plan)),
         };
+        match self.improve(worker, Best { busiest, plan }) {
+            Ok(()) => Ok(()),
+            Err((fault, Best { plan, .. })) => Err((fault, plan)),
+        }
+    }
+
+    /// What the busiest tick of a plan costs, where it is legal. Takes no memory.
+    fn cost_of(&mut self, plan: &Plan) -> Result<u64, Illegal>
+        ensures same { self.new ≡ self.old }
+        ensures ok { IfOk result (λ v. IsPlanOf self.old.loads self.old.slots plan.now.places v) }
+        ensures err { IfErr result (IsIllegalBy self.old.loads self.old.slots plan.now.places) }
+    {
+        plan_cost(&mut self.loads, plan.places.as_slice())
+    }
+
+    /// Offers a plan that is known to be legal, with what its busiest tick costs. It becomes the best one where that is
+    /// less than the value.
+    pub fn improve(&mut self, worker: usize, best: Best) -> Result<(), (BookFault, Best)>
+        requires plan { IsPlanOf self.old.loads self.old.slots best.plan.places best.busiest }
+        ensures ok { OnOk result (IsBelow best.busiest (value_of self.old.best) × (self.new ≡ after_better self.old worker best)) }
+        ensures err { IfErr result (λ e. IsOfferFault (value_of self.old.best) best.busiest e.0 × (e.1 ≡ best) × (self.new ≡ self.old)) }
+    {
+        let value = best.busiest;
         if let Some(old) = not_below(value, value_in(&self.best)) {
-            return Err((BookFault::NotBetter(old), plan));
+            return Err((BookFault::NotBetter(old), best));
         }
         let Some(more) = self.taken.checked_add(1) else {
-            return Err((BookFault::OutOfMemory, plan));
+            return Err((BookFault::OutOfMemory, best));
         };
         let Ok(()) = self.log.reserve(more) else {
-            return Err((BookFault::OutOfMemory, plan));
+            return Err((BookFault::OutOfMemory, best));
         };
         self.log.push_reserved(Step::Better { worker, value });
-        self.best = Some(Best {
-            busiest: value,
-            plan,
-        });
+        self.best = Some(best);
         Ok(())
     }
 
@@ -312,6 +401,61 @@ impl Book {
         self.taken -= 1;
         self.spent += spent;
         Ok(())
+    }
+
+    /// Why a report would be refused, memory aside. Nothing is changed.
+    pub fn judge(
+        &self,
+        worker: usize,
+        piece: u64,
+        prefix: &[Place],
+        sub: &Subtree,
+    ) -> Result<(), BookFault>
+        ensures ok { OnOk result ((g : ℕ) × IsWelcome self.now.pieces self.now.prefixes (value_of self.now.best) worker piece prefix.now sub.now.threshold (node_count_of (shape_of sub.now.tree)) g) }
+        ensures err { IfErr result (IsReportFault self.now.pieces self.now.prefixes (value_of self.now.best) worker piece prefix.now sub.now.threshold (node_count_of (shape_of sub.now.tree))) }
+    {
+        let value = value_in(&self.best);
+        match judged(
+            self.pieces.as_slice(),
+            self.prefixes.as_slice(),
+            value,
+            worker,
+            piece,
+            prefix,
+            sub,
+        ) {
+            Ok(_) => Ok(()),
+            Err(fault) => Err(fault),
+        }
+    }
+
+    /// What the busiest tick of the best plan costs, in wire bytes; none, as long as no plan is known.
+    pub fn value(&self) -> Option<u64>
+        ensures value { result ≡ value_of self.now.best }
+        ensures plan { IsBestPlan self.now.loads self.now.slots self.now.best }
+    {
+        value_in(&self.best)
+    }
+
+    /// Bytes and periods of the units, in file order.
+    pub fn loads(&self) -> &[Load]
+        ensures { result.now ≡ self.now.loads }
+    {
+        self.loads.loads()
+    }
+
+    /// The slot count.
+    pub fn slots(&self) -> u8
+        ensures { result ≡ self.now.slots }
+    {
+        self.loads.slots()
+    }
+
+    /// The units by their indices, in the order in which the search gives them places.
+    pub fn order(&self) -> &[u8]
+        ensures { result.now ≡ self.now.order }
+    {
+        self.order.as_slice()
     }
 
     /// The log: every step so far.

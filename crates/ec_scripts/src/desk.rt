@@ -53,6 +53,25 @@ fn refusal_text(alloc: Global, answer: Result<(), BookFault>) -> Result<String, 
     format!(in alloc; "{answer:?}")
 }
 
+/// What is handed out: piece, value, grant and prefix.
+fn taken_text(alloc: Global, answer: Result<Taken, BookFault>) -> Result<String, AllocError> {
+    match answer {
+        Ok(Taken::Piece(took)) => {
+            let places = places_text(alloc, took.prefix.as_slice())?;
+            format!(in alloc;
+                "piece {} {:?} {} ({})",
+                took.piece,
+                took.value,
+                took.grant,
+                places.as_str()
+            )
+        }
+        Ok(Taken::Later) => String::from_str(alloc, "later"),
+        Ok(Taken::Done) => String::from_str(alloc, "done"),
+        Err(fault) => format!(in alloc; "{fault:?}"),
+    }
+}
+
 impl Desk {
     /// A desk for these units in the order of the search.
     pub(crate) fn new(alloc: Global, units: Units, nodes: u64) -> Result<Desk, AllocError> {
@@ -104,26 +123,15 @@ impl Desk {
         }
     }
 
-    /// What is handed out: piece, value, grant and prefix.
+    /// What is handed out: the lowest free piece, or the one of this number.
     fn take(&mut self, alloc: Global, call: &Call<'_>) -> Result<String, AllocError> {
         let most = call.count(2);
         if most == 0 {
             return String::from_str(alloc, "no grant");
         }
-        match self.book.take(call.index(1), most) {
-            Ok(Taken::Piece(took)) => {
-                let places = places_text(alloc, took.prefix.as_slice())?;
-                format!(in alloc;
-                    "piece {} {:?} {} ({})",
-                    took.piece,
-                    took.value,
-                    took.grant,
-                    places.as_str()
-                )
-            }
-            Ok(Taken::Later) => String::from_str(alloc, "later"),
-            Ok(Taken::Done) => String::from_str(alloc, "done"),
-            Err(fault) => format!(in alloc; "{fault:?}"),
+        match call.number(3) {
+            Some(piece) => taken_text(alloc, self.book.take_piece(call.index(1), piece, most)),
+            None => taken_text(alloc, self.book.take(call.index(1), most)),
         }
     }
 

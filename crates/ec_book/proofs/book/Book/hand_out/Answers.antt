@@ -1,0 +1,28 @@
+use Rattle.std.proofs.Common.{◌≡◌, ◌<◌, ◌+◌, ◌-◌, arith, refl, vec_capacity, slice_get, Some}
+use Rattle.ec_loads.specs.Line.{slots_alone, line_by}
+use Rattle.ec_book.specs.declared.piece.Piece.TheVariants.{Free, Taken}
+use Rattle.ec_cert.specs.BestPlan.{value_of}
+use Rattle.ec_book.specs.Steps.{granted}
+use Rattle.ec_book.proofs.KeepLemmas.{counted-took, grown-set}
+use Rattle.ec_book.proofs.book.Book.hand_out.Goals as goal
+
+pub invariant_of-self-2 : goal.invariant_of-self-2
+invariant_of-self-2 c =
+    let b = c.self.inside in
+    let inv = c.self.invariant in
+    let counted = inv.counted in
+    let g = c.min-grant.result in
+    let p = c.args.at in
+    let at : slice_get b.pieces.items p ≡ Some Free = rw (← c.self.view_is) at c.requires.free in
+    let some : 0 < b.nodes - (b.spent + granted b.pieces.items) = rw (← c.self.view_is) at c.requires.left in
+    let left : c.left.result ≡ b.nodes - (b.spent + granted b.pieces.items) = rw (← c.self.view_is) at c.left.ensures in
+    let log_is = rw c.in-Ok-reserve.ensures.items at c.push_reserved.ensures.items in
+    rw c.from-2.ensures (record {
+      for = inv.for;
+      counted =
+          counted-took b.nodes b.pieces.items (value_of b.best) b.spent b.held b.taken b.low b.log.items _ inv.counted c.args.worker p g
+          (vec_capacity c.push_reserved.new.self) c.push_reserved.new.self.items at
+          (omega (arith, c.min-grant.ensures, c.from.ensures, some, left, c.requires.some)) (omega (arith, c.min-grant.ensures, left, counted.held_is)) log_is
+          (omega (arith, c.in-Ok-reserve.ensures.ok, c.in-Some.ensures.1, c.push_reserved.ensures.capacity, c.reserve.ensures.len, b.log.ok.0));
+      grown = grown-set (line_by slots_alone b.loads.loads b.loads.slots) b.order.items b.pieces.items b.prefixes.items b.reports.items (value_of b.best) b.spent inv.grown p Free (Taken c.args.worker g) at refl;
+    })

@@ -1,0 +1,24 @@
+use Rattle.std.proofs.Common.{arith, vec_capacity}
+use Rattle.ec_loads.specs.Line.{slots_alone, line_by}
+use Rattle.ec_book.specs.Steps.{IsBelow}
+use Rattle.ec_book.specs.Faults.{IsPlanOf}
+use Rattle.ec_cert.specs.BestPlan.{value_of}
+use Rattle.ec_book.proofs.KeepLemmas.{counted-better, grown-better}
+use Rattle.ec_book.proofs.book.Book.improve.Goals as goal
+
+pub invariant_of-self-2 : goal.invariant_of-self-2
+invariant_of-self-2 c =
+    let b = c.self.inside in
+    let inv = c.self.invariant in
+    let v = c.args.best.busiest in
+    let below : IsBelow v (value_of b.best) = rw c.value_in.ensures at c.in_default.ensures in
+    let log_is = rw c.in-Ok.ensures.items at c.push_reserved.ensures.items in
+    let plan : IsPlanOf b.loads.loads b.loads.slots c.args.best.plan.places v = rw (← c.self.view_is) at c.requires.plan in
+    record {
+      for = record { order_is = inv.for.order_is; empty = inv.for.empty; best_is = plan };
+      counted =
+          counted-better b.nodes b.pieces.items (value_of b.best) b.spent b.held b.taken b.low b.log.items _ inv.counted c.args.worker v
+          (vec_capacity c.push_reserved.new.self) c.push_reserved.new.self.items below log_is
+          (omega (arith, c.in-Ok.ensures.ok, c.in-Some-checked_add.ensures.1, c.push_reserved.ensures.capacity, c.reserve.ensures.len, b.log.ok.0));
+      grown = grown-better (line_by slots_alone b.loads.loads b.loads.slots) b.order.items b.pieces.items b.prefixes.items b.reports.items (value_of b.best) b.spent inv.grown v below;
+    }
