@@ -1,0 +1,4 @@
+pub mod Fronts
+pub mod Reading
+pub mod Text
+pub mod Views
