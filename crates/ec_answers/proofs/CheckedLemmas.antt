@@ -4,8 +4,8 @@ use Rattle.std.specs.Prelude.{◌⊎◌, IfSome}
 use Rattle.std.proofs.lemmas.Bool.{lt-ltb}
 use Rattle.ec_units.specs.declared.units.Units.{Units}
 use Rattle.ec_units.specs.Views.{units_view}
-use Rattle.ec_cert.specs.declared.fault.CertFault.TheVariants as cert
-use Rattle.ec_cert.specs.Reading.{reading as cert_reading}
+use Rattle.ec_cert_text.specs.declared.fault.CertFault.TheVariants as cert
+use Rattle.ec_cert_text.specs.Reading.{reading as cert_reading}
 use Rattle.ec_cert.specs.Shapes.{CertView}
 use Rattle.ec_checker.specs.declared.fault.CheckFault.{CheckFault}
 use Rattle.ec_checker.specs.declared.fault.CheckFault.TheVariants as check

@@ -11,7 +11,8 @@ ghost use Rattle.ec_lines.specs.Output.{Answers, IsCheckedOutput, IsCheckOutput,
 ghost use Rattle.ec_lines.specs.declared.job.Job.TheVariants.{Check};
 
 use crate::input::{cert_text, units_of};
-use ec_cert::{Cert, read_cert};
+use ec_cert::Cert;
+use ec_cert_text::read_cert;
 use ec_checker::{CheckFault, check_in};
 use ec_lines::{Answer, Refusal, verdict_answer};
 use ec_loads::Loads;

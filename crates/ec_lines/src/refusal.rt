@@ -4,7 +4,7 @@ ghost use Rattle.std.specs.Prelude.{◌≡◌};
 ghost use Rattle.ec_lines.specs.Refusals.{refusal_code, out_of_memory};
 ghost use Rattle.ec_lines.specs.declared.refusal.Refusal.TheVariants.{Unit as UnitRefusal, Illegal as IllegalRefusal, Cert as CertRefusal, Solve as SolveRefusal, Write as WriteRefusal};
 
-use ec_cert::CertFault;
+use ec_cert_text::CertFault;
 use ec_checker::CheckFault;
 use ec_loads::Illegal;
 use ec_unit_text::UnitFault;
