@@ -6,7 +6,7 @@ ghost use Rattle.ec_unit_text.specs.FaultText.{key_text, index_text, spot_text};
 ghost use Rattle.ec_lines.specs.Refusals.{fault_text, illegal_text, cert_text, check_text, solve_text, reason_text, refusal_line as refusal_spec};
 
 use crate::refusal::Refusal;
-use ec_cert::CertFault;
+use ec_cert_text::CertFault;
 use ec_checker::CheckFault;
 use ec_digits::{LineText, push_bytes, push_number};
 use ec_loads::Illegal;
