@@ -1,11 +1,11 @@
 -- From what the checker answers to what is written.
-use Rattle.std.proofs.Common.{◌≡◌, ◌≢◌, ℕ, ◌<◌, List, length, Option, Some, None, Result, Ok, Err, refl, ap, ◌∙◌, inl, inr}
+use Rattle.std.proofs.Common.{◌≡◌, ◌≢◌, ℕ, ◌<◌, List, length, Option, Some, None, Result, Ok, Err, refl, sym, ap, ◌∙◌, inl, inr}
 use Rattle.std.specs.Prelude.{◌⊎◌, IfSome}
 use Rattle.std.proofs.lemmas.Bool.{lt-ltb}
 use Rattle.ec_units.specs.declared.units.Units.{Units}
 use Rattle.ec_units.specs.Views.{units_view}
-use Rattle.ec_cert.specs.declared.fault.CertFault.TheVariants as cert
-use Rattle.ec_cert.specs.Reading.{reading as cert_reading}
+use Rattle.ec_cert_text.specs.declared.fault.CertFault.TheVariants as cert
+use Rattle.ec_cert_text.specs.Reading.{reading as cert_reading}
 use Rattle.ec_cert.specs.Shapes.{CertView}
 use Rattle.ec_checker.specs.declared.fault.CheckFault.{CheckFault}
 use Rattle.ec_checker.specs.declared.fault.CheckFault.TheVariants as check
@@ -16,7 +16,7 @@ use Rattle.ec_lines.specs.declared.refusal.Refusal.{Refusal}
 use Rattle.ec_lines.specs.declared.refusal.Refusal.TheVariants as refusal
 use Rattle.ec_lines.specs.declared.job.Job.TheVariants as job
 use Rattle.ec_answers.specs.Input.{AnswersUnits, ReadsTooMany}
-use Rattle.ec_lines.specs.Output.{IsCheckedOutput, IsOutput, Answers, shown, refused, verdict_output}
+use Rattle.ec_lines.specs.Output.{IsCheckedOutput, IsCheckOutput, IsOutput, Answers, shown, refused, verdict_output}
 use Rattle.ec_lines.specs.Refusals.{out_of_memory, IsMemory}
 
 -- a yes
@@ -53,3 +53,12 @@ unread_answer (Some bytes) None us r answer is read why = tt
 unread_answer (Some bytes) (Some cert_bytes) us r answer is read (inl memory) = rw is (inl (inl memory))
 unread_answer (Some bytes) (Some cert_bytes) us r answer is read (inr large) =
     rw is (inr (inl (read.0, rw (read.1, too_long cert_bytes large.1) (ap refused large.0))))
+
+-- what is answered for units and a text is the answer for the bytes that both were read of
+pub whole_answered : (left text : Option (List ℕ)) (us : Units) (v : List ℕ) (answer : Result Answer Refusal) → IfSome left (AnswersUnits (Ok us)) → IfSome text (λ all. v ≡ all) → Answers job.Check answer (IsCheckOutput (units_view us) v)
+    → IfSome left (λ bytes. IfSome text (λ cert_bytes. Answers job.Check answer (IsOutput job.Check bytes (Some cert_bytes))))
+whole_answered None text us v answer read same told = tt
+whole_answered (Some bytes) None us v answer read same told = tt
+whole_answered (Some bytes) (Some cert_bytes) us v (Ok a) read same told = inl (read.0, rw (read.1, sym same) told)
+whole_answered (Some bytes) (Some cert_bytes) us v (Err r) read same (inl memory) = inl memory
+whole_answered (Some bytes) (Some cert_bytes) us v (Err r) read same (inr told) = inr (inl (read.0, rw (read.1, sym same) told))

@@ -10,7 +10,8 @@ use Rattle.ec_unit_text.specs.Reading.{reading}
 use Rattle.ec_units.specs.Views.{units_view}
 use Rattle.ec_cert.specs.declared.cert.Best.{Best}
 use Rattle.ec_cert.specs.Shapes.{cert_view}
-use Rattle.ec_cert.specs.Text.{IsWellFormed, certificate_text}
+use Rattle.ec_cert.specs.WellFormed.{IsWellFormed}
+use Rattle.ec_cert_text.specs.Text.{certificate_text}
 use Rattle.ec_workers.specs.declared.outcome.Cut.{Cut}
 use Rattle.ec_workers.specs.declared.outcome.Outcome.{Outcome}
 use Rattle.ec_workers.specs.declared.outcome.Outcome.TheVariants as outcome

@@ -4,39 +4,56 @@ ghost use Rattle.std.specs.Prelude.{◌≡◌, ◌+◌, ◌≤◌, true, false, 
 ghost use Rattle.ec_wire.specs.Stream.{stream, has_failed, taken};
 ghost use Rattle.ec_answers.specs.Input.{ConsumesAtMost, AreUnits};
 ghost use Rattle.ec_cert.specs.Shapes.{cert_view};
+ghost use Rattle.ec_units.specs.Load.{loads_of};
+ghost use Rattle.ec_loads.specs.Held.{no_places};
 ghost use Rattle.ec_units.specs.Views.{units_view};
 ghost use Rattle.ec_lines.specs.Output.{Answers, IsCheckedOutput, IsCheckOutput, IsOutput};
 ghost use Rattle.ec_lines.specs.declared.job.Job.TheVariants.{Check};
 
 use crate::input::{cert_text, units_of};
-use ec_cert::{Cert, read_cert};
-use ec_checker::check;
+use ec_cert::Cert;
+use ec_cert_text::read_cert;
+use ec_checker::{CheckFault, check_in};
 use ec_lines::{Answer, Refusal, verdict_answer};
+use ec_loads::Loads;
 use ec_units::Units;
 use ec_wire::Io;
 use std::alloc::Global;
 use std::io::Read;
 
-/// What is answered for units and a certificate: its verdict, or why it shows nothing.
-fn checked_answer(alloc: Global, units: &Units, cert: &Cert) -> Result<Answer, Refusal>
+/// What is answered for units and a certificate: its verdict, or why it shows nothing. The loads are those of the
+/// units, with no place.
+fn checked_answer(
+    alloc: Global,
+    loads: &mut Loads,
+    units: &Units,
+    cert: &Cert,
+) -> Result<Answer, Refusal>
+    requires { loads.old ≡ record { loads = loads_of units.now.units; slots = units.now.slots; places = no_places (loads_of units.now.units) } }
     ensures { Answers Check result (IsCheckedOutput (units_view units.now) (cert_view cert.now)) }
 {
-    match check(alloc, units, cert) {
+    match check_in(loads, units, cert) {
         Ok(verdict) => Ok(verdict_answer(alloc, verdict)?),
         Err(fault) => Err(Refusal::Check(fault)),
     }
 }
 
 /// What is answered for units and a certificate's text.
-fn check_answer(alloc: Global, units: &Units, text: &[u8]) -> Result<Answer, Refusal>
+fn check_answer(
+    alloc: Global,
+    loads: &mut Loads,
+    units: &Units,
+    text: &[u8],
+) -> Result<Answer, Refusal>
+    requires { loads.old ≡ record { loads = loads_of units.now.units; slots = units.now.slots; places = no_places (loads_of units.now.units) } }
     ensures { Answers Check result (IsCheckOutput (units_view units.now) text.now) }
 {
     let cert = read_cert(alloc, text)?;
-    checked_answer(alloc, units, &cert)
+    checked_answer(alloc, loads, units, &cert)
 }
 
 /// What a check answers of the units and the certificate that the readers have. The certificate isn't read before
-/// the units are right.
+/// the units are right and the room to check it is there.
 pub fn whole_answer<R: Read, C: Read>(
     alloc: Global,
     units: &mut Io<R>,
@@ -56,6 +73,9 @@ pub fn whole_answer<R: Read, C: Read>(
     ensures cert_taken { taken cert.new ≤ taken cert.old + 67108865 }
 {
     let units = units_of(alloc, units)?;
+    let Ok(mut loads) = Loads::new(alloc, &units) else {
+        return Err(Refusal::Check(CheckFault::OutOfMemory));
+    };
     let text = cert_text(alloc, cert)?;
-    check_answer(alloc, &units, &text)
+    check_answer(alloc, &mut loads, &units, &text)
 }

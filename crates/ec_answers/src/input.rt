@@ -4,10 +4,10 @@ ghost use Rattle.std.specs.Prelude.{◌≡◌, ◌≢◌, ℕ, ◌+◌, ◌-◌,
 ghost use Rattle.ec_wire.specs.Stream.{stream, has_failed, taken};
 ghost use Rattle.ec_answers.specs.Input.{ReadsAll, ReadsTooMany, ConsumesAtMost, AreUnits, AnswersUnits};
 ghost use Rattle.ec_lines.specs.Refusals.{IsReadFault, out_of_memory};
-ghost use Rattle.ec_cert.specs.declared.fault.CertFault.TheVariants.{TooLarge};
+ghost use Rattle.ec_cert_text.specs.declared.fault.CertFault.TheVariants.{TooLarge};
 ghost use Rattle.ec_lines.specs.declared.refusal.Refusal.TheVariants.{Cert};
 
-use ec_cert::{CertFault, MOST_BYTES};
+use ec_cert_text::{CertFault, MOST_BYTES};
 use ec_lines::Refusal;
 use ec_unit_text::read_units;
 use ec_units::Units;

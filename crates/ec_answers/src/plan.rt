@@ -10,7 +10,7 @@ ghost use Rattle.ec_answers.specs.Planned.{Any, AnswersPlan, Gets, GetsFront, Ge
 ghost use Rattle.ec_lines.specs.Refusals.{out_of_memory};
 
 use crate::input::units_of;
-use ec_cert::write_cert;
+use ec_cert_text::write_cert;
 use ec_lines::{Answer, Refusal, outcome_answer};
 use ec_units::Units;
 use ec_wire::{Io, WriteFault};

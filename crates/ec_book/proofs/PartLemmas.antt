@@ -1,7 +1,7 @@
 -- A split whose last children were filled.
-use Rattle.std.proofs.Common.{◌≡◌, ℕ, zero, suc, ◌+◌, ◌-◌, ◌<◌, ◌≤◌, List, [], ◌∷◌, length, set, get_or, slice_get, take, drop, Vec, Global, Some, refl, sym, ap, ◌∙◌, subst, arith}
+use Rattle.std.proofs.Common.{◌≡◌, ℕ, zero, suc, ◌+◌, ◌-◌, ◌<◌, ◌≤◌, List, [], ◌∷◌, length, set, get_or, slice_get, take, drop, Vec, Global, Some, refl, sym, ap, ◌∙◌, subst, arith, take_all}
 use Rattle.std.proofs.lemmas.Option.{slice_get_read, get_or_from_slice_get}
-use Rattle.ec_loads.specs.Shape.{split}
+use Rattle.ec_loads.specs.Shape.{split, Leaf, leaf}
 use Rattle.ec_loads.specs.Search.{open_count, open_counts}
 use Rattle.ec_cert.specs.declared.tree.Tree.{Tree, Split}
 use Rattle.ec_cert.specs.Shapes.{shape_of, shapes_of}
@@ -24,6 +24,11 @@ drop-set [] zero x = refl
 drop-set [] (suc i) x = refl
 drop-set (l ∷ ls) zero x = refl
 drop-set (l ∷ ls) (suc i) x = drop-set ls i x
+
+set-back : (ls : List Tree) (i : ℕ) (x : Tree) → slice_get ls i ≡ Some x → set ls i x ≡ ls
+set-back [] i x h = refl
+set-back (l ∷ ls) zero x h = let same : l ≡ x = cc in λ j. sym same j ∷ ls
+set-back (l ∷ ls) (suc i) x h = ap (λ w. l ∷ w) (set-back ls i x h)
 
 module _ (ts ls built0 built : List Tree) (i j : ℕ) (h : IsPart ts ls built0 built i) (j_is : j + 1 ≡ i) where
   inside : j < length ls
@@ -61,6 +66,16 @@ module _ (ts ls built0 built : List Tree) (i j : ℕ) (h : IsPart ts ls built0 b
         front = λ m low. slice_get-set (set ls j mid) j m new (λ e. omega (arith, e)) ∙ slice_get-set ls j m mid (λ e. omega (arith, e)) ∙ h.front m (omega arith);
         done = rows_done (shape_at built0) ts (set ls j mid) j (length built2) x new (omega (arith, inside, length-set'' ls j mid)) at one rest;
       }
+
+  -- a child that is a closed leaf stays as it is
+  pub part-skip : (x : Tree) (l : Leaf) → slice_get ts j ≡ Some x → shape_of x ≡ leaf l → open_counts (shapes_of ts) ≤ length built0 → IsPart ts ls built0 built j
+  part-skip x l at is most =
+      let none : open_count (shape_of x) ≡ 0 = ap open_count is in
+      let here : slice_get ls j ≡ Some x = h.front j (omega arith) ∙ at in
+      let same : set ls j x ≡ ls = set-back ls j x here in
+      let whole : built ≡ take (length built - open_count (shape_of x)) built = sym (take_all (length built - open_count (shape_of x)) built (omega (arith, none))) in
+      let drawn : shape_of x ≡ draw (shape_at built) (numbered (length built - open_count (shape_of x)) (shape_of x)) = rw is refl in
+      subst (λ w. IsPart ts w built0 built j) (ap (λ w. set w j x) same ∙ same) (part-step x x x built at most whole drawn)
 
 pub part-start : (ts built0 : List Tree) → IsPart ts ts built0 built0 (length ts)
 part-start ts built0 = record {

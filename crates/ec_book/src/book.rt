@@ -403,6 +403,14 @@ impl Book {
         Ok(())
     }
 
+    /// What the worker may spend on a piece that it has taken.
+    pub fn grant(&self, worker: usize, piece: u64) -> Result<u32, BookFault>
+        ensures ok { IfOk result (IsTakenBy self.now.pieces worker piece) }
+        ensures err { IfErr result (IsHoldFault self.now.pieces worker piece) }
+    {
+        grant_of(self.pieces.as_slice(), worker, piece)
+    }
+
     /// Why a report would be refused, memory aside. Nothing is changed.
     pub fn judge(
         &self,

@@ -6,6 +6,7 @@ ghost use Rattle.ec_cert.specs.Shapes.{shape_of};
 ghost use Rattle.ec_symmetry.specs.Orders.{IsOrder};
 ghost use Rattle.ec_book.specs.Open.{open_places};
 
+use crate::tree::is_closed_leaf;
 use ec_cert::Tree;
 use ec_loads::{Loads, Places};
 use ec_symmetry::children_after;
@@ -37,9 +38,11 @@ pub(crate) fn add_open(
                 let Some(place) = places.next() else {
                     return Ok(());
                 };
-                path.push(place)?;
-                add_open(loads, order, &trees[i], path, out)?;
-                path.pop();
+                if !is_closed_leaf(&trees[i]) {
+                    path.push(place)?;
+                    add_open(loads, order, &trees[i], path, out)?;
+                    path.pop();
+                }
             }
             Ok(())
         }

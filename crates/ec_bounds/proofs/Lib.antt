@@ -3,4 +3,5 @@ pub mod SubLemmas
 pub mod AverageLemmas
 pub mod LeafLemmas
 pub mod LeftLemmas
+pub mod RestLemmas
 pub mod HeldLemmas

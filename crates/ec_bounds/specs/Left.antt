@@ -1,7 +1,8 @@
 -- Which units have no place yet.
-use Rattle.std.specs.Prelude.{◌≡◌, ℕ, ◌+◌, ◌*◌, ◌/◌, Bool, true, is_none, if◌then◌else◌, List, [], ◌∷◌, map}
+use Rattle.std.specs.Prelude.{◌≡◌, ℕ, ◌+◌, ◌*◌, ◌/◌, ◌<◌, Bool, true, is_none, if◌then◌else◌, List, [], ◌∷◌, map, get_or}
 use Rattle.ec_units.specs.declared.unit.Load.{Load}
 use Rattle.ec_loads.specs.Held.{Held}
+use Rattle.ec_loads.specs.Search.{nobody}
 
 -- the loads in file order, and for each whether it has no place
 pub record Left : Type 0 where
@@ -22,3 +23,11 @@ all_of loads = map (λ _. true) loads
 pub record IsRestOf (left : Left) (held : Held) : Type 0 where
   pub loads : left.loads ≡ held.loads
   pub unplaced : left.unplaced ≡ map (λ p. is_none p) held.places
+
+-- what a load sends in h ticks
+abbrev pub product : ℕ → Load → ℕ
+product h l = l.bytes * (h / l.period)
+
+-- the first n numbers are what the first n loads send in h ticks, one by one
+abbrev pub AreSent : ℕ → ℕ → List Load → List ℕ → Type 0
+AreSent h n loads sent = (i : ℕ) → i < n → get_or sent i 0 ≡ product h (get_or loads i nobody)

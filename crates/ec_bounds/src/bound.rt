@@ -1,10 +1,6 @@
 //! The bounds themselves; none takes memory.
 
-ghost use Rattle.std.specs.Prelude.{◌≡◌, ℕ, ◌+◌, ◌*◌, ◌<◌, ◌≤◌, ◌↔◌, IsTrue, MatchOption, None, Some};
-ghost use Rattle.ec_loads.specs.Cost.{raw_cost, sum_below};
-ghost use Rattle.ec_hyper.specs.Lcm.{lcm_of};
-ghost use Rattle.ec_units.specs.Load.{periods_of};
-ghost use Rattle.ec_loads.specs.Held.{items_of};
+ghost use Rattle.std.specs.Prelude.{◌≡◌, ℕ, ◌<◌, ◌≤◌, ◌↔◌, IsTrue, MatchOption, None, Some};
 ghost use Rattle.ec_loads.specs.Search.{TickHolds, FullHolds, AverageHolds};
 ghost use Rattle.ec_bounds.specs.Left.{IsRestOf};
 ghost use Rattle.ec_bounds.specs.Laws.{IsFirstFullLeaf};
@@ -18,13 +14,7 @@ pub fn tick_bound(loads: &Loads, value: Option<u64>) -> Option<u32>
         (λ t. TickHolds loads.now.loads loads.now.slots value loads.now.places t
         × ((i : ℕ) → i < t → ¬ (TickHolds loads.now.loads loads.now.slots value loads.now.places i))) }
 {
-    let value = value?;
-    for tick in 0..loads.ticks() {
-        if loads.cost(tick) >= value {
-            return Some(tick);
-        }
-    }
-    None
+    loads.first_at_least(value?)
 }
 
 /// The least tick, and in it the least slot, whose payload is above 1498 bytes.
@@ -33,18 +23,6 @@ pub fn full_bound(loads: &Loads) -> Option<(u32, u8)>
         (λ f. IsFirstFullLeaf loads.now f.0 f.1) }
 {
     loads.full()
-}
-
-/// The bytes without padding of the units that have a place, over a hyperperiod.
-fn raw_total(loads: &Loads) -> u64
-    ensures value { result ≡ sum_below (raw_cost (items_of loads.now) loads.now.slots) (lcm_of (periods_of loads.now.loads)) }
-    ensures bound { result ≤ 589365248 }
-{
-    let mut total = 0u64;
-    for tick in 0..loads.ticks() {
-        total += loads.raw(tick);
-    }
-    total
 }
 
 /// Whether the bytes of a hyperperiod, without padding and with those of the units that have no place, are more
@@ -56,6 +34,6 @@ pub fn average_bound(loads: &Loads, rest: &Rest, value: Option<u64>) -> bool
         return false;
     };
     let ticks = u128::from(loads.ticks());
-    let bytes = u128::from(raw_total(loads)) + u128::from(rest.demand());
+    let bytes = u128::from(loads.raw_total()) + u128::from(rest.demand());
     u128::from(value) * ticks < bytes + ticks
 }

@@ -1,9 +1,8 @@
 //! The units that have no place yet.
 
-ghost use Rattle.std.specs.Prelude.{◌≡◌, ℕ, ◌+◌, ◌*◌, ◌/◌, ◌<◌, ◌≤◌, true, false, length, slice_set, map};
+ghost use Rattle.std.specs.Prelude.{◌≡◌, ℕ, ◌*◌, ◌/◌, ◌<◌, ◌≤◌, true, false, length, slice_set};
 ghost use Rattle.ec_hyper.specs.Lcm.{lcm_of};
 ghost use Rattle.ec_units.specs.Load.{loads_of, periods_of};
-ghost use Rattle.ec_loads.specs.Held.{AreLoads};
 ghost use Rattle.ec_bounds.specs.Left.{demand_of};
 
 use ec_hyper::Hyper;
@@ -14,11 +13,14 @@ use std::marker::Model;
 const MOST_UNITS: usize = 48;
 
 /// Which units of a line have no place yet. A contract sees the loads of the units in file order, and for each
-/// whether it has no place. It lies on the stack, so that no call takes memory.
+/// whether it has no place. It lies on the stack, so that no call takes memory. What each unit sends in a hyperperiod
+/// is made once, and the sum of those without a place is kept, in bytes.
 #[derive(Drop)]
 pub struct Rest {
     table: [Load; MOST_UNITS],
     unplaced: [bool; MOST_UNITS],
+    sent: [u32; MOST_UNITS],
+    demand: u64,
     count: usize,
     hyper: Hyper,
 }
@@ -28,7 +30,7 @@ impl Model for Rest {
     ghost use Rattle.ec_hyper.specs.Lcm.{lcm_of};
     ghost use Rattle.ec_units.specs.Load.{periods_of};
     ghost use Rattle.ec_loads.specs.Held.{AreLoads};
-    ghost use Rattle.ec_bounds.specs.Left.{Left};
+    ghost use Rattle.ec_bounds.specs.Left.{Left, AreSent, demand_of};
 
     ghost Value = { Left };
 
@@ -41,6 +43,9 @@ impl Model for Rest {
           flags : length r.unplaced ≡ 48;
           units : AreLoads (take r.count r.table);
           whole : r.hyper ≡ lcm_of (periods_of (take r.count r.table));
+          products : AreSent r.hyper r.count r.table r.sent;
+          running : r.demand ≡ demand_of (take r.count r.table) (take r.count r.unplaced) r.hyper;
+          room : length r.sent ≡ 48;
         } };
 }
 
@@ -56,17 +61,26 @@ impl Rest {
             bytes: 0,
             period: 1,
         }; MOST_UNITS];
+        let hyper = units.hyper();
+        let mut sent = [0; MOST_UNITS];
+        let mut demand = 0u64;
         for i in 0..all.len() {
-            table[i] = Load {
+            let load = Load {
                 bytes: bytes_of(&all[i]),
                 period: all[i].period,
             };
+            let bytes = sent_by(load, &hyper);
+            table[i] = load;
+            sent[i] = bytes;
+            demand += u64::from(bytes);
         }
         Rest {
             table,
             unplaced: [true; MOST_UNITS],
+            sent,
+            demand,
             count: all.len(),
-            hyper: units.hyper(),
+            hyper,
         }
     }
 
@@ -75,7 +89,10 @@ impl Rest {
         requires { unit < length self.old.unplaced }
         ensures { self.new ≡ record self.old { unplaced = slice_set self.old.unplaced unit false } }
     {
-        self.unplaced[unit] = false;
+        if self.unplaced[unit] {
+            self.unplaced[unit] = false;
+            self.demand -= u64::from(self.sent[unit]);
+        }
     }
 
     /// A unit has no place any more.
@@ -83,7 +100,11 @@ impl Rest {
         requires { unit < length self.old.unplaced }
         ensures { self.new ≡ record self.old { unplaced = slice_set self.old.unplaced unit true } }
     {
-        self.unplaced[unit] = true;
+        let _ticks = self.hyper.ticks();
+        if !self.unplaced[unit] {
+            self.unplaced[unit] = true;
+            self.demand += u64::from(self.sent[unit]);
+        }
     }
 
     /// The bytes that the units without a place send in a hyperperiod: for each its bytes, as often as it travels.
@@ -91,40 +112,18 @@ impl Rest {
         ensures value { result ≡ demand_of self.now.loads self.now.unplaced (lcm_of (periods_of self.now.loads)) }
         ensures bound { result ≤ 73039872 }
     {
-        demand_in(
-            &self.table[..self.count],
-            &self.unplaced[..self.count],
-            &self.hyper,
-        )
+        let _ticks = self.hyper.ticks();
+        self.demand
     }
-}
-
-/// The bytes that the loads without a place send in a hyperperiod.
-fn demand_in(loads: &[Load], unplaced: &[bool], hyper: &Hyper) -> u64
-    requires units { AreLoads loads.now }
-    requires few { length loads.now ≤ 48 }
-    requires each { length unplaced.now ≡ length loads.now }
-    ensures value { result ≡ demand_of loads.now unplaced.now hyper.now }
-    ensures bound { result ≤ 73039872 }
-{
-    let mut total = 0u64;
-    for i in 0..loads.len() {
-        total += if unplaced[i] {
-            sent(loads[i], hyper)
-        } else {
-            0
-        };
-    }
-    total
 }
 
 /// The bytes that a unit sends in a hyperperiod.
-fn sent(load: Load, hyper: &Hyper) -> u64
+fn sent_by(load: Load, hyper: &Hyper) -> u32
     requires period { 1 ≤ load.period }
     requires bytes { load.bytes ≤ 1486 }
     ensures value { result ≡ load.bytes * (hyper.now / load.period) }
     ensures bound { result ≤ 1521664 }
 {
     let _ticks = hyper.ticks();
-    u64::from(load.bytes) * u64::from(hyper.times(load.period))
+    u32::from(load.bytes) * hyper.times(load.period)
 }

@@ -1,5 +1,5 @@
 -- The value in use follows what the guide knows.
-use Rattle.std.proofs.Common.{◌≡◌, ℕ, ◌≤◌, inl, inr, Bool, false, Option, Some, None, refl, sym, ap, subst, arith}
+use Rattle.std.proofs.Common.{◌≡◌, ℕ, ◌≤◌, inl, Bool, false, Option, Some, None, refl, sym, ap, subst, arith}
 use Rattle.ec_loads.specs.Cost.{IsFirstBusiest}
 use Rattle.ec_loads.specs.Held.{Held, items_of}
 use Rattle.ec_loads.specs.Search.{IsAtMost, TickHolds}
@@ -31,19 +31,6 @@ follows_found h had halted was knew first asked knows c b t falls low busiest un
       least = λ _. subst (λ w. IsAtMost w (Some b)) (sym is) (IsAtMost-same (Some b));
       most = λ _. subst (λ w. IsAtMost (Some b) w) (sym is) (IsAtMost-same (Some b));
     }
-
--- after some of a split's children
-pub record KeepsUp (was knew now knows : Option ℕ) : Type 0 where
-  pub falls : IsAtMost knows knew
-  pub least : IsAtMost knew was → IsAtMost knows now
-  pub most : IsAtMost now knows
-
-pub keeps_more : (had : ℕ) (halted : Bool) (was knew now knows now2 knows2 : Option ℕ) → KeepsUp was knew now knows → FollowsGuide had halted now knows now2 knows2 → KeepsUp was knew now2 knows2
-keeps_more had halted was knew now knows now2 knows2 so_far step = record {
-  falls = IsAtMost-trans knows2 knows knew step.falls so_far.falls;
-  least = λ h. step.least (so_far.least h);
-  most = step.most (inr so_far.most);
-}
 
 -- a search that begins without a value ends with what the guide knows, which is at most what it knew
 pub follows_known : (had : ℕ) (halted : Bool) (knew now knows : Option ℕ) → 1 ≤ had → halted ≡ false → FollowsGuide had halted None knew now knows → now ≡ knows

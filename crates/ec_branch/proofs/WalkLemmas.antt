@@ -1,5 +1,5 @@
 -- The walk over the prefixes: a value that falls, nodes that are counted, leaves that hold.
-use Rattle.std.proofs.Common.{◌≡◌, ◌⊎◌, ℕ, zero, suc, ◌+◌, ◌-◌, ◌<◌, ◌≤◌, ◌++◌, Vec, Global, min, inl, inr, Bool, true, List, [], ◌∷◌, map, length, set, get_or, Option, Some, None, refl, sym, ap, ◌∙◌, subst, arith, le_trans}
+use Rattle.std.proofs.Common.{◌≡◌, ◌⊎◌, ℕ, zero, suc, ◌+◌, ◌<◌, ◌≤◌, ◌++◌, min, inl, inr, Bool, true, List, [], ◌∷◌, map, length, set, get_or, Option, Some, None, refl, sym, ap, ◌∙◌, subst, arith, le_trans}
 use Rattle.std.proofs.lemmas.Bool.{cases_lt}
 use Rattle.std.proofs.lemmas.List.{append_assoc}
 use Rattle.ec_units.specs.declared.slave.Place.{Place}
@@ -8,16 +8,13 @@ use Rattle.ec_loads.specs.Cost.{items, plan_items, tick_cost, IsBusiest, IsFirst
 use Rattle.ec_loads.specs.Held.{Held, items_of}
 use Rattle.ec_loads.specs.Legal.{IsLegal, Fits}
 use Rattle.ec_loads.specs.Line.{slots_alone, Line, line_of}
-use Rattle.ec_loads.specs.Shape.{Shape, Shapes, tick, leaf}
-use Rattle.ec_loads.specs.Search.{Prefix, children, TickHolds, TreesWith, HaveShortTicks, HasShortTicks, IsAtMost, open_count, open_counts, node_count, node_counts}
+use Rattle.ec_loads.specs.Shape.{Shape, tick, leaf}
+use Rattle.ec_loads.specs.Search.{Prefix, TickHolds, HaveShortTicks, HasShortTicks, IsAtMost, open_count, open_counts, node_count, node_counts}
 use Rattle.ec_symmetry.specs.Reached.{In, here, there, IsInRange}
-use Rattle.ec_symmetry.proofs.InLemmas.{children-In}
-use Rattle.ec_cert.proofs.TreeLemmas.{shape_of-Split}
-use Rattle.ec_cert.specs.declared.tree.Tree.{Tree, Split, TickLeaf}
+use Rattle.ec_cert.specs.declared.tree.Tree.{Tree, TickLeaf}
 use Rattle.ec_cert.specs.Shapes.{shape_of, shapes_of}
 use Rattle.ec_branch.specs.Frames.{Frame, IsFair}
-use Rattle.ec_branch.specs.Walks.{HoldsAt, IsReadyFor, IsClosing, HasCause, IsWalked}
-use Rattle.ec_bounds.proofs.HeldLemmas.{with_place}
+use Rattle.ec_branch.specs.Walks.{HoldsAt, RowHolds, IsReadyFor, IsClosing, HasCause, IsWalked, IsWalking}
 use Rattle.ec_branch.proofs.LeafLemmas.{closing_leaf, shape_of-TickLeaf}
 
 pub IsAtMost-trans : (a b c : Option ℕ) → IsAtMost a b → IsAtMost b c → IsAtMost a c
@@ -27,10 +24,6 @@ IsAtMost-trans (Some a) None (Some c) h k = absurd k
 IsAtMost-trans (Some a) None None h k = tt
 IsAtMost-trans None (Some b) c h k = absurd h
 IsAtMost-trans None None c h k = k
-
--- trees for some of the children of a prefix
-abbrev pub RowHolds : Line → Option ℕ → Shapes → Prefix → ℕ → List ℕ → List Place → Type 0
-RowHolds line v trees ps u order kids = TreesWith (λ _ _. Unit {0}) line v trees ps u order kids
 
 -- one child more
 nodes-push : (ts : List Tree) (t : Tree) → node_counts (shapes_of (ts ++ t ∷ [])) ≡ node_counts (shapes_of ts) + node_count (shape_of t)
@@ -52,22 +45,13 @@ row-push line w ps u order [] t (k ∷ kids) p so_far next = absurd so_far
 row-push line w ps u order (x ∷ ts) t [] p so_far next = absurd so_far
 row-push line w ps u order (x ∷ ts) t (k ∷ kids) p so_far next = (so_far.0, row-push line w ps u order ts t kids p so_far.1 next)
 
--- after some of a split's children
-pub record IsWalking (line : Line) (floor : ℕ) (ps : Prefix) (u : ℕ) (order : List ℕ) (kids : List Place) (was : Option ℕ) (had : ℕ) (now : Option ℕ) (left : ℕ) (halted : Bool) (ts : List Tree) : Type 0 where
-  pub holds : (w : Option ℕ) → IsAtMost w now → RowHolds line w (shapes_of ts) ps u order kids
-  pub short : HaveShortTicks (shapes_of ts)
-  pub lower : IsAtMost now was
-  pub fair : IsFair floor line.loads line.slots was → IsFair floor line.loads line.slots now
-  pub count : node_counts (shapes_of ts) + left ≡ had
-  pub cause : HasCause (open_counts (shapes_of ts)) left halted
-
 cause-push : (a b left left2 k : ℕ) (halted halted2 : Bool) → k + left2 ≡ left → (halted ≡ true → halted2 ≡ true) → HasCause a left halted → HasCause b left2 halted2 → HasCause (a + b) left2 halted2
 cause-push a b left left2 k halted halted2 count stays (inl none) (inl closed) = inl (omega arith)
 cause-push a b left left2 k halted halted2 count stays (inl none) (inr why) = inr why
 cause-push a b left left2 k halted halted2 count stays (inr (inl out)) other = inr (inl (omega arith))
 cause-push a b left left2 k halted halted2 count stays (inr (inr stopped)) other = inr (inr (stays stopped))
 
-walking_more :
+pub walking_more :
     (line : Line) (floor : ℕ) (ps : Prefix) (u : ℕ) (order : List ℕ) (kids : List Place) (p : Place)
     (was now now2 : Option ℕ) (had left left2 : ℕ) (halted halted2 : Bool) (ts : List Tree) (t : Tree) →
     IsWalking line floor ps u order kids was had now left halted ts →
@@ -112,18 +96,6 @@ ready_at loads n ps order later k u ready from is = subst (λ w. IsReadyFor load
 pub In-mid : {A : Type 0} (xs : List A) (x : A) (ys : List A) → In x (xs ++ x ∷ ys)
 In-mid [] x ys = here
 In-mid (y ∷ xs) x ys = there (In-mid xs x ys)
-
--- the next child is in range, and the places below it are ready too
-pub ready_child :
-    (args cur placed : Held) (later : List ℕ) (u : ℕ) (p : Place) (before after : List Place) →
-    IsReadyFor args.loads args.slots args.places (u ∷ later) → cur ≡ args → placed ≡ with_place cur u (Some p) →
-    before ++ p ∷ after ≡ children (line_of slots_alone args) args.places u →
-    IsReadyFor placed.loads placed.slots placed.places later
-ready_child args cur placed later u p before after ready same made kids =
-    let whole : placed ≡ with_place args u (Some p) = made ∙ ap (λ (w : Held). with_place w u (Some p)) same in
-    let is : In p (children (line_of slots_alone args) args.places u) = subst (In p) kids (In-mid before p after) in
-    let range = children-In (line_of slots_alone args) args.places u p is in
-    subst (λ (w : Held). IsReadyFor w.loads w.slots w.places later) (sym whole) (ready.1 p range.0 range.2)
 
 -- the places that there are
 abbrev strip : Prefix → List Place
@@ -188,52 +160,11 @@ found_walked f h floor order plan was first had left halted c b t loads_are slot
     (IsAtMost-trans (Some b) first was (IsAtMost-trans (Some b) (Some c) first under above) low)
     (λ g. fair_found floor h.loads h.slots plan c b legal top (subst (λ k. min c k ≤ b) floor_is value.1)))
 
--- one child more, after the walk below it
-pub loop_more :
-    (args cur placed : Held) (floor : ℕ) (later : List ℕ) (u : ℕ) (p : Place) (before : List Place)
-    (was now now2 : Option ℕ) (had left left2 : ℕ) (halted halted2 : Bool) (ts ts2 : List Tree) (t : Tree) →
-    cur ≡ args → placed ≡ with_place cur u (Some p) →
-    IsWalking (line_of slots_alone args) floor args.places u later before was had now left halted ts →
-    IsWalked (line_of slots_alone placed) floor placed.places later now left now2 left2 halted2 (shape_of t) →
-    (halted ≡ true → halted2 ≡ true) → ts2 ≡ ts ++ t ∷ [] →
-    IsWalking (line_of slots_alone args) floor args.places u later (before ++ p ∷ []) was had now2 left2 halted2 ts2
-loop_more args cur placed floor later u p before was now now2 had left left2 halted halted2 ts ts2 t same made so_far step stays pushed =
-    let whole : placed ≡ with_place args u (Some p) = made ∙ ap (λ (w : Held). with_place w u (Some p)) same in
-    let one = subst (λ (w : Held). IsWalked (line_of slots_alone w) floor w.places later now left now2 left2 halted2 (shape_of t)) whole step in
-    subst (IsWalking (line_of slots_alone args) floor args.places u later (before ++ p ∷ []) was had now2 left2 halted2) (sym pushed)
-    (walking_more (line_of slots_alone args) floor args.places u later before p was now now2 had left left2 halted halted2 ts t so_far one stays)
-
 -- the lesser of a fair value and one that a guide answers is fair
 pub fair_lesser : (floor : ℕ) (loads : List Load) (n : ℕ) (was first asked : Option ℕ) → (first ≡ was) ⊎ (first ≡ asked) → ((b : ℕ) → asked ≡ Some b → floor ≤ b) → IsFair floor loads n was → IsFair floor loads n first
 fair_lesser floor loads n was first asked (inl same) high fair = subst (IsFair floor loads n) (sym same) fair
 fair_lesser floor loads n was first None (inr same) high fair = subst (IsFair floor loads n) (sym same) (λ x low bounds. tt)
 fair_lesser floor loads n was first (Some b) (inr same) high fair = subst (IsFair floor loads n) (sym same) (λ x low bounds. let least = high b refl in omega (arith, low, least))
-
-append_none : (xs : List Place) → xs ++ [] ≡ xs
-append_none [] = refl
-append_none (x ∷ xs) = ap (λ w. x ∷ w) (append_none xs)
-
--- a split of all children
-pub split_walked :
-    (line : Line) (floor : ℕ) (ps : Prefix) (order later : List ℕ) (k u : ℕ) (done rest : List Place)
-    (was first : Option ℕ) (had : ℕ) (now : Option ℕ) (left : ℕ) (halted : Bool) (v : Vec Tree Global) →
-    order ≡ k ∷ later → u ≡ k → done ++ rest ≡ children line ps u → rest ≡ [] → 1 ≤ had → IsAtMost first was → (IsFair floor line.loads line.slots was → IsFair floor line.loads line.slots first) →
-    IsWalking line floor ps u later done first (had - 1) now left halted v.items →
-    IsWalked line floor ps order was had now left halted (shape_of (Split v))
-split_walked line floor ps order later k u done rest was first had now left halted v from is kids none some low keeps all =
-    let whole : order ≡ u ∷ later = from ∙ ap (λ w. w ∷ later) (sym is) in
-    let every : done ≡ children line ps u = sym (append_none done) ∙ ap (λ w. done ++ w) (sym none) ∙ kids in
-    let count = all.count in
-    subst (λ w. IsWalked line floor ps w was had now left halted (shape_of (Split v))) (sym whole)
-    (subst (IsWalked line floor ps (u ∷ later) was had now left halted) (sym (shape_of-Split v))
-    (record {
-      holds = λ w k. subst (RowHolds line w (shapes_of v.items) ps u later) every (all.holds w k);
-      short = all.short;
-      lower = IsAtMost-trans now first was all.lower low;
-      fair = λ f. all.fair (keeps f);
-      count = omega (arith, count, some);
-      cause = all.cause;
-    }))
 
 pub none_left : (xs : List ℕ) → length xs ≡ 0 → xs ≡ []
 none_left [] h = refl
@@ -242,14 +173,3 @@ none_left (x ∷ xs) h = absurd (omega arith)
 -- one more child is taken
 pub kids_more : (done rest before kids : List Place) (p : Place) → before ≡ p ∷ rest → done ++ before ≡ kids → (done ++ p ∷ []) ++ rest ≡ kids
 kids_more done rest before kids p is so_far = append_assoc done (p ∷ []) rest ∙ ap (λ w. done ++ w) (sym is) ∙ so_far
-
--- the next child and those behind it
-pub next_kids : (done rest before kids : List Place) (p : Place) → before ≡ p ∷ rest → done ++ before ≡ kids → done ++ p ∷ rest ≡ kids
-next_kids done rest before kids p is so_far = ap (λ w. done ++ w) (sym is) ∙ so_far
-
--- a guide is for the same units where one more has its place
-pub frame_units : (first now : Frame) (held cur placed : Held) (u : ℕ) (o : Option Place) → now ≡ first → first.loads ≡ held.loads → cur ≡ held → placed ≡ with_place cur u o → now.loads ≡ placed.loads
-frame_units first now held cur placed u o same units at made = ap (λ (f : Frame). f.loads) same ∙ units ∙ sym (ap (λ (w : Held). w.loads) at) ∙ sym (ap (λ (w : Held). w.loads) made)
-
-pub frame_slots : (first now : Frame) (held cur placed : Held) (u : ℕ) (o : Option Place) → now ≡ first → first.slots ≡ held.slots → cur ≡ held → placed ≡ with_place cur u o → now.slots ≡ placed.slots
-frame_slots first now held cur placed u o same slots at made = ap (λ (f : Frame). f.slots) same ∙ slots ∙ sym (ap (λ (w : Held). w.slots) at) ∙ sym (ap (λ (w : Held). w.slots) made)

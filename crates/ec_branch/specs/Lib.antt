@@ -1,4 +1,5 @@
 pub mod Frames
 pub mod Greedy
+pub mod Stacks
 pub mod Walks
 pub mod Weights

@@ -3,8 +3,10 @@ use Rattle.std.specs.Prelude.{◌≡◌, ℕ, ◌+◌, ◌<◌, ◌⊎◌, List,
 use Rattle.ec_units.specs.declared.slave.Place.{Place}
 use Rattle.ec_units.specs.declared.unit.Load.{Load}
 use Rattle.ec_loads.specs.Line.{Line}
-use Rattle.ec_loads.specs.Shape.{Shape}
-use Rattle.ec_loads.specs.Search.{Prefix, nobody, TreeWith, HasShortTicks, IsAtMost, open_count, node_count}
+use Rattle.ec_loads.specs.Shape.{Shape, Shapes}
+use Rattle.ec_loads.specs.Search.{Prefix, nobody, TreeWith, TreesWith, HasShortTicks, HaveShortTicks, IsAtMost, open_count, open_counts, node_count, node_counts}
+use Rattle.ec_cert.specs.declared.tree.Tree.{Tree}
+use Rattle.ec_cert.specs.Shapes.{shapes_of}
 use Rattle.ec_symmetry.specs.Reached.{IsInRange}
 use Rattle.ec_branch.specs.Frames.{IsFair}
 
@@ -38,6 +40,19 @@ pub record IsWalked (line : Line) (floor : ℕ) (ps : Prefix) (order : List ℕ)
   pub fair : IsFair floor line.loads line.slots was → IsFair floor line.loads line.slots now
   pub count : node_count tree + left ≡ had
   pub cause : HasCause (open_count tree) left halted
+
+-- trees for some of the children of a prefix
+abbrev pub RowHolds : Line → Option ℕ → Shapes → Prefix → ℕ → List ℕ → List Place → Type 0
+RowHolds line v trees ps u order kids = TreesWith (λ _ _. Unit {0}) line v trees ps u order kids
+
+-- after some of a split's children
+pub record IsWalking (line : Line) (floor : ℕ) (ps : Prefix) (u : ℕ) (order : List ℕ) (kids : List Place) (was : Option ℕ) (had : ℕ) (now : Option ℕ) (left : ℕ) (halted : Bool) (ts : List Tree) : Type 0 where
+  pub holds : (w : Option ℕ) → IsAtMost w now → RowHolds line w (shapes_of ts) ps u order kids
+  pub short : HaveShortTicks (shapes_of ts)
+  pub lower : IsAtMost now was
+  pub fair : IsFair floor line.loads line.slots was → IsFair floor line.loads line.slots now
+  pub count : node_counts (shapes_of ts) + left ≡ had
+  pub cause : HasCause (open_counts (shapes_of ts)) left halted
 
 -- a walk from the value `was`, where the guide knew `knew`, to the value `now`, where it knows `knows`: what is known only falls; the value falls no lower than
 -- what the guide knows, and is no higher once it was asked

@@ -2,12 +2,14 @@
 
 ghost use Rattle.std.specs.Prelude.{◌≡◌, ℕ, ◌<◌, ◌≤◌, IfOk, All, length, drop, false, Some};
 ghost use Rattle.ec_units.specs.Load.{loads_of};
-ghost use Rattle.ec_loads.specs.Line.{slots_alone, line_by};
-ghost use Rattle.ec_loads.specs.Search.{IsAtMost, IsPartialTree, node_count, open_count};
-ghost use Rattle.ec_symmetry.specs.Orders.{IsOrder, IsReachedPrefix, with_places, prefix_of};
+ghost use Rattle.ec_loads.specs.Held.{no_places};
+ghost use Rattle.ec_loads.specs.Line.{slots_alone, line_by, line_of};
+ghost use Rattle.ec_loads.specs.Search.{Prefix, IsAtMost, IsPartialTree, node_count, open_count};
+ghost use Rattle.ec_symmetry.specs.Orders.{IsOrder, AreChildren, IsReachedPrefix, with_places, prefix_of};
 ghost use Rattle.ec_bounds.specs.Left.{IsRestOf};
 ghost use Rattle.ec_cert.specs.Shapes.{shape_of};
 ghost use Rattle.ec_branch.specs.Frames.{Frame, IsFair};
+ghost use Rattle.ec_branch.specs.Walks.{IsReadyFor};
 
 use crate::guide::Guide;
 use crate::value::Search;
@@ -31,6 +33,69 @@ fn place_all(loads: &mut Loads, rest: &mut Rest, order: &[u8], prefix: &[Place])
         loads.place(unit, prefix[i]);
         rest.placed(unit);
     }
+}
+
+/// Takes the places of the first units of the order away again, the last first.
+fn remove_all(loads: &mut Loads, rest: &mut Rest, order: &[u8], prefix: &[Place])
+    requires long { length prefix.now ≤ length order.now }
+    requires below { All (λ u. u < length loads.old.places) order.now }
+    requires left { IsRestOf rest.old loads.old }
+    ensures removed { (before : Prefix) → IsReadyFor loads.old.loads loads.old.slots before order.now →
+        AreChildren (line_of slots_alone loads.old) before order.now prefix.now → loads.old.places ≡ with_places before order.now prefix.now →
+        loads.new ≡ record loads.old { places = before } }
+    ensures left { IsRestOf rest.new loads.new }
+{
+    let mut i = prefix.len();
+    while i > 0 {
+        i -= 1;
+        let unit = usize::from(order[i]);
+        loads.remove(unit);
+        rest.unplaced(unit);
+    }
+}
+
+/// Explores below a prefix, as `explore` does, in loads that the caller owns, and what is left of them: no unit has a
+/// place before and afterwards, also where memory is refused. So a piece of few nodes costs no more than these.
+pub fn explore_in<G: Guide>(
+    alloc: Global,
+    loads: &mut Loads,
+    rest: &mut Rest,
+    order: &[u8],
+    prefix: &[Place],
+    guide: &mut G,
+    grant: u32,
+) -> Result<Subtree, AllocError>
+    requires empty { loads.old.places ≡ no_places loads.old.loads }
+    requires left { IsRestOf rest.old loads.old }
+    requires order { IsOrder (length loads.old.loads) order.now }
+    requires reached { IsReachedPrefix (line_of slots_alone loads.old) order.now prefix.now }
+    requires loads { (G.frame guide.old).loads ≡ loads.old.loads }
+    requires slots { (G.frame guide.old).slots ≡ loads.old.slots }
+    requires running { G.halted guide.old ≡ false }
+    requires some { 1 ≤ grant }
+    ensures same { loads.new ≡ loads.old }
+    ensures left { IsRestOf rest.new loads.new }
+    ensures frame { G.frame guide.new ≡ G.frame guide.old }
+    ensures partial { IfOk result (λ sub. IsPartialTree (line_of slots_alone loads.old) sub.threshold (shape_of sub.tree) (prefix_of loads.old.loads order.now prefix.now) (drop (length prefix.now) order.now)) }
+    ensures least { IfOk result (λ sub. IsFair (G.frame guide.old).floor loads.old.loads loads.old.slots sub.threshold) }
+    ensures known { IfOk result (λ sub. sub.threshold ≡ G.known guide.new) }
+    ensures upper { IfOk result (λ sub. IsAtMost sub.threshold (G.known guide.old)) }
+    ensures most { IfOk result (λ sub. node_count (shape_of sub.tree) ≤ grant) }
+    ensures exact { IfOk result (λ sub. 0 < open_count (shape_of sub.tree) → G.halted guide.new ≡ false → node_count (shape_of sub.tree) ≡ grant) }
+{
+    place_all(loads, rest, order, prefix);
+    let mut search = Search {
+        value: None,
+        left: grant,
+    };
+    let later = &order[prefix.len()..];
+    let walked = walk(alloc, loads, rest, later, guide, &mut search);
+    remove_all(loads, rest, order, prefix);
+    let tree = walked?;
+    Ok(Subtree {
+        threshold: search.value,
+        tree,
+    })
 }
 
 /// Explores below a prefix: the places of the first units of the order, which the children reach. Splits and closes
@@ -64,15 +129,5 @@ pub fn explore<G: Guide>(
 {
     let mut loads = Loads::new(alloc, units)?;
     let mut rest = Rest::all(units);
-    place_all(&mut loads, &mut rest, order, prefix);
-    let mut search = Search {
-        value: None,
-        left: grant,
-    };
-    let later = &order[prefix.len()..];
-    let tree = walk(alloc, &mut loads, &mut rest, later, guide, &mut search)?;
-    Ok(Subtree {
-        threshold: search.value,
-        tree,
-    })
+    explore_in(alloc, &mut loads, &mut rest, order, prefix, guide, grant)
 }

@@ -5,12 +5,14 @@ mod exploring;
 mod first_plan;
 mod guide;
 mod leaf;
+mod level;
+mod node;
 mod order;
 mod plan;
 mod value;
 mod walk;
 
-pub use exploring::explore;
+pub use exploring::{explore, explore_in};
 pub use first_plan::greedy;
 pub use guide::Guide;
 pub use order::search_order;

@@ -1,24 +1,86 @@
 //! The walk over the prefixes.
 
-ghost use Rattle.std.specs.Prelude.{◌≡◌, IfOk, true};
+ghost use Rattle.std.specs.Prelude.{◌≡◌, ℕ, ◌<◌, IfOk, IfErr, true, reverse};
 ghost use Rattle.ec_loads.specs.Line.{slots_alone, line_of};
 ghost use Rattle.ec_bounds.specs.Left.{IsRestOf};
 ghost use Rattle.ec_cert.specs.Shapes.{shape_of};
 ghost use Rattle.ec_branch.specs.Frames.{Frame};
+ghost use Rattle.ec_branch.specs.Stacks.{Task, IsFor, IsOn, IsWithin, IsBack, IsStepped, effort, state_of, is_less};
 ghost use Rattle.ec_branch.specs.Walks.{IsReadyFor, IsWalked, FollowsGuide};
 
 use crate::guide::Guide;
-use crate::leaf::{leaf_of, top_of};
-use crate::plan::whole;
-use crate::value::{Search, lesser};
+use crate::level::{Level, Turn, next_child};
+use crate::node::{Entered, enter};
+use crate::value::Search;
 use ec_bounds::Rest;
 use ec_cert::Tree;
 use ec_loads::Loads;
-use ec_symmetry::children_of;
 use std::alloc::{AllocError, Global};
 
-/// Explores below the places so far, unit by unit in this order; the recursion is as deep as the order is long.
-/// The places are as before afterwards.
+/// What a step of the walk leads to.
+#[derive(Drop)]
+pub(crate) enum Stepped {
+    /// The walk goes on.
+    On(Turn),
+    /// The whole tree.
+    Done(Tree),
+}
+
+/// Takes the places of the splits that are under way back, the innermost first.
+fn undo(loads: &mut Loads, rest: &mut Rest, levels: &mut Vec<Level>)
+    requires { (task : Task) × IsWithin task (reverse levels.old.items) loads.old rest.old }
+    ensures { (task : Task) → IsWithin task (reverse levels.old.items) loads.old rest.old → IsBack task loads.new rest.new }
+{
+    while let Some(level) = levels.pop() {
+        loads.remove(level.unit);
+        rest.unplaced(level.unit);
+    }
+}
+
+/// One step of the walk: a node is closed or split, or its tree is added to the split above, which goes on with its
+/// next child or is closed itself. Where memory is refused, all stays as it was.
+fn step<G: Guide>(
+    alloc: Global,
+    loads: &mut Loads,
+    rest: &mut Rest,
+    order: &[u8],
+    guide: &mut G,
+    search: &mut Search,
+    levels: &mut Vec<Level>,
+    turn: Turn,
+) -> Result<Stepped, AllocError>
+    requires on { (task : Task) × IsFor task order.now (G.frame guide.old) × IsOn task levels.old loads.old rest.old (state_of search.old (G.halted guide.old) (G.known guide.old)) turn }
+    ensures frame { G.frame guide.new ≡ G.frame guide.old }
+    ensures stays { G.halted guide.old ≡ true → G.halted guide.new ≡ true }
+    ensures on { IfOk result (λ s. (task : Task) → IsFor task order.now (G.frame guide.old) →
+        IsOn task levels.old loads.old rest.old (state_of search.old (G.halted guide.old) (G.known guide.old)) turn →
+        IsStepped task levels.new loads.new rest.new (state_of search.new (G.halted guide.new) (G.known guide.new)) s) }
+    ensures less { IfOk result (λ s. is_less search.new.left levels.new.items s (effort search.old.left levels.old.items turn)) }
+    ensures levels { IfErr result (λ _. levels.new.items ≡ levels.old.items) }
+    ensures loads { IfErr result (λ _. loads.new ≡ loads.old) }
+    ensures rest { IfErr result (λ _. rest.new ≡ rest.old) }
+{
+    match turn {
+        Turn::Enter => match enter(alloc, loads, rest, &order[levels.len()..], guide, search)? {
+            Entered::Leaf(tree) => Ok(Stepped::On(Turn::Up(tree))),
+            Entered::Split(level) => {
+                Ok(Stepped::On(next_child(loads, rest, search.left, levels, level)))
+            }
+        },
+        Turn::Up(tree) => {
+            let Some(mut level) = levels.pop() else {
+                return Ok(Stepped::Done(tree));
+            };
+            loads.remove(level.unit);
+            rest.unplaced(level.unit);
+            level.trees.push_reserved(tree);
+            Ok(Stepped::On(next_child(loads, rest, search.left, levels, level)))
+        }
+    }
+}
+
+/// Explores below the places so far, unit by unit in this order, with a stack that is as deep as the order is long
+/// and made once. The places are as before afterwards, also where memory is refused.
 pub(crate) fn walk<G: Guide>(
     alloc: Global,
     loads: &mut Loads,
@@ -31,48 +93,23 @@ pub(crate) fn walk<G: Guide>(
     requires left { IsRestOf rest.old loads.old }
     requires units { (G.frame guide.old).loads ≡ loads.old.loads }
     requires slots { (G.frame guide.old).slots ≡ loads.old.slots }
-    ensures same { IfOk result (λ _. loads.new ≡ loads.old) }
-    ensures left { IfOk result (λ _. IsRestOf rest.new loads.new) }
+    ensures same { loads.new ≡ loads.old }
+    ensures left { IsRestOf rest.new loads.new }
     ensures frame { G.frame guide.new ≡ G.frame guide.old }
     ensures stays { G.halted guide.old ≡ true → G.halted guide.new ≡ true }
     ensures known { IfOk result (λ _. FollowsGuide search.old.left (G.halted guide.old) search.old.value (G.known guide.old) search.new.value (G.known guide.new)) }
     ensures walked { IfOk result (λ tree. IsWalked (line_of slots_alone loads.old) (G.frame guide.old).floor loads.old.places order.now search.old.value search.old.left search.new.value search.new.left (G.halted guide.new) (shape_of tree)) }
 {
-    if search.left == 0 || guide.stopped() {
-        return Ok(Tree::OpenLeaf);
-    }
-    search.value = lesser(search.value, guide.bound());
-    if let Some(leaf) = leaf_of(loads, rest, search.value) {
-        search.left -= 1;
-        return Ok(leaf);
-    }
-    match order.split_first() {
-        None => {
-            let plan = whole(alloc, loads)?;
-            let (cost, tick) = top_of(loads);
-            match guide.found(&plan, cost) {
-                None => Ok(Tree::OpenLeaf),
-                Some(value) => {
-                    search.value = Some(value);
-                    search.left -= 1;
-                    Ok(Tree::TickLeaf(tick))
-                }
+    let mut levels = Vec::with_capacity(alloc, order.len())?;
+    let mut turn = Turn::Enter;
+    loop {
+        match step(alloc, loads, rest, order, guide, search, &mut levels, turn) {
+            Ok(Stepped::On(next)) => turn = next,
+            Ok(Stepped::Done(tree)) => return Ok(tree),
+            Err(error) => {
+                undo(loads, rest, &mut levels);
+                return Err(error);
             }
-        }
-        Some((unit, later)) => {
-            let unit = usize::from(*unit);
-            search.left -= 1;
-            let mut trees = Vec::new(alloc);
-            let mut places = children_of(loads, unit);
-            while let Some(place) = places.next() {
-                loads.place(unit, place);
-                rest.placed(unit);
-                let tree = walk(alloc, loads, rest, later, guide, search)?;
-                loads.remove(unit);
-                rest.unplaced(unit);
-                trees.push(tree)?;
-            }
-            Ok(Tree::Split(trees))
         }
     }
 }

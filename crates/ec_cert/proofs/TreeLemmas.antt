@@ -3,7 +3,7 @@ use Rattle.std.proofs.Common.{◌≡◌, ◌↔◌, ℕ, zero, suc, ◌+◌, ◌
 use Rattle.std.proofs.lemmas.List.{drop_more}
 use Rattle.ec_loads.specs.Shape.{Shape, split, more, shape_count}
 use Rattle.ec_cert.specs.Shapes.{shape_of, shapes_of, shapes}
-use Rattle.ec_cert.specs.Text.{HasLevels, HaveLevels}
+use Rattle.ec_cert.specs.WellFormed.{HasLevels, HaveLevels}
 use Rattle.ec_cert.specs.declared.tree.Tree.{Tree, Split, the_lemmas}
 
 pub shape_of-Split : (v : Vec Tree Global) → shape_of (Split v) ≡ split (shapes_of v.items)

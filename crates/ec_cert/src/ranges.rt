@@ -4,7 +4,7 @@ ghost use Rattle.std.specs.Prelude.{◌≡◌, ℕ, ◌<◌, ◌≤◌, ◌↔�
 ghost use Rattle.std.specs.List.{All, list_all};
 ghost use Rattle.ec_units.specs.Names.{is_name as is_name_spec, is_name_byte as is_name_byte_spec};
 ghost use Rattle.ec_cert.specs.Shapes.{shape_of, shapes_of, cert_view};
-ghost use Rattle.ec_cert.specs.Text.{HasLevels, HaveLevels, IsUnitLine, IsPlaceLine, IsBest, IsBestOrNone, IsWellFormed};
+ghost use Rattle.ec_cert.specs.WellFormed.{HasLevels, HaveLevels, IsUnitLine, IsPlaceLine, IsBest, IsBestOrNone, IsWellFormed};
 
 use crate::cert::{Best, Cert};
 use crate::lists::UnitLine;
@@ -12,7 +12,7 @@ use crate::tree::Tree;
 use ec_units::Place;
 
 /// The most levels of a tree: no node has more than 48 splits above it.
-pub(crate) const LEVELS: u8 = 49;
+pub const LEVELS: u8 = 49;
 
 fn is_name_byte(byte: u8) -> bool
     ensures { result ≡ is_name_byte_spec byte }
@@ -31,7 +31,7 @@ fn are_name_bytes(bytes: &[u8]) -> bool
 }
 
 /// Whether these bytes are 1 to 32 of a-z, A-Z, 0-9, `_` and `-`.
-pub(crate) fn is_name(bytes: &[u8]) -> bool
+pub fn is_name(bytes: &[u8]) -> bool
     ensures { result ≡ is_name_spec bytes.now }
 {
     1 <= bytes.len() && bytes.len() <= 32 && are_name_bytes(bytes)

@@ -75,14 +75,17 @@ entries source = entries_from (length source) source
 abbrev pub is_ether_cat : List ℕ → Bool
 is_ether_cat frame = (slice_index frame 12 == 0x88) && (slice_index frame 13 == 0xA4)
 
+-- the bytes that the length counts, where they are there
+abbrev pub counted_in : List ℕ → Result (List ℕ) FrameFault
+counted_in frame = if nat_lt (length frame) (length_at frame + 16) then Err fault.Length else Ok (payload_of frame)
+
 -- the bytes that the length counts, or the first fault of the headers
 unfoldable pub payload_in : List ℕ → Result (List ℕ) FrameFault
 payload_in frame =
     if nat_lt (length frame) 16 then Err fault.Short
     else if not (is_ether_cat frame) then Err fault.NotEtherCat
     else if not (type_at frame == 1) then Err (fault.FrameType (type_at frame))
-    else if nat_lt (length frame) (length_at frame + 16) then Err fault.Length
-    else Ok (payload_of frame)
+    else counted_in frame
 
 -- the datagrams of a frame, or its first fault
 abbrev pub frame_read : List ℕ → Result (List Entry) FrameFault

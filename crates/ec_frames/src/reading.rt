@@ -3,8 +3,8 @@ ghost use Rattle.std.specs.Result.{result_err};
 ghost use Rattle.std.specs.Iterator.{YieldsFirstBy, item_count};
 ghost use Rattle.ec_frames.specs.declared.reading.FrameFault.{FrameFault};
 ghost use Rattle.ec_frames.specs.FaultTexts.{frame_fault_text};
-ghost use Rattle.ec_frames.specs.Reading.{Entry, ReadsAs, HasFault};
-ghost use Rattle.ec_frames.specs.Parsing.{ok_map, datagram_at, payload_read, payload_in, frame_read, void, entries};
+ghost use Rattle.ec_frames.specs.Reading.{Entry, word_at, size_at, header_at, type_at, length_at, ReadsAs, HasFault};
+ghost use Rattle.ec_frames.specs.Parsing.{ok_map, entry_at, ended, known_at, datagram_at, payload_read, is_ether_cat, counted_in, payload_in, frame_read, void, entries};
 ghost use Rattle.ec_frames.specs.EntryViews.{entry};
 
 use crate::command::{Command, command_of};
@@ -67,6 +67,68 @@ pub struct View<'a> {
     pub bytes: &'a [u8],
 }
 
+/// The 16 bits of a datagram's header that have the length of its data, its circulating bit and its more bit.
+fn word_of(source: &[u8]) -> u16
+    requires { 10 ≤ length source.now }
+    ensures { result ≡ word_at source.now }
+{
+    LittleEndian::read_u16(&source[6..])
+}
+
+/// How many bytes of data a datagram has.
+fn size_of(source: &[u8]) -> usize
+    requires { 10 ≤ length source.now }
+    ensures { result ≡ size_at source.now }
+{
+    usize::from(word_of(source) % 2048)
+}
+
+/// The datagram at the front, all of which is there.
+fn view_of(command: Command, source: &[u8]) -> View<'_>
+    requires header { 10 ≤ length source.now }
+    requires whole { size_at source.now + 12 ≤ length source.now }
+    ensures { entry result ≡ entry_at command source.now }
+{
+    let size = size_of(source);
+    View {
+        command,
+        index: source[1],
+        address: LittleEndian::read_u32(&source[2..]),
+        circulating: word_of(source) / 16384 % 2 == 1,
+        event: LittleEndian::read_u16(&source[8..]),
+        counter: LittleEndian::read_u16(&source[10 + size..]),
+        bytes: &source[10..10 + size],
+    }
+}
+
+/// A datagram and what follows it, which its more bit has to say.
+fn ended<'a>(more: bool, view: View<'a>, rest: &'a [u8]) -> Result<(View<'a>, &'a [u8]), FrameFault>
+    ensures read { ok_map (λ x. (entry x.0, x.1.now)) result ≡ ended more (entry view.entry) rest.now }
+    ensures same { IfOk result (λ x. x.1.now ≡ rest.now) }
+{
+    if more && rest.is_empty() {
+        return Err(FrameFault::MoreAtEnd);
+    }
+    if !more && !rest.is_empty() {
+        return Err(FrameFault::RestAfterLast);
+    }
+    Ok((view, rest))
+}
+
+/// The datagram at the front, whose command is known, and what follows it.
+fn known_datagram(command: Command, source: &[u8]) -> Result<(View<'_>, &[u8]), FrameFault>
+    requires { 10 ≤ length source.now }
+    ensures read { ok_map (λ x. (entry x.0, x.1.now)) result ≡ known_at (Some command) source.now }
+    ensures shorter { IfOk result (λ x. length x.1.now + 12 ≤ length source.now) }
+{
+    let size = size_of(source);
+    if source.len() < size + 12 {
+        return Err(FrameFault::DataPastEnd);
+    }
+    let more = word_of(source) / 32768 % 2 == 1;
+    ended(more, view_of(command, source), &source[size + 12..])
+}
+
 #[tactic(auto, unfolding(crate::specs::Parsing::datagram_at))]
 fn datagram_of(source: &[u8]) -> Result<(View<'_>, &[u8]), FrameFault>
     ensures read { ok_map (λ x. (entry x.0, x.1.now)) result ≡ datagram_at source.now }
@@ -75,33 +137,10 @@ fn datagram_of(source: &[u8]) -> Result<(View<'_>, &[u8]), FrameFault>
     if source.len() < 10 {
         return Err(FrameFault::DataPastEnd);
     }
-    let command = match command_of(source[0]) {
-        Some(command) => command,
-        None => return Err(FrameFault::UnknownCommand(source[0])),
-    };
-    let word = LittleEndian::read_u16(&source[6..]);
-    let size = usize::from(word % 2048);
-    if source.len() < size + 12 {
-        return Err(FrameFault::DataPastEnd);
+    match command_of(source[0]) {
+        Some(command) => known_datagram(command, source),
+        None => Err(FrameFault::UnknownCommand(source[0])),
     }
-    let rest = &source[size + 12..];
-    let more = word / 32768 % 2 == 1;
-    if more && rest.is_empty() {
-        return Err(FrameFault::MoreAtEnd);
-    }
-    if !more && !rest.is_empty() {
-        return Err(FrameFault::RestAfterLast);
-    }
-    let view = View {
-        command,
-        index: source[1],
-        address: LittleEndian::read_u32(&source[2..]),
-        circulating: word / 16384 % 2 == 1,
-        event: LittleEndian::read_u16(&source[8..]),
-        counter: LittleEndian::read_u16(&source[10 + size..]),
-        bytes: &source[10..10 + size],
-    };
-    Ok((view, rest))
 }
 
 /// Whether all of the bytes are datagrams, and the first fault where they are not.
@@ -119,6 +158,50 @@ fn check(payload: &[u8]) -> Result<(), FrameFault>
     }
 }
 
+/// Whether the EtherType is 88 A4.
+fn is_ether_cat(frame: &[u8]) -> bool
+    requires { 16 ≤ length frame.now }
+    ensures { result ≡ is_ether_cat frame.now }
+{
+    frame[12] == 0x88 && frame[13] == 0xA4
+}
+
+/// The EtherCAT header, which has the length and the type.
+fn header_of(frame: &[u8]) -> u16
+    requires { 16 ≤ length frame.now }
+    ensures { result ≡ header_at frame.now }
+{
+    LittleEndian::read_u16(&frame[14..])
+}
+
+/// The type in the EtherCAT header, 0 to 15.
+fn type_of(frame: &[u8]) -> u8
+    requires { 16 ≤ length frame.now }
+    ensures { result ≡ type_at frame.now }
+{
+    (header_of(frame) / 4096) as u8
+}
+
+/// The length in the EtherCAT header, in bytes.
+fn length_of(frame: &[u8]) -> usize
+    requires { 16 ≤ length frame.now }
+    ensures { result ≡ length_at frame.now }
+{
+    usize::from(header_of(frame) % 2048)
+}
+
+/// The bytes that the length in the EtherCAT header counts, where they are there.
+fn counted_in(frame: &[u8]) -> Result<&[u8], FrameFault>
+    requires { 16 ≤ length frame.now }
+    ensures { ok_map (λ payload. payload.now) result ≡ counted_in frame.now }
+{
+    let size = length_of(frame);
+    if frame.len() < size + 16 {
+        return Err(FrameFault::Length);
+    }
+    Ok(&frame[16..16 + size])
+}
+
 /// The bytes that the length in the EtherCAT header counts.
 #[tactic(auto, unfolding(crate::specs::Parsing::payload_in))]
 fn payload_of(frame: &[u8]) -> Result<&[u8], FrameFault>
@@ -127,19 +210,14 @@ fn payload_of(frame: &[u8]) -> Result<&[u8], FrameFault>
     if frame.len() < 16 {
         return Err(FrameFault::Short);
     }
-    if frame[12] != 0x88 || frame[13] != 0xA4 {
+    if !is_ether_cat(frame) {
         return Err(FrameFault::NotEtherCat);
     }
-    let header = LittleEndian::read_u16(&frame[14..]);
-    let kind = header / 4096;
+    let kind = type_of(frame);
     if kind != 1 {
-        return Err(FrameFault::FrameType(kind as u8));
+        return Err(FrameFault::FrameType(kind));
     }
-    let size = usize::from(header % 2048);
-    if frame.len() < size + 16 {
-        return Err(FrameFault::Length);
-    }
-    Ok(&frame[16..16 + size])
+    counted_in(frame)
 }
 
 /// A frame that was read: a contract sees the list of its datagrams.

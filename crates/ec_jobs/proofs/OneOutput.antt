@@ -8,8 +8,8 @@ use Rattle.ec_units.specs.Views.{UnitsView, view_loads}
 use Rattle.ec_loads.specs.declared.item.Item.{Item}
 use Rattle.ec_loads.specs.declared.plan.Illegal.{Illegal}
 use Rattle.ec_loads.specs.Cost.{tick_cost, IsFirstBusiest}
-use Rattle.ec_cert.specs.declared.fault.CertFault.{CertFault}
-use Rattle.ec_cert.specs.Reading.{reading as cert_reading}
+use Rattle.ec_cert_text.specs.declared.fault.CertFault.{CertFault}
+use Rattle.ec_cert_text.specs.Reading.{reading as cert_reading}
 use Rattle.ec_cert.specs.Shapes.{CertView}
 use Rattle.ec_lines.specs.declared.refusal.Refusal.TheVariants as refusal
 use Rattle.ec_lines.specs.declared.job.Job.{Job}

@@ -14,28 +14,11 @@ use Rattle.ec_lines.specs.Output.{Written, Answers, IsOutput, IsNoMemory, refuse
 use Rattle.ec_answers.specs.Planned.{AnswersPlan, GetsCertFront, IsPlanWritten, Any, Gets, GetsFront}
 use Rattle.ec_jobs.specs.Runs.{Use, used, Lent, either, Reads, Tells, IsFor, Refuses, Costs, Checks, Plans, PlansTo, PlansAway, Does, DoesAlone, DoesAway, IsSound, HasFailed, IsKept, before, after}
 use Rattle.ec_jobs.proofs.TellLemmas.{said_by}
-use Rattle.ec_jobs.proofs.SoundLemmas.{code_above}
-use Rattle.ec_lines.specs.Outcomes.{outcome_output}
-use Rattle.ec_lines.specs.Refusals.{out_of_memory, refusal_code}
-use Rattle.ec_units.specs.declared.unit.Unit.{Unit as SyncUnit}
-use Rattle.ec_workers.specs.declared.outcome.Outcome.{Outcome}
-use Rattle.ec_workers.specs.declared.outcome.Outcome.TheVariants as outcome
 use Rattle.ec_workers.specs.Answers.{Asked, asked_for}
 
 -- what is told is also what follows from it
 pub tells_more : {W : Type 0} {P Q : Written → Type 0} {text : Use W} {code : ℕ} → ((w : Written) → P w → Q w) → Tells P text code → Tells Q text code
 tells_more more t = record { written = t.written; said = more t.written t.said; whole = t.whole; front = t.front; failed = t.failed }
-
--- from bytes that were written with their status
-pub tells_bytes : {W : Type 0} (answer : Result Answer Refusal) (w : Written) (text : Use W) (code k : ℕ) (bytes : List ℕ) → IsFor answer w → bytes ≡ w.text → k ≡ w.code
-    → (IsSound text → (code ≡ k) × Appends (before text) (after text) bytes) → WritesFront (before text) (after text) bytes → (HasFailed text → code ≡ 4) → Tells (IsFor answer) text code
-tells_bytes answer w text code k bytes which same status whole front failed = record {
-  written = w;
-  said = which;
-  whole = λ sound. ((whole sound).0 ∙ status, subst (Appends (before text) (after text)) same (whole sound).1);
-  front = subst (WritesFront (before text) (after text)) same front;
-  failed = failed;
-}
 
 -- from the bytes of one text
 pub tells_text : {W : Type 0} (w : Written) (text : Use W) (code k : ℕ) (bytes : List ℕ) → bytes ≡ w.text → k ≡ w.code
@@ -48,13 +31,8 @@ tells_text w text code k bytes same status whole front failed = record {
   failed = failed;
 }
 
--- an answer as it is written, or the line that says that memory ran out
-for_either : (answer : Result Answer Refusal) (w : Written) → IsFor answer w → (w ≡ written_of answer) ⊎ (w ≡ refused out_of_memory)
-for_either (Ok a) w is = inl is
-for_either (Err r) w is = is
-
 refuses : (answer : Result Answer Refusal) (r : Refusal) (w : Written) → IsFor answer w → answer ≡ Err r → Refuses r w
-refuses answer r w h is = subst (λ (a : Result Answer Refusal). IsFor a w) is h
+refuses answer r w h is = h ∙ ap written_of is
 
 pub reads : {X : Type 0} (s : Use X) (most : ℕ) (answer : Result Answer Refusal) (w : Written) → IsFor answer w → ConsumesAtMost (before s) (after s) most → taken s.new ≤ taken s.old + most → (HasFailed s → answer ≡ Err refusal.Read) → Reads s most w
 reads s most answer w is known any read = record { known = known; any = any; failed = λ failed. refuses answer refusal.Read w is (read failed) }
@@ -62,7 +40,7 @@ reads s most answer w is known any read = record { known = known; any = any; fai
 -- a cost
 cost_said : (left : Option (List ℕ)) (answer : Result Answer Refusal) (w : Written) → IsFor answer w → IfSome left (λ bytes. Answers job.Cost answer (IsOutput job.Cost bytes None)) → IfSome left (λ bytes. IsOutput job.Cost bytes None w ⊎ IsNoMemory job.Cost w)
 cost_said None answer w is h = tt
-cost_said (Some bytes) answer w is h = said_by job.Cost bytes None answer w h (for_either answer w is)
+cost_said (Some bytes) answer w is h = said_by job.Cost bytes None answer w h is
 
 pub costs : {R : Type 0} (u : Use R) (answer : Result Answer Refusal) → (IsSound u → IfSome (before u) (λ bytes. Answers job.Cost answer (IsOutput job.Cost bytes None))) → ConsumesAtMost (before u) (after u) 1048577 → taken u.new ≤ taken u.old + 1048577 → (HasFailed u → answer ≡ Err refusal.Read)
     → (w : Written) → IsFor answer w → Costs u w
@@ -73,7 +51,7 @@ check_said : (left cert : Option (List ℕ)) (answer : Result Answer Refusal) (w
     → IfSome left (λ bytes. IfSome cert (λ text. IsOutput job.Check bytes (Some text) w ⊎ IsNoMemory job.Check w))
 check_said None cert answer w is h = tt
 check_said (Some bytes) None answer w is h = tt
-check_said (Some bytes) (Some text) answer w is h = said_by job.Check bytes (Some text) answer w h (for_either answer w is)
+check_said (Some bytes) (Some text) answer w is h = said_by job.Check bytes (Some text) answer w h is
 
 pub checks : {R C : Type 0} (u : Use R) (c : Use C) (answer : Result Answer Refusal) → (IsSound u → IsSound c → IfSome (before u) (λ bytes. IfSome (before c) (λ text. Answers job.Check answer (IsOutput job.Check bytes (Some text)))))
     → ConsumesAtMost (before u) (after u) 1048577 → taken u.new ≤ taken u.old + 1048577 → (HasFailed u → answer ≡ Err refusal.Read) → ConsumesAtMost (before c) (after c) 67108865 → taken c.new ≤ taken c.old + 67108865 → (HasFailed c → answer ≡ Err refusal.Read) → (HasFailed u → IsKept c) → IfSome (before u) (λ bytes. ¬ (AreUnits bytes) → IsKept c)
@@ -87,18 +65,8 @@ checks u c answer told known any read cert_known cert_any cert_read kept first w
 }
 
 -- a plan
-outcome_below : (us : List SyncUnit) (o : Outcome) → (outcome_output us o).code ≤ 2
-outcome_below us (outcome.Optimal plan b cert) = omega arith
-outcome_below us (outcome.NoPlan cert) = omega arith
-outcome_below us (outcome.Unproved best order tree why) = omega arith
-
 plan_said : (asked : Asked) (bytes : List ℕ) (answer : Result Answer Refusal) (w : Written) (cert : Option (List ℕ)) → IsPlanWritten asked bytes (written_of answer) cert → IsFor answer w → IsPlanWritten asked bytes w cert
-plan_said asked bytes (Ok a) w cert h is = subst (λ (x : Written). IsPlanWritten asked bytes x cert) (sym is) h
-plan_said asked bytes (Err r) w cert h (inl is) = subst (λ (x : Written). IsPlanWritten asked bytes x cert) (sym is) h
-plan_said asked bytes (Err r) w cert (inl h) (inr is) =
-    let code : refusal_code r ≡ (outcome_output h.units.units h.found).code = ap (λ (v : Written). v.code) h.text in
-    absurd (omega (arith, code, code_above r, outcome_below h.units.units h.found))
-plan_said asked bytes (Err r) w cert (inr h) (inr is) = inr (record { refusal = out_of_memory; fault = inr (inl refl); line = is; certificate = h.certificate })
+plan_said asked bytes answer w cert h is = subst (λ (x : Written). IsPlanWritten asked bytes x cert) (sym is) h
 
 plan_told : (left : Option (List ℕ)) (asked : Asked) (gets : Option (List ℕ) → Type 0) (answer : Result Answer Refusal) (w : Written) → IsFor answer w → IfSome left (AnswersPlan asked gets answer)
     → IfSome left (λ bytes. (cert : Option (List ℕ)) × IsPlanWritten asked bytes w cert × gets cert)

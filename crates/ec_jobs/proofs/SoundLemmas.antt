@@ -11,9 +11,9 @@ use Rattle.ec_units.specs.Views.{UnitsView, units_view, view_loads}
 use Rattle.ec_units.proofs.Viewed.{loads_of-views}
 use Rattle.ec_loads.specs.Search.{IsLeast, HasNoPlan}
 use Rattle.ec_cert.specs.declared.cert.Best.{Best}
-use Rattle.ec_cert.specs.declared.fault.CertFault.{CertFault}
-use Rattle.ec_cert.specs.declared.fault.CertFault.TheVariants as cert_fault
-use Rattle.ec_cert.specs.Reading.{reading as cert_reading}
+use Rattle.ec_cert_text.specs.declared.fault.CertFault.{CertFault}
+use Rattle.ec_cert_text.specs.declared.fault.CertFault.TheVariants as cert_fault
+use Rattle.ec_cert_text.specs.Reading.{reading as cert_reading}
 use Rattle.ec_cert.specs.Shapes.{CertView}
 use Rattle.ec_checker.specs.declared.fault.CheckFault.TheVariants as check_fault
 use Rattle.ec_checker.specs.Certified.{IsClaim, verdict_of}

@@ -10,9 +10,8 @@ use Rattle.ec_lines.specs.declared.refusal.Refusal.TheVariants as refusal
 use Rattle.ec_lines.specs.declared.job.Job.{Job}
 use Rattle.ec_lines.specs.declared.job.Job.TheVariants as job
 use Rattle.ec_answers.specs.Input.{ConsumesAtMost, AreUnits}
-use Rattle.ec_lines.specs.Output.{Written, IsOutput, IsNoMemory, refused, shown}
+use Rattle.ec_lines.specs.Output.{Written, IsOutput, IsNoMemory, refused, written_of}
 use Rattle.ec_answers.specs.Planned.{IsPlanWritten, GetsCertFront, Gets, GetsFront}
-use Rattle.ec_lines.specs.Refusals.{out_of_memory}
 use Rattle.ec_workers.specs.Answers.{Asked, asked_for}
 
 -- ---- a reader or writer over a call
@@ -85,14 +84,13 @@ pub record Tells {W : Type 0} (is : Written → Type 0) (text : Use W) (code : �
   pub front : WritesFront (before text) (after text) written.text
   pub failed : HasFailed text → code ≡ 4
 
--- an answer is written, or in place of a refusal the line that says that memory ran out
+-- an answer is written
 abbrev pub IsFor : Result Answer Refusal → Written → Type 0
-IsFor (Ok a) w = w ≡ shown a
-IsFor (Err r) w = (w ≡ refused r) ⊎ (w ≡ refused out_of_memory)
+IsFor answer w = w ≡ written_of answer
 
--- a refusal is written, or the line that says that memory ran out
+-- a refusal is written
 abbrev pub Refuses : Refusal → Written → Type 0
-Refuses r w = (w ≡ refused r) ⊎ (w ≡ refused out_of_memory)
+Refuses r w = w ≡ refused r
 
 -- at most this many bytes are read, of those that are told and of any; where a read fails, that is written
 pub record Reads {X : Type 0} (s : Use X) (most : ℕ) (w : Written) : Type 0 where

@@ -9,7 +9,7 @@ use Rattle.ec_loads.specs.Cost.{plan_items, IsBusiest}
 use Rattle.ec_loads.specs.Legal.{IsLegal}
 use Rattle.ec_loads.specs.Search.{BoundsAll, IsLeast, HasNoPlan}
 use Rattle.ec_cert.specs.Shapes.{CertView}
-use Rattle.ec_cert.specs.Text.{certificate_text}
+use Rattle.ec_cert_text.specs.Text.{certificate_text}
 use Rattle.ec_checker.specs.declared.fault.Verdict.{Verdict}
 use Rattle.ec_checker.specs.declared.fault.Verdict.TheVariants as verdict
 use Rattle.ec_workers.specs.Answers.{Asked}

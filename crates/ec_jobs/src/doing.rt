@@ -3,10 +3,9 @@
 ghost use Rattle.std.specs.Prelude.{◌≡◌, None, false};
 ghost use Rattle.ec_wire.specs.Stream.{has_failed};
 ghost use Rattle.ec_jobs.specs.Runs.{used, Tells, Reads, Costs, DoesAlone, DoesAway, DoesLine};
-ghost use Rattle.ec_lines.specs.Output.{refused};
 ghost use Rattle.ec_lines.specs.Words.{HasPath, JobFits};
 
-use crate::job::{Status, write_status};
+use crate::job::{Status, refuse};
 use crate::late::Late;
 use crate::plain::run_plain;
 use crate::running::run;
@@ -18,9 +17,6 @@ use std::rt::Files;
 use std::sync::Wait;
 use std::{fs, io};
 
-/// The line where a path can't be opened for reading.
-const NOT_OPENED: &[u8] = b"refused E3 Read\n";
-
 /// Tells the costs.
 fn cost_alone<R: Read, W: Write>(alloc: Global, units: &mut Io<R>, text: &mut Io<W>) -> Status
     requires units { has_failed units.old ≡ false }
@@ -30,14 +26,6 @@ fn cost_alone<R: Read, W: Write>(alloc: Global, units: &mut Io<R>, text: &mut Io
     let none: Option<&mut Io<io::Empty>> = None;
     let nowhere: Option<&mut Io<io::Sink>> = None;
     run_plain(alloc, &Job::Cost, units, none, text, nowhere)
-}
-
-/// Says that a path can't be opened for reading.
-fn not_opened<W: Write>(text: &mut Io<W>) -> Status
-    requires { has_failed text.old ≡ false }
-    ensures { Tells (λ w. w ≡ refused Refusal.Read) (used W.contents text.old text.new) result.code }
-{
-    write_status(text, NOT_OPENED, 4)
 }
 
 /// Checks the certificate at this path, which is opened before the units are read.
@@ -53,7 +41,7 @@ fn check_at<R: Read, W: Write, F: Files>(
     ensures { Tells (Reads (used R.remaining units.old units.new) 1048577) (used W.contents text.old text.new) result.code }
 {
     let Ok(file) = fs::open(files, path) else {
-        return not_opened(text);
+        return refuse(Refusal::Read, text);
     };
     let mut cert = Io::new(file);
     let nowhere: Option<&mut Io<io::Sink>> = None;

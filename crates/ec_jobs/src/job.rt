@@ -1,16 +1,16 @@
 //! A job: what is read, and what is written for it.
 
-ghost use Rattle.std.specs.Prelude.{◌≡◌, ◌≤◌, true, false, string_bytes, IfOk};
+ghost use Rattle.std.specs.Prelude.{◌≡◌, ◌≤◌, true, false};
 ghost use Rattle.std.specs.Io.KnownBytes.{Appends};
 ghost use Rattle.ec_wire.specs.Stream.{stream, has_failed, WritesFront};
 ghost use Rattle.ec_jobs.specs.Runs.{used, Tells, IsFor, Costs, Checks, Plans, PlansTo};
-ghost use Rattle.ec_lines.specs.Refusals.{refusal_line};
+ghost use Rattle.ec_lines.specs.Output.{refused};
 ghost use Rattle.ec_workers.specs.Answers.{asked_for};
 
 use ec_answers::{certified_answer, cost_answer, plan_answer, whole_answer};
-use ec_lines::{Answer, Refusal};
+use ec_lines::{Answer, Refusal, refusal_line};
 use ec_wire::{Io, WriteFault};
-use std::alloc::{AllocError, Global};
+use std::alloc::Global;
 use std::io::{Read, Write};
 use std::sync::Wait;
 
@@ -19,13 +19,6 @@ use std::sync::Wait;
 #[derive(Clone, Copy, Debug, PartialEq, Eq)]
 pub struct Status {
     pub code: u8,
-}
-
-/// The line that refuses.
-fn refusal_text(alloc: Global, refusal: Refusal) -> Result<String, AllocError>
-    ensures { IfOk result (λ line. string_bytes line ≡ refusal_line refusal) }
-{
-    format!(in alloc; "refused {refusal}\n")
 }
 
 /// Writes bytes whole; where that fails, the status is 4.
@@ -41,20 +34,23 @@ pub(crate) fn write_status<W: Write>(text: &mut Io<W>, bytes: &[u8], code: u8) -
     }
 }
 
-/// The line where memory ran out.
-pub(crate) const NO_MEMORY: &str = "refused U1 OutOfMemory\n";
+/// Writes the line that refuses whole, with its status; takes no memory.
+pub(crate) fn refuse<W: Write>(refusal: Refusal, text: &mut Io<W>) -> Status
+    requires { has_failed text.old ≡ false }
+    ensures { Tells (λ w. w ≡ refused refusal) (used W.contents text.old text.new) result.code }
+{
+    let line = refusal_line(refusal);
+    write_status(text, line.as_slice(), refusal.code())
+}
 
 /// Writes the text or the refusal whole, and says with which status the run ends.
-fn finish<W: Write>(alloc: Global, answer: Result<Answer, Refusal>, text: &mut Io<W>) -> Status
+fn finish<W: Write>(answer: Result<Answer, Refusal>, text: &mut Io<W>) -> Status
     requires { has_failed text.old ≡ false }
     ensures { Tells (IsFor answer) (used W.contents text.old text.new) result.code }
 {
     match answer {
         Ok(answer) => write_status(text, answer.text.as_bytes(), answer.code),
-        Err(refusal) => match refusal_text(alloc, refusal) {
-            Ok(line) => write_status(text, line.as_bytes(), refusal.code()),
-            Err(AllocError) => write_status(text, NO_MEMORY.as_bytes(), 4),
-        },
+        Err(refusal) => refuse(refusal, text),
     }
 }
 
@@ -65,7 +61,7 @@ pub fn run_cost<R: Read, W: Write>(alloc: Global, units: &mut Io<R>, text: &mut 
     ensures { Tells (Costs (used R.remaining units.old units.new)) (used W.contents text.old text.new) result.code }
 {
     let answer = cost_answer(alloc, units);
-    finish(alloc, answer, text)
+    finish(answer, text)
 }
 
 /// Reads the units and then the certificate, makes the whole answer, and then writes it.
@@ -81,7 +77,7 @@ pub fn run_check<R: Read, C: Read, W: Write>(
     ensures { Tells (Checks (used R.remaining units.old units.new) (used C.remaining cert.old cert.new)) (used W.contents text.old text.new) result.code }
 {
     let answer = whole_answer(alloc, units, cert);
-    finish(alloc, answer, text)
+    finish(answer, text)
 }
 
 /// Reads the units, searches for a plan whose busiest tick is least, and then writes the text of what was found.
@@ -100,7 +96,7 @@ pub fn run_plan<R: Read, W: Write, T: Wait>(
     ensures { Tells (Plans (asked_for workers nodes) (used R.remaining units.old units.new)) (used W.contents text.old text.new) result.code }
 {
     let answer = plan_answer(rt, alloc, workers, nodes, units);
-    finish(alloc, answer, text)
+    finish(answer, text)
 }
 
 /// Reads the units, searches for a plan whose busiest tick is least, writes the certificate, if there is one, to
@@ -122,5 +118,5 @@ pub fn run_plan_to<R: Read, W: Write, O: Write, T: Wait>(
     ensures { Tells (PlansTo (asked_for workers nodes) (used R.remaining units.old units.new) (used O.contents out.old out.new)) (used W.contents text.old text.new) result.code }
 {
     let answer = certified_answer(rt, alloc, workers, nodes, units, out);
-    finish(alloc, answer, text)
+    finish(answer, text)
 }

@@ -1,5 +1,7 @@
 //! A file that is made when it is first written.
 
+ghost use Rattle.core.specs.Option.{option_and_then};
+
 use std::io::Write;
 use std::rt::Files;
 use std::{fs, io};
@@ -24,6 +26,9 @@ impl<'a, F: Files> Late<'a, F> {
 }
 
 impl<'a, F: Files> Write for Late<'a, F> {
+    // what its file tells, once there is one
+    ghost contents = { λ late. option_and_then F.File.contents late.file };
+
     fn write(&mut self, bytes: &[u8]) -> io::Result<usize> {
         if bytes.is_empty() {
             return Ok(0);

@@ -6,7 +6,9 @@ ghost use Rattle.ec_jobs.specs.Runs.{used, Tells, usage};
 ghost use Rattle.ec_lines.specs.Output.{refused};
 ghost use Rattle.ec_lines.specs.Refusals.{out_of_memory};
 
-use crate::job::{NO_MEMORY, Status, write_status};
+use crate::job::{Status, refuse, write_status};
+use ec_lines::Refusal;
+use ec_unit_text::UnitFault;
 use ec_wire::Io;
 use std::io::Write;
 
@@ -23,5 +25,5 @@ pub fn refuse_memory<W: Write>(out: &mut Io<W>) -> Status
     requires { has_failed out.old ≡ false }
     ensures { Tells (λ w. w ≡ refused out_of_memory) (used W.contents out.old out.new) result.code }
 {
-    write_status(out, NO_MEMORY.as_bytes(), 4)
+    refuse(Refusal::Unit(UnitFault::OutOfMemory), out)
 }

@@ -13,7 +13,7 @@ use Rattle.ec_loads.specs.declared.item.Item.{Item}
 use Rattle.ec_loads.specs.declared.plan.Illegal.{Illegal}
 use Rattle.ec_loads.specs.Cost.{plan_items, tick_cost, IsFirstBusiest}
 use Rattle.ec_loads.specs.Legal.{IsLegal, IsIllegalBy}
-use Rattle.ec_cert.specs.Reading.{reading as cert_reading}
+use Rattle.ec_cert_text.specs.Reading.{reading as cert_reading}
 use Rattle.ec_cert.specs.Shapes.{CertView}
 use Rattle.ec_checker.specs.declared.fault.CheckFault.{CheckFault}
 use Rattle.ec_checker.specs.declared.fault.CheckFault.TheVariants as check

@@ -6,8 +6,8 @@ use Rattle.ec_unit_text.specs.declared.fault.UnitFault.TheVariants as fault
 use Rattle.ec_unit_text.specs.FaultText.{key_text, spot_text}
 use Rattle.ec_loads.specs.declared.plan.Illegal.{Illegal}
 use Rattle.ec_loads.specs.declared.plan.Illegal.TheVariants as illegal
-use Rattle.ec_cert.specs.declared.fault.CertFault.{CertFault}
-use Rattle.ec_cert.specs.declared.fault.CertFault.TheVariants as cert
+use Rattle.ec_cert_text.specs.declared.fault.CertFault.{CertFault}
+use Rattle.ec_cert_text.specs.declared.fault.CertFault.TheVariants as cert
 use Rattle.ec_checker.specs.declared.fault.CheckFault.{CheckFault}
 use Rattle.ec_checker.specs.declared.fault.CheckFault.TheVariants as check
 use Rattle.ec_workers.specs.declared.outcome.SolveFault.{SolveFault}

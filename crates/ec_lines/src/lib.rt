@@ -6,6 +6,7 @@ mod answer;
 mod cost;
 mod job;
 mod outcome;
+mod reason;
 mod refusal;
 mod verdict;
 
@@ -13,5 +14,6 @@ pub use answer::Answer;
 pub use cost::cost_of;
 pub use job::{Job, Line};
 pub use outcome::outcome_answer;
+pub use reason::refusal_line;
 pub use refusal::Refusal;
 pub use verdict::verdict_answer;

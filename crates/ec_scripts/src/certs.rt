@@ -3,7 +3,8 @@
 ghost use Rattle.std.specs.Prelude.{Some};
 
 use crate::call::Call;
-use ec_cert::{Cert, read_cert, well_formed, write_cert};
+use ec_cert::{Cert, well_formed};
+use ec_cert_text::{read_cert, write_cert};
 use ec_checker::check;
 use ec_units::Units;
 use ec_wire::Io;

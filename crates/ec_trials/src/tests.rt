@@ -1,6 +1,7 @@
 //! What no text can say: bytes that aren't text, certificates by hand, and lists that go in and out.
 
-use ec_cert::{Best, Cert, Order, Tree, UnitLine, UnitLines, one_text_each, well_formed};
+use ec_cert::{Best, Cert, Order, Tree, UnitLine, UnitLines, well_formed};
+use ec_cert_text::one_text_each;
 use ec_loads::{Places, Plan};
 use ec_unit_text::{UnitFault, read_units};
 use ec_units::{Name, Slaves, UnitList};

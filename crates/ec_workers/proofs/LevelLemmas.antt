@@ -7,7 +7,7 @@ use Rattle.ec_loads.specs.Line.{Line}
 use Rattle.ec_loads.specs.Shape.{Leaf, tick, full, average, Shape, Shapes, split, leaf, open_leaf, no_shapes, more, shape_count}
 use Rattle.ec_loads.specs.Search.{Prefix, children, LeafHolds, TreeWith, TreesWith, HasShortTick, HasShortTicks, HaveShortTicks}
 use Rattle.ec_symmetry.proofs.RuleLemmas.{children-count}
-use Rattle.ec_cert.specs.Text.{IsLeafLine, HasLevels, HaveLevels}
+use Rattle.ec_cert.specs.WellFormed.{IsLeafLine, HasLevels, HaveLevels}
 
 abbrev closed : Prefix → List ℕ → Type 0
 closed ps order = ⊥

@@ -19,7 +19,7 @@ use Rattle.ec_loads.proofs.ItemLemmas.{AreLoads-loads_of}
 use Rattle.ec_symmetry.specs.Orders.{IsOrder}
 use Rattle.ec_cert.specs.declared.cert.Best.{Best}
 use Rattle.ec_cert.specs.Shapes.{CertView}
-use Rattle.ec_cert.specs.Text.{IsUnitLine, IsPlaceLine, IsBestOrNone, IsWellFormed}
+use Rattle.ec_cert.specs.WellFormed.{IsUnitLine, IsPlaceLine, IsBestOrNone, IsWellFormed}
 use Rattle.ec_tree.specs.Trees.{TreesBound}
 use Rattle.ec_cert.specs.BestPlan.{value_of, IsBestPlan}
 use Rattle.ec_checker.specs.Certified.{line_of, lines_of, IsCertified, IsAnswer, verdict_of}

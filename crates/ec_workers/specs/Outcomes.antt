@@ -11,7 +11,7 @@ use Rattle.ec_loads.specs.Search.{BoundsAll, HasNoPlan, IsTree, HasShortTicks}
 use Rattle.ec_symmetry.specs.Orders.{IsOrder}
 use Rattle.ec_cert.specs.declared.cert.Best.{Best}
 use Rattle.ec_cert.specs.Shapes.{CertView}
-use Rattle.ec_cert.specs.Text.{IsWellFormed}
+use Rattle.ec_cert.specs.WellFormed.{IsWellFormed}
 use Rattle.ec_loads.specs.Shape.{Shape}
 use Rattle.ec_cert.specs.BestPlan.{value_of, IsBestPlan}
 use Rattle.ec_checker.specs.Certified.{lines_of, IsCertified, IsAnswer}

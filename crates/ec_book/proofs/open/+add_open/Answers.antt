@@ -1,10 +1,11 @@
-use Rattle.std.proofs.Common.{◌≡◌, refl, ◌+◌, ◌<◌, ◌++◌, ◌∷◌, [], length, vec_len, drop, get_or, arith, ap, ◌∙◌, sym}
+use Rattle.std.proofs.Common.{◌≡◌, rules, refl, ◌+◌, ◌<◌, ◌++◌, ◌∷◌, [], length, vec_len, drop, get_or, arith, ap, ◌∙◌, sym}
 use Rattle.ec_loads.specs.Line.{slots_alone, line_by}
 use Rattle.ec_cert.specs.Shapes.{shape_of}
 use Rattle.ec_symmetry.specs.Orders.{prefix_of}
 use Rattle.ec_book.specs.Open.{leaf_places, open_places}
 use Rattle.ec_book.proofs.DrawLemmas.{shape_of-OpenLeaf}
 use Rattle.ec_book.proofs.OpenLemmas.{opened_from, opened_all, opened_first, split_opened, child_opened, opened_end, no_kids, append_none, opened_step, path_back}
+use Rattle.ec_book.proofs.open.+add_open.Goals.{then-not-is_closed_leaf+in_ok-push-in-Split+in_ok-add_open-in-Split, else-not-is_closed_leaf}
 use Rattle.ec_book.proofs.open.+add_open.Goals as goal
 
 pub loop-i-init : goal.loop-i-init
@@ -53,24 +54,39 @@ loop-i-preserved t c =
     let q = c.args.path.now.items in
     let order = c.args.order.now in
     let loads = c.args.loads.now in
+    let line = line_by slots_alone loads.loads loads.slots in
     let u = c.from-unit.result in
     let long : c.len-in-Split.result ≡ length q = omega (arith, c.len-in-Split.ensures) in
     let short : length q < length order = omega (arith, c.if-len-order.false, c.len.ensures) in
     let at : u ≡ get_or order (length q) 0 = c.from-unit.ensures ∙ ap (λ w. get_or order w 0) long in
-    let whole = split_opened (line_by slots_alone loads.loads loads.slots) order c.args.tree.now c.in-Split.trees u q c.in-Split.is short at in
     let ts = c.in-Split.trees.items in
     let i = c.loop-i.i in
     let p = c.in-Some.place in
-    let longer : c.push.new.self.items ≡ q ++ p ∷ [] = c.in_ok-push-in-Split.ensures.items ∙ ap (λ w. w ++ p ∷ []) c.loop-i.invariant.path in
-    let child = child_opened (line_by slots_alone loads.loads loads.slots) order ts u q c.loop-i.places c.next.new.self p i c.index.result.now short at (omega (arith, c.loop-i-test.true, c.len-i-end.ensures)) c.index.ensures c.in-Some.ensures.steps in
-    let made = c.in_ok-add_open-in-Split.ensures.out ∙ ap (λ w. c.loop-i.out.items ++ open_places (line_by slots_alone loads.loads loads.slots) order (shape_of c.index.result.now) w) longer in
-    record {
-      path = path_back q c.add_open.new.path.items c.pop.new.self.items p (vec_len c.add_open.new.path) (c.in_ok-add_open-in-Split.ensures.path ∙ longer) (omega (arith, c.add_open.new.path.ok.0)) c.pop.ensures.rest;
-      out =
-          opened_step c.loop-i.out.items c.add_open.new.out.items (open_places (line_by slots_alone loads.loads loads.slots) order (shape_of c.index.result.now) (q ++ p ∷ []))
-          (opened_from (line_by slots_alone loads.loads loads.slots) order (drop (i + 1) ts) u q c.next.new.self) (opened_from (line_by slots_alone loads.loads loads.slots) order (drop i ts) u q c.loop-i.places)
-          (c.args.out.now.items ++ opened_all (line_by slots_alone loads.loads loads.slots) order ts u q) made child c.loop-i.invariant.out;
-    }
+    let rest = opened_from line order (drop (i + 1) ts) u q c.next.new.self in
+    let all = opened_from line order (drop i ts) u q c.loop-i.places in
+    let whole = c.args.out.now.items ++ opened_all line order ts u q in
+    let within : i < length ts = omega (arith, c.loop-i-test.true, c.len-i-end.ensures) in
+    elim c.if-not-is_closed_leaf.branch [
+      | then-not-is_closed_leaf+in_ok-push-in-Split+in_ok-add_open-in-Split w ↦
+          let longer : w.push.new.self.items ≡ q ++ p ∷ [] = w.in_ok-push-in-Split.ensures.items ∙ ap (λ v. v ++ p ∷ []) c.loop-i.invariant.path in
+          let x = w.index-then-not-is_closed_leaf.result.now in
+          let child = child_opened line order ts u q c.loop-i.places c.next.new.self p i x short at within w.index-then-not-is_closed_leaf.ensures c.in-Some.ensures.steps in
+          let made = w.in_ok-add_open-in-Split.ensures.out ∙ ap (λ v. c.loop-i.out.items ++ open_places line order (shape_of x) v) longer in
+          record {
+            path = (λ j. (w.path-is j).items) ∙ path_back q w.add_open.new.path.items w.pop.new.self.items p (vec_len w.add_open.new.path) (w.in_ok-add_open-in-Split.ensures.path ∙ longer) (omega (arith, w.add_open.new.path.ok.0)) w.pop.ensures.rest;
+            out = (λ j. (w.out-is j).items ++ rest) ∙ opened_step c.loop-i.out.items w.add_open.new.out.items (open_places line order (shape_of x) (q ++ p ∷ [])) rest all whole made child c.loop-i.invariant.out;
+          }
+      | else-not-is_closed_leaf w ↦
+          let x = c.index.result.now in
+          let closed = w.if-not-is_closed_leaf.ensures.0 (search rules) in
+          let child = child_opened line order ts u q c.loop-i.places c.next.new.self p i x short at within c.index.ensures c.in-Some.ensures.steps in
+          record {
+            path = (λ j. (w.path-is j).items) ∙ c.loop-i.invariant.path;
+            out =
+                (λ j. (w.out-is j).items ++ rest)
+                ∙ opened_step c.loop-i.out.items c.loop-i.out.items [] rest all whole (sym (append_none c.loop-i.out.items)) (child ∙ ap (λ s. open_places line order s (q ++ p ∷ []) ++ rest) closed.1) c.loop-i.invariant.out;
+          }
+    ]
 
 pub returns-in_ok-push-in-OpenLeaf-clause-out : goal.returns-in_ok-push-in-OpenLeaf-clause-out
 returns-in_ok-push-in-OpenLeaf-clause-out t c =

@@ -10,8 +10,9 @@ returns-clause-value c =
     let s = c.self.inside in
     let inv = c.self.invariant in
     let xs = items s.loads.items s.places.items in
-    rw (← c.self.view_is)
-    (total-is xs s.slots (length s.table.costs.items) s.table.counts.items s.table.cells.items s.table.costs.items s.table.raws.items s.table.total s.table.payload s.table.cost inv.table ∙ ap (sum_below (raw_cost xs s.slots)) (inv.ticks ∙ inv.whole))
+    let e =
+    total-is xs s.slots (length s.table.costs.items) s.table.counts.items s.table.cells.items s.table.costs.items s.table.raws.items s.table.total s.table.payload s.table.cost inv.table ∙ ap (sum_below (raw_cost xs s.slots)) (inv.ticks ∙ inv.whole) in
+    rw (← c.self.view_is) (omega (arith, e))
 
 pub returns-clause-bound : goal.returns-clause-bound
 returns-clause-bound c =

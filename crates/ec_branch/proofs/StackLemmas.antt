@@ -1,0 +1,450 @@
+-- A walk with a stack of its own: what each of its steps keeps.
+use Rattle.std.proofs.Common.{rules, ◌≡◌, ℕ, zero, suc, ◌+◌, ◌-◌, ◌*◌, ◌<◌, ◌≤◌, ◌++◌, Vec, Global, vec_capacity, ◌⊎◌, inl, inr, Bool, true, false, List, [], ◌∷◌, length, set, take, drop, reverse, replicate, Option, Some, None, refl, sym, ap, ◌∙◌, subst, arith, take_all, length-drop}
+use Rattle.std.proofs.lemmas.List.{append_assoc, append-nil, reverse-append, length-reverse, length-set}
+use Rattle.std.proofs.lemmas.Option.{slice_get_within}
+use Rattle.ec_units.specs.declared.slave.Place.{Place}
+use Rattle.ec_loads.specs.Held.{Held}
+use Rattle.ec_loads.specs.Line.{slots_alone, Line, line_of}
+use Rattle.ec_loads.specs.Search.{Prefix, children, IsAtMost}
+use Rattle.ec_loads.specs.Shape.{open_leaf}
+use Rattle.ec_bounds.specs.Left.{Left, IsRestOf}
+use Rattle.ec_bounds.proofs.HeldLemmas.{with_place, with_flag, restored, rest_follows}
+use Rattle.ec_cert.proofs.TreeLemmas.{shape_of-Split}
+use Rattle.ec_cert.specs.declared.tree.Tree.{Tree, Split, OpenLeaf, the_lemmas}
+use Rattle.ec_cert.specs.Shapes.{shape_of}
+use Rattle.ec_symmetry.specs.Reached.{In}
+use Rattle.ec_symmetry.proofs.InLemmas.{children-In}
+use Rattle.ec_branch.specs.declared.level.Level.{Level}
+use Rattle.ec_branch.specs.declared.level.Turn.{Turn}
+use Rattle.ec_branch.specs.declared.level.Turn.TheVariants.{Enter, Up}
+use Rattle.ec_branch.specs.Frames.{Frame}
+use Rattle.ec_branch.specs.Stacks.{State, IsExplored, IsUnderWay, IsOpened, Task, IsTop, IsStack, IsOn, IsPaused, IsWithin, IsBack, IsEnd, IsFor, efforts}
+use Rattle.ec_branch.specs.Walks.{IsReadyFor}
+use Rattle.ec_branch.proofs.WalkLemmas.{IsAtMost-trans, In-mid, fair_lesser, walking_more}
+use Rattle.ec_branch.proofs.KnownLemmas.{IsAtMost-same}
+
+pub shape_of-OpenLeaf : shape_of OpenLeaf ≡ open_leaf
+shape_of-OpenLeaf = search (rules, the_lemmas)
+
+-- a node that stays open
+pub open_explored : (line : Line) (floor : ℕ) (ps : Prefix) (order : List ℕ) (s : State) → (s.left ≡ 0) ⊎ (s.halted ≡ true) → IsExplored line floor ps order s s open_leaf
+open_explored line floor ps order s why = record {
+  walked = record {
+    holds = λ w low. tt;
+    short = tt;
+    lower = IsAtMost-same s.value;
+    fair = λ f. f;
+    count = omega arith;
+    cause = inr why;
+  };
+  follows = record {
+    falls = IsAtMost-same s.known;
+    least = λ h. h;
+    most = λ asked. elim asked [
+      | inl runs ↦ elim why [
+        | inl none ↦ absurd (omega (arith, runs.0, none))
+        | inr stopped ↦ absurd (let no : true ≡ false = sym stopped ∙ runs.1 in cc)
+      ]
+      | inr low ↦ low
+    ];
+  };
+  stays = λ k. k;
+}
+
+-- a split whose children have no trees yet
+pub under_first :
+    (line : Line) (floor : ℕ) (ps : Prefix) (u : ℕ) (order : List ℕ) (from : State) (first asked knows : Option ℕ) (left : ℕ) (halted : Bool) (ts : List Tree) →
+    left + 1 ≡ from.left → IsAtMost first from.value → IsAtMost first asked → (first ≡ from.value) ⊎ (first ≡ asked) → ((b : ℕ) → asked ≡ Some b → floor ≤ b) →
+    knows ≡ asked → IsAtMost asked from.known → (from.halted ≡ true → halted ≡ true) → ts ≡ [] →
+    IsUnderWay line floor ps u order [] from (record { value = first; left = left; halted = halted; known = knows }) ts
+under_first line floor ps u order from first asked knows left halted ts spent low under one high is falls stays none =
+    subst (IsUnderWay line floor ps u order [] from (record { value = first; left = left; halted = halted; known = knows })) (sym none)
+    (record {
+      first = first;
+      had = left;
+      spent = spent;
+      low = low;
+      keeps = fair_lesser floor line.loads line.slots from.value first asked one high;
+      walking = record {
+        holds = λ w k. tt;
+        short = tt;
+        lower = IsAtMost-same first;
+        fair = λ f. f;
+        count = omega arith;
+        cause = inl refl;
+      };
+      falls = subst (λ w. IsAtMost w from.known) (sym is) falls;
+      least = λ h. elim one [
+        | inl was ↦ subst (λ w. IsAtMost w first) (sym is) (subst (IsAtMost asked) (sym was) (IsAtMost-trans asked from.known from.value falls h))
+        | inr now ↦ subst (λ w. IsAtMost w first) (sym is) (subst (IsAtMost asked) (sym now) (IsAtMost-same asked))
+      ];
+      most = subst (IsAtMost first) (sym is) under;
+      stays = stays;
+    })
+
+-- one child more has its tree
+pub under_more :
+    (line : Line) (floor : ℕ) (ps : Prefix) (u : ℕ) (order : List ℕ) (done : List Place) (p : Place) (from now to : State) (ts : List Tree) (t : Tree) →
+    IsUnderWay line floor ps u order done from now ts → IsExplored line floor (set ps u (Some p)) order now to (shape_of t) →
+    IsUnderWay line floor ps u order (done ++ p ∷ []) from to (ts ++ t ∷ [])
+under_more line floor ps u order done p from now to ts t under step = record {
+  first = under.first;
+  had = under.had;
+  spent = under.spent;
+  low = under.low;
+  keeps = under.keeps;
+  walking = walking_more line floor ps u order done p under.first now.value to.value under.had now.left to.left now.halted to.halted ts t under.walking step.walked step.stays;
+  falls = IsAtMost-trans to.known now.known from.known step.follows.falls under.falls;
+  least = λ h. step.follows.least (under.least h);
+  most = step.follows.most (inr under.most);
+  stays = λ k. step.stays (under.stays k);
+}
+
+-- where no node is left, the other children stay open
+pub under_open :
+    (line : Line) (floor : ℕ) (ps : Prefix) (u : ℕ) (order : List ℕ) (done rest : List Place) (from now : State) (ts : List Tree) → now.left ≡ 0 →
+    IsUnderWay line floor ps u order done from now ts →
+    IsUnderWay line floor ps u order (done ++ rest) from now (ts ++ replicate (length rest) OpenLeaf)
+under_open line floor ps u order done [] from now ts none under =
+    subst (λ k. IsUnderWay line floor ps u order k from now (ts ++ [])) (sym (append-nil done))
+    (subst (λ k. IsUnderWay line floor ps u order done from now k) (sym (append-nil ts)) under)
+under_open line floor ps u order done (p ∷ rest) from now ts none under =
+    let open_one = subst (IsExplored line floor (set ps u (Some p)) order now now) (sym shape_of-OpenLeaf) (open_explored line floor (set ps u (Some p)) order now (inl none)) in
+    let one = under_more line floor ps u order done p from now now ts OpenLeaf under open_one in
+    let all = under_open line floor ps u order (done ++ p ∷ []) rest from now (ts ++ OpenLeaf ∷ []) none one in
+    subst (λ k. IsUnderWay line floor ps u order k from now (ts ++ OpenLeaf ∷ replicate (length rest) OpenLeaf)) (append_assoc done (p ∷ []) rest)
+    (subst (λ k. IsUnderWay line floor ps u order ((done ++ p ∷ []) ++ rest) from now k) (append_assoc ts (OpenLeaf ∷ []) (replicate (length rest) OpenLeaf)) all)
+
+-- all children have their trees
+pub under_all :
+    (line : Line) (floor : ℕ) (ps : Prefix) (u : ℕ) (order : List ℕ) (from now : State) (v : Vec Tree Global) →
+    IsUnderWay line floor ps u order (children line ps u) from now v.items → IsExplored line floor ps (u ∷ order) from now (shape_of (Split v))
+under_all line floor ps u order from now v under =
+    let all = under.walking in
+    subst (IsExplored line floor ps (u ∷ order) from now) (sym (shape_of-Split v))
+    (record {
+      walked = record {
+        holds = λ w low. all.holds w low;
+        short = all.short;
+        lower = IsAtMost-trans now.value under.first from.value all.lower under.low;
+        fair = λ f. all.fair (under.keeps f);
+        count = (let count = all.count in let spent = under.spent in omega arith);
+        cause = all.cause;
+      };
+      follows = record {
+        falls = under.falls;
+        least = under.least;
+        most = λ _. under.most;
+      };
+      stays = under.stays;
+    })
+
+-- a level more is the innermost
+pub reverse-push : (ls : List Level) (l : Level) → reverse (ls ++ l ∷ []) ≡ l ∷ reverse ls
+reverse-push ls l = reverse-append ls (l ∷ [])
+
+pub efforts-push : (ls : List Level) (l : Level) → efforts (ls ++ l ∷ []) ≡ efforts ls + (2 * length l.places + 1)
+efforts-push [] l = omega arith
+efforts-push (x ∷ ls) l = let rest = efforts-push ls l in omega arith
+
+drop-suc : (xs : List ℕ) (k u : ℕ) (later : List ℕ) → drop k xs ≡ u ∷ later → drop (suc k) xs ≡ later
+drop-suc [] zero u later h = absurd (cc)
+drop-suc [] (suc k) u later h = absurd (cc)
+drop-suc (x ∷ xs) zero u later h = cc
+drop-suc (x ∷ xs) (suc k) u later h = drop-suc xs k u later h
+
+-- as many units have a place as there are levels
+pub stack_later : (task : Task) (ls : List Level) (ps : Prefix) (later : List ℕ) (now : State) → IsStack task ls ps later now → (length ls + length later ≡ length task.order) × (drop (length ls) task.order ≡ later)
+stack_later task [] ps later now (at, is, same) = (let e = ap length is in omega (arith, e), sym is)
+stack_later task (l ∷ ls) ps later now (before, from, top, stack) =
+    let deep = stack_later task ls before (l.unit ∷ later) from stack in
+    let count = deep.0 in
+    (omega (arith, count), drop-suc task.order (length ls) l.unit later deep.1)
+
+-- the units that a walk goes on with
+pub on_later : (task : Task) (ls : Vec Level Global) (held : Held) (left : Left) (now : State) (turn : Turn) (order : List ℕ) (k : ℕ) → (on : IsOn task ls held left now turn) → order ≡ task.order → k ≡ length ls.items
+    → (k ≤ length order) × (take (length order - k) (drop k order) ≡ on.later)
+on_later task ls held left now turn order k on same is =
+    let at = stack_later task (reverse ls.items) held.places on.later on.from on.stack in
+    let long = length-reverse ls.items in
+    let count = at.0 in
+    let all = ap length same in
+    (omega (arith, count, long, all, is), take_all (length order - k) (drop k order) (omega (arith, length-drop k order)) ∙ (λ j. drop ((is ∙ sym long) j) (same j)) ∙ at.1)
+
+line_loads : (held : Held) (line : Line) → line_of slots_alone held ≡ line → held.loads ≡ line.loads
+line_loads held line e = ap (λ (l : Line). l.loads) e
+
+line_slots : (held : Held) (line : Line) → line_of slots_alone held ≡ line → held.slots ≡ line.slots
+line_slots held line e = ap (λ (l : Line). l.slots) e
+
+-- one unit more or less has a place
+pub line_after : (held placed : Held) (u : ℕ) (o : Option Place) (line : Line) → line_of slots_alone held ≡ line → placed ≡ with_place held u o → line_of slots_alone placed ≡ line
+line_after held placed u o line e made = ap (λ (h : Held). line_of slots_alone h) made ∙ e
+
+-- a walk that is ready at a node
+pub on_ready : (task : Task) (ls : Vec Level Global) (held : Held) (left : Left) (now : State) (turn : Turn) (order : List ℕ) → (on : IsOn task ls held left now turn) → order ≡ on.later → IsReadyFor held.loads held.slots held.places order
+on_ready task ls held left now turn order on same =
+    subst (λ o. IsReadyFor held.loads held.slots held.places o) (sym same)
+    (subst (λ n. IsReadyFor held.loads n held.places on.later) (sym (line_slots held task.line on.line))
+    (subst (λ l. IsReadyFor l task.line.slots held.places on.later) (sym (line_loads held task.line on.line)) on.ready))
+
+pub for_loads : (task : Task) (ls : Vec Level Global) (held : Held) (left : Left) (now : State) (turn : Turn) (order : List ℕ) (frame : Frame) → IsOn task ls held left now turn → IsFor task order frame → frame.loads ≡ held.loads
+for_loads task ls held left now turn order frame on is = is.loads ∙ sym (line_loads held task.line on.line)
+
+pub for_slots : (task : Task) (ls : Vec Level Global) (held : Held) (left : Left) (now : State) (turn : Turn) (order : List ℕ) (frame : Frame) → IsOn task ls held left now turn → IsFor task order frame → frame.slots ≡ held.slots
+for_slots task ls held left now turn order frame on is = is.slots ∙ sym (line_slots held task.line on.line)
+
+-- a node is closed, or stays open
+pub on_leaf :
+    (task : Task) (ls : Vec Level Global) (held : Held) (left : Left) (old now : State) (order : List ℕ) (floor : ℕ) (tree : Tree) →
+    (on : IsOn task ls held left old Enter) → order ≡ on.later → floor ≡ task.floor →
+    IsExplored (line_of slots_alone held) floor held.places order old now (shape_of tree) → IsOn task ls held left now (Up tree)
+on_leaf task ls held left old now order floor tree on same floor_is explored = record {
+  line = on.line;
+  rest = on.rest;
+  later = on.later;
+  ready = on.ready;
+  room = on.room;
+  from = on.from;
+  stack = on.stack;
+  entered =
+      subst (λ s. IsExplored task.line task.floor held.places on.later s now (shape_of tree)) on.entered
+      (subst (λ o. IsExplored task.line task.floor held.places o old now (shape_of tree)) same
+      (subst (λ f. IsExplored task.line f held.places order old now (shape_of tree)) floor_is
+      (subst (λ l. IsExplored l floor held.places order old now (shape_of tree)) on.line explored)));
+}
+
+-- a node is split
+pub on_split :
+    (task : Task) (ls : Vec Level Global) (held : Held) (left : Left) (old now : State) (order : List ℕ) (floor : ℕ) (level : Level) →
+    (on : IsOn task ls held left old Enter) → order ≡ on.later → floor ≡ task.floor →
+    IsOpened (line_of slots_alone held) floor held.places order old now level → IsPaused task ls held left now level
+on_split task ls held left old now order floor level on same floor_is opened =
+    let next : on.later ≡ level.unit ∷ opened.later = sym same ∙ opened.next in
+    let long = ap length next in
+    let none = ap length opened.none in record {
+      line = on.line;
+      rest = on.rest;
+      later = opened.later;
+      ready = subst (IsReadyFor task.line.loads task.line.slots held.places) next on.ready;
+      room = (let room = on.room in omega (arith, long, room));
+      from = on.from;
+      stack = subst (λ o. IsStack task (reverse ls.items) held.places o on.from) next on.stack;
+      done = [];
+      kids = opened.places ∙ ap (λ l. children l held.places level.unit) on.line;
+      under =
+          subst (λ s. IsUnderWay task.line task.floor held.places level.unit opened.later [] s now level.trees.items) on.entered
+          (subst (λ f. IsUnderWay task.line f held.places level.unit opened.later [] old now level.trees.items) floor_is
+          (subst (λ l. IsUnderWay l floor held.places level.unit opened.later [] old now level.trees.items) on.line opened.under));
+      trees = (let room = opened.room in omega (arith, none, room));
+    }
+
+-- no child is left to be explored
+pub paused_up :
+    (task : Task) (ls : Vec Level Global) (held : Held) (left : Left) (now : State) (level : Level) (v : Vec Tree Global) →
+    (paused : IsPaused task ls held left now level) →
+    IsUnderWay task.line task.floor held.places level.unit paused.later (children task.line held.places level.unit) paused.from now v.items →
+    IsOn task ls held left now (Up (Split v))
+paused_up task ls held left now level v paused under = record {
+  line = paused.line;
+  rest = paused.rest;
+  later = level.unit ∷ paused.later;
+  ready = paused.ready;
+  room = paused.room;
+  from = paused.from;
+  stack = paused.stack;
+  entered = under_all task.line task.floor held.places level.unit paused.later paused.from now v under;
+}
+
+pub paused_none :
+    (task : Task) (ls : Vec Level Global) (held : Held) (left : Left) (now : State) (level : Level) →
+    IsPaused task ls held left now level → level.places ≡ [] → IsOn task ls held left now (Up (Split level.trees))
+paused_none task ls held left now level paused none =
+    let all : paused.done ≡ children task.line held.places level.unit = sym (append-nil paused.done) ∙ ap (λ w. paused.done ++ w) (sym none) ∙ paused.kids in
+    paused_up task ls held left now level level.trees paused
+    (subst (λ k. IsUnderWay task.line task.floor held.places level.unit paused.later k paused.from now level.trees.items) all paused.under)
+
+pub paused_open :
+    (task : Task) (ls : Vec Level Global) (held : Held) (left : Left) (now : State) (level : Level) (v : Vec Tree Global) →
+    IsPaused task ls held left now level → now.left ≡ 0 → v.items ≡ level.trees.items ++ replicate (length level.places) OpenLeaf →
+    IsOn task ls held left now (Up (Split v))
+paused_open task ls held left now level v paused none made =
+    let under = under_open task.line task.floor held.places level.unit paused.later paused.done level.places paused.from now level.trees.items none paused.under in
+    paused_up task ls held left now level v paused
+    (subst (λ ts. IsUnderWay task.line task.floor held.places level.unit paused.later (children task.line held.places level.unit) paused.from now ts) (sym made)
+    (subst (λ k. IsUnderWay task.line task.floor held.places level.unit paused.later k paused.from now (level.trees.items ++ replicate (length level.places) OpenLeaf)) paused.kids under))
+
+length-last : (xs : List Level) (x : Level) → length (xs ++ x ∷ []) ≡ length xs + 1
+length-last [] x = refl
+length-last (y ∷ xs) x = let rest = length-last xs x in omega (arith, rest)
+
+-- the next child gets its place
+pub paused_next :
+    (task : Task) (ls ls2 : Vec Level Global) (held held2 : Held) (left left2 : Left) (now : State) (level : Level) (p : Place) (places : List Place) →
+    IsPaused task ls held left now level → level.places ≡ p ∷ places →
+    ls2.items ≡ ls.items ++ record { unit = level.unit; places = places; trees = level.trees } ∷ [] → vec_capacity ls2 ≡ vec_capacity ls →
+    held2 ≡ with_place held level.unit (Some p) → left2 ≡ with_flag left level.unit false →
+    IsOn task ls2 held2 left2 now Enter
+paused_next task ls ls2 held held2 left left2 now level p places paused steps pushed same made flagged =
+    let u = level.unit in
+    let level2 : Level = record { unit = level.unit; places = places; trees = level.trees } in
+    let kids : paused.done ++ p ∷ places ≡ children task.line held.places u = ap (λ w. paused.done ++ w) (sym steps) ∙ paused.kids in
+    let range = children-In task.line held.places u p (subst (In p) kids (In-mid paused.done p places)) in
+    let at : held2.places ≡ set held.places u (Some p) = ap (λ (h : Held). h.places) made in
+    let long = ap length pushed ∙ length-last ls.items level2 in
+    let fewer = ap length steps in
+    let room = paused.room in
+    let trees = paused.trees in
+    let top : IsTop task level2 held.places paused.from held2.places paused.later now = record {
+      place = p;
+      done = paused.done;
+      kids = kids;
+      ready = paused.ready;
+      made = at;
+      under = paused.under;
+      room = omega (arith, trees, fewer);
+    } in
+    record {
+      line = line_after held held2 u (Some p) task.line paused.line made;
+      rest = rest_follows held held2 left left2 u (Some p) paused.rest made flagged;
+      later = paused.later;
+      ready = subst (λ q. IsReadyFor task.line.loads task.line.slots q paused.later) (sym at) (paused.ready.1 p range.0 range.2);
+      room = omega (arith, long, room, same);
+      from = now;
+      stack = subst (λ w. IsStack task w held2.places paused.later now) (sym (ap reverse pushed ∙ reverse-push ls.items level2)) (held.places, paused.from, top, paused.stack);
+      entered = refl;
+    }
+
+-- the place of the innermost level is taken back
+pub taken_back :
+    (task : Task) (ls : List Level) (level : Level) (held held2 : Held) (left left2 : Left) (later : List ℕ) (from : State) →
+    line_of slots_alone held ≡ task.line → IsRestOf left held → (stack : IsStack task (level ∷ ls) held.places later from) →
+    held2 ≡ with_place held level.unit None → left2 ≡ with_flag left level.unit true →
+    (line_of slots_alone held2 ≡ task.line) × IsRestOf left2 held2 × (held2.places ≡ stack.0)
+taken_back task ls level held held2 left left2 later from line rest (before, entered, top, stack) made flagged =
+    let u = level.unit in
+    let under : Held = record { loads = held.loads; slots = held.slots; places = before } in
+    let was : held ≡ with_place under u (Some top.place) = λ j. record { loads = held.loads; slots = held.slots; places = top.made j } in
+    let back : held2 ≡ under = restored under held held held2 u top.place was refl made top.ready.0 in (
+      line_after held held2 u None task.line line made,
+      rest_follows held held2 left left2 u None rest made flagged,
+      ap (λ (h : Held). h.places) back,
+    )
+
+-- the unit of the innermost level is one of them
+pub top_within : (task : Task) (ls : List Level) (level : Level) (held : Held) (later : List ℕ) (from : State) → IsStack task (level ∷ ls) held.places later from → level.unit < length held.places
+top_within task ls level held later from (before, entered, top, stack) =
+    let inside = slice_get_within before level.unit None top.ready.0 in
+    subst (λ ps. level.unit < length ps) (sym top.made) (rw (length-set before level.unit (Some top.place)) inside)
+
+-- the tree of a child is there
+pub on_rise :
+    (task : Task) (ls ls2 : Vec Level Global) (held held2 : Held) (left left2 : Left) (now : State) (tree : Tree) (level : Level) (v : Vec Tree Global) →
+    IsOn task ls held left now (Up tree) → ls.items ≡ ls2.items ++ level ∷ [] → vec_capacity ls2 ≡ vec_capacity ls →
+    held2 ≡ with_place held level.unit None → left2 ≡ with_flag left level.unit true →
+    v.items ≡ level.trees.items ++ tree ∷ [] → vec_capacity v ≡ vec_capacity level.trees →
+    IsPaused task ls2 held2 left2 now (record { unit = level.unit; places = level.places; trees = v })
+on_rise task ls ls2 held held2 left left2 now tree level v on popped same made flagged trees_are room_is =
+    let u = level.unit in
+    let stack : IsStack task (level ∷ reverse ls2.items) held.places on.later on.from = subst (λ w. IsStack task w held.places on.later on.from) (ap reverse popped ∙ reverse-push ls2.items level) on.stack in
+    let back = taken_back task (reverse ls2.items) level held held2 left left2 on.later on.from on.line on.rest stack made flagged in
+    let before = stack.0 in
+    let top = stack.2 in
+    let explored = subst (λ ps. IsExplored task.line task.floor ps on.later on.from now (shape_of tree)) top.made on.entered in
+    let under = under_more task.line task.floor before u on.later top.done top.place stack.1 on.from now level.trees.items tree top.under explored in
+    let long = ap length popped ∙ length-last ls2.items level in
+    let more = ap length trees_are ∙ length-tree level.trees.items tree in
+    let room = on.room in
+    let trees = top.room in
+    record {
+      line = back.0;
+      rest = back.1;
+      later = on.later;
+      ready = subst (λ ps. IsReadyFor task.line.loads task.line.slots ps (u ∷ on.later)) (sym back.2) top.ready;
+      room = omega (arith, long, room, same);
+      from = stack.1;
+      stack = subst (λ ps. IsStack task (reverse ls2.items) ps (u ∷ on.later) stack.1) (sym back.2) stack.3;
+      done = top.done ++ top.place ∷ [];
+      kids = append_assoc top.done (top.place ∷ []) level.places ∙ top.kids ∙ ap (λ ps. children task.line ps u) (sym back.2);
+      under =
+          subst (λ ps. IsUnderWay task.line task.floor ps u on.later (top.done ++ top.place ∷ []) stack.1 now v.items) (sym back.2)
+          (subst (IsUnderWay task.line task.floor before u on.later (top.done ++ top.place ∷ []) stack.1 now) (sym trees_are) under);
+      trees = omega (arith, more, trees, room_is);
+    }
+  where
+    length-tree : (xs : List Tree) (x : Tree) → length (xs ++ x ∷ []) ≡ length xs + 1
+    length-tree [] x = refl
+    length-tree (y ∷ xs) x = let rest = length-tree xs x in omega (arith, rest)
+
+-- the walk is over
+pub on_end : (task : Task) (ls : Vec Level Global) (held : Held) (left : Left) (now : State) (tree : Tree) → IsOn task ls held left now (Up tree) → ls.items ≡ [] → IsEnd task held left now tree
+on_end task ls held left now tree on none =
+    let at = subst (λ w. IsStack task (reverse w) held.places on.later on.from) none on.stack in record {
+      back = record { line = on.line; rest = on.rest; places = at.0 };
+      explored =
+          subst (λ s. IsExplored task.line task.floor task.places task.order s now (shape_of tree)) at.2
+          (subst (λ o. IsExplored task.line task.floor task.places o on.from now (shape_of tree)) at.1
+          (subst (λ ps. IsExplored task.line task.floor ps on.later on.from now (shape_of tree)) at.0 on.entered));
+    }
+
+pub no_levels : (ls : List Level) → length ls ≡ 0 → ls ≡ []
+no_levels [] h = refl
+no_levels (l ∷ ls) h = absurd (omega arith)
+
+-- where memory is refused
+pub on_within : (task : Task) (ls : Vec Level Global) (held : Held) (left : Left) (now : State) (turn : Turn) → IsOn task ls held left now turn → IsWithin task (reverse ls.items) held left
+on_within task ls held left now turn on = record { line = on.line; rest = on.rest; later = on.later; from = on.from; stack = on.stack }
+
+pub within_less :
+    (task : Task) (ls ls2 : List Level) (level : Level) (held held2 : Held) (left left2 : Left) → IsWithin task (reverse ls) held left → ls ≡ ls2 ++ level ∷ [] →
+    held2 ≡ with_place held level.unit None → left2 ≡ with_flag left level.unit true → IsWithin task (reverse ls2) held2 left2
+within_less task ls ls2 level held held2 left left2 at popped made flagged =
+    let stack = subst (λ w. IsStack task w held.places at.later at.from) (ap reverse popped ∙ reverse-push ls2 level) at.stack in
+    let back = taken_back task (reverse ls2) level held held2 left left2 at.later at.from at.line at.rest stack made flagged in record {
+      line = back.0;
+      rest = back.1;
+      later = level.unit ∷ at.later;
+      from = stack.1;
+      stack = subst (λ ps. IsStack task (reverse ls2) ps (level.unit ∷ at.later) stack.1) (sym back.2) stack.3;
+    }
+
+pub within_unit : (task : Task) (ls ls2 : List Level) (level : Level) (held : Held) (left : Left) → IsWithin task (reverse ls) held left → ls ≡ ls2 ++ level ∷ [] → level.unit < length held.places
+within_unit task ls ls2 level held left at popped =
+    top_within task (reverse ls2) level held at.later at.from (subst (λ w. IsStack task w held.places at.later at.from) (ap reverse popped ∙ reverse-push ls2 level) at.stack)
+
+pub within_end : (task : Task) (ls : List Level) (held : Held) (left : Left) → IsWithin task (reverse ls) held left → ls ≡ [] → IsBack task held left
+within_end task ls held left at none =
+    let stack = subst (λ w. IsStack task (reverse w) held.places at.later at.from) none at.stack in
+    record { line = at.line; rest = at.rest; places = stack.0 }
+
+-- all is as it was
+pub held_same : (a b : Held) → line_of slots_alone a ≡ line_of slots_alone b → a.places ≡ b.places → a ≡ b
+held_same a b line places = λ j. record { loads = (ap (λ (l : Line). l.loads) line) j; slots = (ap (λ (l : Line). l.slots) line) j; places = places j }
+
+-- the walk over all that the loads leave
+abbrev pub walk_task : Held → List ℕ → Frame → State → Task
+walk_task held order frame first = record { line = line_of slots_alone held; floor = frame.floor; places = held.places; order = order; first = first }
+
+pub for_walk : (held : Held) (order : List ℕ) (first now : Frame) (s : State) → now ≡ first → first.loads ≡ held.loads → first.slots ≡ held.slots → IsFor (walk_task held order first s) order now
+for_walk held order first now s same loads slots = record {
+  units = refl;
+  loads = ap (λ (f : Frame). f.loads) same ∙ loads;
+  slots = ap (λ (f : Frame). f.slots) same ∙ slots;
+  floor = ap (λ (f : Frame). f.floor) same;
+}
+
+-- the walk begins
+pub on_start :
+    (held : Held) (left : Left) (order : List ℕ) (frame : Frame) (s : State) (ls : Vec Level Global) →
+    IsRestOf left held → IsReadyFor held.loads held.slots held.places order → ls.items ≡ [] → length order ≤ vec_capacity ls → IsOn (walk_task held order frame s) ls held left s Enter
+on_start held left order frame s ls rest ready none room =
+    let long = ap length none in record {
+      line = refl;
+      rest = rest;
+      later = order;
+      ready = ready;
+      room = omega (arith, long, room);
+      from = s;
+      stack = subst (λ w. IsStack (walk_task held order frame s) (reverse w) held.places order s) (sym none) (refl, refl, refl);
+      entered = refl;
+    }

@@ -1,0 +1,27 @@
+use Rattle.std.proofs.Common.{◌<◌, sym, subst, arith}
+use Rattle.ec_bounds.proofs.HeldLemmas.{flags_count}
+use Rattle.ec_branch.proofs.StackLemmas.{no_levels, within_less, within_unit, within_end}
+use Rattle.ec_branch.proofs.walk.undo.Goals as goal
+
+pub remove-requires : goal.remove-requires
+remove-requires c =
+    let at = c.loop-level.invariant c.requires.0 c.requires.1 in
+    within_unit c.requires.0 c.loop-level.levels.items c.pop.new.self.items c.in-Some.level c.loop-level.loads c.loop-level.rest at c.in-Some.ensures.items
+
+pub unplaced-requires : goal.unplaced-requires
+unplaced-requires c =
+    let at = c.loop-level.invariant c.requires.0 c.requires.1 in
+    subst (λ w. c.in-Some.level.unit < w) (sym (flags_count c.loop-level.loads c.loop-level.rest at.rest))
+    (within_unit c.requires.0 c.loop-level.levels.items c.pop.new.self.items c.in-Some.level c.loop-level.loads c.loop-level.rest at c.in-Some.ensures.items)
+
+pub loop-level-preserved : goal.loop-level-preserved
+loop-level-preserved c =
+    λ task first.
+    within_less task c.loop-level.levels.items c.pop.new.self.items c.in-Some.level c.loop-level.loads c.remove.new.self c.loop-level.rest c.unplaced.new.self
+    (c.loop-level.invariant task first) c.in-Some.ensures.items c.remove.ensures c.unplaced.ensures
+
+pub returns : goal.returns
+returns c =
+    λ task first.
+    within_end task c.loop-level.levels.items c.loop-level.loads c.loop-level.rest (c.loop-level.invariant task first)
+    (no_levels c.loop-level.levels.items (omega (arith, c.loop-level.levels.ok.0, c.in_default.ensures.cases.0)))

@@ -1,0 +1,81 @@
+//! A node: closed, told to the guide, or split.
+
+ghost use Rattle.std.specs.Prelude.{◌≡◌, IfOk, true};
+ghost use Rattle.ec_loads.specs.Line.{slots_alone, line_of};
+ghost use Rattle.ec_bounds.specs.Left.{IsRestOf};
+ghost use Rattle.ec_branch.specs.Frames.{Frame};
+ghost use Rattle.ec_branch.specs.Stacks.{IsEntered, state_of};
+ghost use Rattle.ec_branch.specs.Walks.{IsReadyFor};
+
+use crate::guide::Guide;
+use crate::leaf::{leaf_of, top_of};
+use crate::level::Level;
+use crate::plan::whole;
+use crate::value::{Search, lesser};
+use ec_bounds::Rest;
+use ec_cert::Tree;
+use ec_loads::Loads;
+use ec_symmetry::children_of;
+use std::alloc::{AllocError, Global};
+
+/// What became of a node.
+#[derive(Drop)]
+pub(crate) enum Entered {
+    /// It is this leaf.
+    Leaf(Tree),
+    /// It is split; no child has a tree yet.
+    Split(Level),
+}
+
+/// Asks the guide and closes the node at the places so far, or tells the guide of the plan that they make, or splits
+/// the node by the next unit. The node stays open where no node is left or the guide stops.
+pub(crate) fn enter<G: Guide>(
+    alloc: Global,
+    loads: &Loads,
+    rest: &Rest,
+    order: &[u8],
+    guide: &mut G,
+    search: &mut Search,
+) -> Result<Entered, AllocError>
+    requires ready { IsReadyFor loads.now.loads loads.now.slots loads.now.places order.now }
+    requires left { IsRestOf rest.now loads.now }
+    requires units { (G.frame guide.old).loads ≡ loads.now.loads }
+    requires slots { (G.frame guide.old).slots ≡ loads.now.slots }
+    ensures frame { G.frame guide.new ≡ G.frame guide.old }
+    ensures stays { G.halted guide.old ≡ true → G.halted guide.new ≡ true }
+    ensures entered { IfOk result (λ node. IsEntered (line_of slots_alone loads.now) (G.frame guide.old).floor loads.now.places order.now (state_of search.old (G.halted guide.old) (G.known guide.old)) (state_of search.new (G.halted guide.new) (G.known guide.new)) node) }
+{
+    if search.left == 0 || guide.stopped() {
+        return Ok(Entered::Leaf(Tree::OpenLeaf));
+    }
+    search.value = lesser(search.value, guide.bound());
+    if let Some(leaf) = leaf_of(loads, rest, search.value) {
+        search.left -= 1;
+        return Ok(Entered::Leaf(leaf));
+    }
+    match order.split_first() {
+        None => {
+            let plan = whole(alloc, loads)?;
+            let (cost, tick) = top_of(loads);
+            match guide.found(&plan, cost) {
+                None => Ok(Entered::Leaf(Tree::OpenLeaf)),
+                Some(value) => {
+                    search.value = Some(value);
+                    search.left -= 1;
+                    Ok(Entered::Leaf(Tree::TickLeaf(tick)))
+                }
+            }
+        }
+        Some((unit, _)) => {
+            let unit = usize::from(*unit);
+            search.left -= 1;
+            let places = children_of(loads, unit);
+            let trees = Vec::with_capacity(alloc, places.len())?;
+            Ok(Entered::Split(Level {
+                unit,
+                places,
+                trees,
+            }))
+        }
+    }
+}

@@ -1,0 +1,15 @@
+pub mod ByteLaws
+pub mod CloserLemmas
+pub mod FrontLaws
+pub mod FrontLemmas
+pub mod HeadLaws
+pub mod LineLemmas
+pub mod ManyLaws
+pub mod ManyLemmas
+pub mod NameLemmas
+pub mod NodeLaws
+pub mod NumberLemmas
+pub mod PartLaws
+pub mod TextLaws
+pub mod WordLaws
+pub mod WriteLemmas

@@ -1,0 +1,17 @@
+use Rattle.std.proofs.Common.{◌≡◌, List, ℕ, [], ap, subst, rules, ◌∙◌}
+use Rattle.std.specs.Io.KnownBytes.{Appends}
+use Rattle.ec_wire.specs.Stream.{stream}
+use Rattle.ec_cert_text.proofs.WriteLemmas.{on_ok, direct_all, direct_front}
+use Rattle.ec_cert_text.proofs.buffer.Waiting.write.Goals as goal
+
+pub returns-clause-all : goal.returns-clause-all
+returns-clause-all g c =
+    let first : c.try_extend_from_slice.new.self ≡ c.args.self.now.bytes = search rules in
+    let second : c.try_extend_from_slice-2.new.self ≡ c.flush.new.self.bytes = search rules in
+    let none : c.try_extend_from_slice-2.new.self.items ≡ [] = ap (λ v. v.items) second ∙ c.in_ok-flush.ensures.empty in
+    on_ok c.write_whole.result _ _ (λ q. direct_all _ _ _ _ _ none (subst (λ v. Appends (g.W.Write.contents (stream c.args.io.now)) (g.W.Write.contents (stream c.flush.new.io)) v.items) first c.in_ok-flush.ensures.all) q) c.write_whole.ensures.all
+
+pub returns-clause-front : goal.returns-clause-front
+returns-clause-front g c =
+    let first : c.try_extend_from_slice.new.self ≡ c.args.self.now.bytes = search rules in
+    direct_front _ _ _ _ _ (subst (λ v. Appends (g.W.Write.contents (stream c.args.io.now)) (g.W.Write.contents (stream c.flush.new.io)) v.items) first c.in_ok-flush.ensures.all) c.write_whole.ensures.front

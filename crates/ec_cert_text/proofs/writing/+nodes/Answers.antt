@@ -1,0 +1,41 @@
+use Rattle.std.proofs.Common.{◌≡◌, length, rules}
+use Rattle.ec_cert_text.specs.Text.{split_line}
+use Rattle.ec_cert_text.proofs.WriteLemmas.{on_ok, front_all, split_front, split_then, split_all, children_none, children_more, children_front, children_all}
+use Rattle.ec_cert_text.proofs.writing.+nodes.Goals as goal
+
+pub write_node-returns-in_err-write-in-Split-clause-front : goal.write_node-returns-in_err-write-in-Split-clause-front
+write_node-returns-in_err-write-in-Split-clause-front g t c =
+    let line : c.as_slice.result.now ≡ split_line (length c.in-Split.trees.items) = search rules in
+    split_front _ c.in-Split.trees _ c.in-Split.is line c.write.ensures.front
+
+pub write_node-returns-in_ok-write-in-Split-clause-all : goal.write_node-returns-in_ok-write-in-Split-clause-all
+write_node-returns-in_ok-write-in-Split-clause-all g t c =
+    let line : c.as_slice.result.now ≡ split_line (length c.in-Split.trees.items) = search rules in
+    on_ok c.write_nodes.result _ _ (split_all _ c.in-Split.trees _ c.in-Split.is line c.in_ok-write-in-Split.ensures.all) c.write_nodes.ensures.all
+
+pub write_node-returns-in_ok-write-in-Split-clause-front : goal.write_node-returns-in_ok-write-in-Split-clause-front
+write_node-returns-in_ok-write-in-Split-clause-front g t c =
+    let line : c.as_slice.result.now ≡ split_line (length c.in-Split.trees.items) = search rules in
+    split_then _ c.in-Split.trees _ c.in-Split.is line c.in_ok-write-in-Split.ensures.all c.write_nodes.ensures.front
+
+pub write_nodes-children-init : goal.write_nodes-children-init
+write_nodes-children-init g t c = record {
+  text = children_none c.deref-tree-items.result.now;
+  same = search rules;
+}
+
+pub write_nodes-returns-in_err-write_node-clause-front : goal.write_nodes-returns-in_err-write_node-clause-front
+write_nodes-returns-in_err-write_node-clause-front g t c =
+    children_front c.deref-tree-items.result.now c.args.trees.now.items c.children.tree-index c.tree-item.result c.deref-tree-items.ensures.value c.children-test.true c.tree-item.is c.children.invariant.text c.write_node.ensures.front
+
+pub write_nodes-children-preserved : goal.write_nodes-children-preserved
+write_nodes-children-preserved g t c = record {
+  text = children_more c.deref-tree-items.result.now c.children.tree-index c.tree-item.result c.children-test.true c.tree-item.is c.children.invariant.text c.in_ok-write_node.ensures.all;
+  same = search rules;
+}
+
+pub write_nodes-returns-clause-all : goal.write_nodes-returns-clause-all
+write_nodes-returns-clause-all g t c = children_all c.deref-tree-items.result.now c.args.trees.now.items c.children.tree-index c.deref-tree-items.ensures.value c.children-test.false c.children.invariant.text
+
+pub write_nodes-returns-clause-front : goal.write_nodes-returns-clause-front
+write_nodes-returns-clause-front g t c = front_all (children_all c.deref-tree-items.result.now c.args.trees.now.items c.children.tree-index c.deref-tree-items.ensures.value c.children-test.false c.children.invariant.text)

@@ -1,0 +1,5 @@
+pub mod Fronts
+pub mod Reading
+pub mod Text
+pub mod Views
+pub mod Waiting

@@ -1,0 +1,20 @@
+//! Certificates as texts, written and read: a text has exactly one meaning.
+#![tactic(auto)]
+
+mod buffer;
+mod digits;
+mod fault;
+mod head;
+mod indexes;
+mod law;
+mod lines;
+mod nodes;
+mod place;
+mod reading;
+mod words;
+mod writing;
+
+pub use fault::CertFault;
+pub use law::{faults_stay, fronts_are_early, one_text_each};
+pub use reading::{MOST_BYTES, read_cert};
+pub use writing::write_cert;

@@ -1,0 +1,101 @@
+//! The lines of a tree.
+
+ghost use Rattle.std.specs.Prelude.{◌≡◌, ℕ, ◌<◌, OnOk};
+ghost use Rattle.ec_cert_text.specs.Reading.{Gives, node_in as node_in_spec, node_at, tree_at, many_from};
+ghost use Rattle.ec_cert.specs.Shapes.{shape_of};
+ghost use Rattle.ec_cert_text.specs.Views.{at_view, tree_views};
+
+use crate::fault::CertFault;
+use crate::lines::{fault_on, line_of};
+use crate::place::TextPlace;
+use crate::words::{Wrong, number, pair};
+use ec_cert::Tree;
+use std::alloc::Global;
+
+/// What a line of a node says.
+#[derive(Clone, Copy, Debug, PartialEq, Eq)]
+pub(crate) enum Node {
+    /// A split with so many children.
+    Split(u32),
+    TickLeaf(u32),
+    FullLeaf(u32, u8),
+    Average,
+}
+
+#[tactic(auto, unfolding(crate::specs::Reading::node_in))]
+fn node_in(line: &[u8]) -> Result<Node, Wrong>
+    ensures { result ≡ node_in_spec line.now }
+{
+    if line.starts_with(b"S ") {
+        return Ok(Node::Split(number(1, 480, &line[2..])?));
+    }
+    if line.starts_with(b"T ") {
+        return Ok(Node::TickLeaf(number(0, 1023, &line[2..])?));
+    }
+    if line.starts_with(b"F ") {
+        let (tick, slot) = pair(0, (1023, 7), &line[2..])?;
+        return Ok(Node::FullLeaf(tick, slot as u8));
+    }
+    if line == b"A".as_slice() {
+        return Ok(Node::Average);
+    }
+    Err(Wrong::Words)
+}
+
+/// The node of the next line, where the tree may have so many levels from it on.
+#[tactic(auto, unfolding(crate::specs::Reading::node_at))]
+fn node_of(levels: u8, place: TextPlace<'_>) -> Result<(Node, TextPlace<'_>), CertFault>
+    ensures exact { Gives (λ x. (x.0, at_view x.1)) result (node_at levels (at_view place.entry)) }
+    ensures deep { OnOk result (0 < levels) }
+{
+    let (line, rest) = line_of(place)?;
+    if line == b"end".as_slice() {
+        return Err(CertFault::Early(place.line));
+    }
+    match node_in(line) {
+        Err(wrong) => Err(fault_on(place.line, wrong)),
+        Ok(_) if levels == 0 => Err(CertFault::TooDeep(place.line)),
+        Ok(node) => Ok((node, rest)),
+    }
+}
+
+/// A tree of so many levels at most; no recursion is deeper than they are.
+#[cycle(tree)]
+#[tactic(auto, unfolding(crate::specs::Reading::tree_at))]
+pub(crate) fn tree_of(
+    alloc: Global,
+    levels: u8,
+    place: TextPlace<'_>,
+) -> Result<(Tree, TextPlace<'_>), CertFault>
+    ensures { Gives (λ x. (shape_of x.0, at_view x.1)) result (tree_at levels (at_view place.entry)) }
+{
+    let (node, rest) = node_of(levels, place)?;
+    match node {
+        Node::Split(count) => {
+            let (trees, rest) = trees_of(alloc, levels - 1, count, rest)?;
+            Ok((Tree::Split(trees), rest))
+        }
+        Node::TickLeaf(tick) => Ok((Tree::TickLeaf(tick), rest)),
+        Node::FullLeaf(tick, slot) => Ok((Tree::FullLeaf(tick, slot), rest)),
+        Node::Average => Ok((Tree::Average, rest)),
+    }
+}
+
+#[cycle(tree)]
+fn trees_of(
+    alloc: Global,
+    levels: u8,
+    count: u32,
+    place: TextPlace<'_>,
+) -> Result<(Vec<Tree>, TextPlace<'_>), CertFault>
+    ensures { Gives (λ x. (tree_views x.0.items, at_view x.1)) result (many_from (tree_at levels) count (at_view place.entry)) }
+{
+    let mut trees = Vec::with_capacity(alloc, count as usize)?;
+    let mut rest = place;
+    'children: for _ in 0..count {
+        let (tree, after) = tree_of(alloc, levels, rest)?;
+        trees.push(tree)?;
+        rest = after;
+    }
+    Ok((trees, rest))
+}

@@ -1,0 +1,7 @@
+pub mod Order
+pub mod Seats
+pub mod Next
+pub mod Layout
+pub mod Records
+pub mod Mappings
+pub mod Examples
