@@ -1,4 +1,5 @@
-use Rattle.std.proofs.Common.{length, rules, None}
+use Rattle.std.proofs.Common.{◌≤◌, ℕ, length, rules, arith, Option, None, Some}
+use Rattle.ec_loads.specs.Search.{IsAtMost}
 use Rattle.ec_units.specs.Load.{loads_of}
 use Rattle.ec_loads.specs.Line.{slots_alone, line_by}
 use Rattle.ec_loads.specs.Held.{no_places}
@@ -36,6 +37,23 @@ walk-requires-clause-ready g c =
     reached_ready (loads_of us) n order prefix c.place_all.new.loads _ (order_of_loads us order c.requires.order) c.requires.reached
     (held_prefix (loads_of us) n order prefix c.in_ok-loads.loads c.place_all.new.loads c.in_ok-loads.ensures c.place_all.ensures.placed)
     (later_units order (length prefix))
+
+at_most_self : (v : Option ℕ) → IsAtMost v v
+at_most_self None = tt
+at_most_self (Some b) = omega arith
+
+pub returns-clause-partial : goal.returns-clause-partial
+returns-clause-partial g c =
+    let us = c.args.units.now.units in
+    let n = c.args.units.now.slots in
+    let order = c.args.order.now in
+    let prefix = c.args.prefix.now in
+    let walked =
+    explored (loads_of us) n (g.G.Guide.frame c.args.guide.now).floor order prefix c.place_all.new.loads _ None _ c.walk.new.search.value c.walk.new.search.left
+    (g.G.Guide.halted c.walk.new.guide) (shape_of c.in_ok-tree.tree)
+    (held_prefix (loads_of us) n order prefix c.in_ok-loads.loads c.place_all.new.loads c.in_ok-loads.ensures c.place_all.ensures.placed)
+    (later_units order (length prefix)) c.in_ok-tree.ensures.walked in
+    (walked.holds c.walk.new.search.value (at_most_self c.walk.new.search.value), walked.short)
 
 pub returns-clause-least : goal.returns-clause-least
 returns-clause-least g c =
