@@ -1,7 +1,7 @@
 -- What the rows of a table say of every tick.
-use Rattle.std.proofs.Common.{◌≡◌, ℕ, ◌+◌, ◌*◌, ◌%◌, ◌<◌, ◌≤◌, List, length, get_or, refl, sym, subst, ◌∙◌, arith}
+use Rattle.std.proofs.Common.{◌≡◌, ℕ, ◌+◌, ◌*◌, ◌<◌, ◌≤◌, List, get_or, refl, sym, subst, ◌∙◌, arith}
 use Rattle.ec_loads.specs.declared.item.Item.{Item}
-use Rattle.ec_loads.specs.Cost.{payload, tick_cost, AreUnits, DivideAll, IsFirstBusiest}
+use Rattle.ec_loads.specs.Cost.{payload, DivideAll, IsFirstBusiest}
 use Rattle.ec_loads.specs.Legal.{Fits, IsFirstFull}
 use Rattle.ec_loads.specs.Table.{HoldsItems}
 use Rattle.ec_loads.proofs.CostLemmas.{busiest-below, Fits-below}

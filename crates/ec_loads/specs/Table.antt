@@ -5,6 +5,7 @@ use Rattle.ec_wire.specs.Wire.{wire_of, raw_of}
 use Rattle.ec_units.specs.declared.slave.Place.{Place}
 use Rattle.ec_units.specs.declared.unit.Load.{Load}
 use Rattle.ec_loads.specs.declared.item.Item.{Item}
+use Rattle.ec_loads.specs.declared.trail.Mark.{Mark}
 use Rattle.ec_loads.specs.Cost.{items, group, same_group, payload, tick_cost, raw_cost}
 
 -- what a slot with this payload costs; 0 where nothing travels
@@ -44,13 +45,7 @@ pub record IsMost (xs : List Item) (n h payload_top cost_top : ℕ) : Type 0 whe
   pub payloads : (t s : ℕ) → t < h → s < n → payload xs t s ≤ payload_top
   pub costs : (t : ℕ) → t < h → tick_cost xs n t ≤ cost_top
 
--- a unit that got its place, with such numbers from before it got it
-pub record Mark : Type 0 where
-  pub unit : ℕ
-  pub payload_top : ℕ
-  pub cost_top : ℕ
-
 -- marks, the last one first: each has numbers for the places without its unit and those marked after it
 abbrev pub AreKept : List Load → ℕ → ℕ → List (Option Place) → List Mark → Type 0
 AreKept loads n h places [] = Unit {0}
-AreKept loads n h places (m ∷ ms) = IsMost (items loads (set places m.unit None)) n h m.payload_top m.cost_top × AreKept loads n h (set places m.unit None) ms
+AreKept loads n h places (m ∷ ms) = IsMost (items loads (set places m.unit None)) n h m.payload m.cost × AreKept loads n h (set places m.unit None) ms

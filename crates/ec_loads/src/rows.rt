@@ -68,3 +68,14 @@ pub(crate) fn first_full_cell(cells: &[u32], slots: u8, ticks: usize) -> Option<
     }
     None
 }
+
+/// A number that none of these is above.
+pub(crate) fn most(numbers: &[u32]) -> u32
+    ensures { (k : ℕ) → k < length numbers.now → slice_index numbers.now k ≤ result }
+{
+    let mut most = 0u32;
+    for number in numbers {
+        most = most.max(*number);
+    }
+    most
+}

@@ -1,4 +1,4 @@
-use Rattle.std.proofs.Common.{◌<◌, ◌≤◌, length, set, Some, None, arith, sym, subst, ◌∙◌}
+use Rattle.std.proofs.Common.{reverse, ◌<◌, ◌≤◌, length, set, Some, None, arith, sym, subst, ◌∙◌}
 use Rattle.std.proofs.lemmas.List.{length-set}
 use Rattle.std.proofs.lemmas.Option.{get_or_from_slice_get}
 use Rattle.ec_loads.specs.Cost.{item, items}
@@ -6,6 +6,7 @@ use Rattle.ec_loads.specs.Table.{IsOneMore}
 use Rattle.ec_loads.proofs.ItemLemmas.{AreUnits-loads}
 use Rattle.ec_loads.proofs.MoreLemmas.{more-items, length-more, items-length}
 use Rattle.ec_loads.proofs.TrafficLemmas.{holds_alike, payload-out, count-out}
+use Rattle.ec_loads.proofs.TrailLemmas.{kept-push, most-held}
 use Rattle.ec_loads.proofs.loads.Loads.put.Goals as goal
 use Rattle.ec_loads.proofs.loads.Loads.put.Goals.{then-place-load+then-place-self, else-place-load, else-place-load-via-then-place-load+else-place-self, else-place-load-via-else-place-load}
 
@@ -46,6 +47,7 @@ invariant_of-self c =
         whole = inv.whole;
         ticks = w.add.ensures.ticks ∙ inv.ticks;
         table = w.add.ensures.table xs ys more inv.table;
+        kept = rw (w.add.ensures.marks, w.add.ensures.ticks) (kept-push s.loads.items s.slots (length s.table.costs.items) s.places.items c.args.place (record { unit = c.args.unit; payload = s.table.payload; cost = s.table.cost }) (reverse s.table.marks.items) _ (get_or_from_slice_get s.places.items c.args.unit None None free) (most-held xs s.slots (length s.table.costs.items) s.table.counts.items s.table.cells.items s.table.costs.items s.table.raws.items s.table.total s.table.payload s.table.cost inv.table) inv.kept c.push_mark.ensures);
       })
       | else-place-load w ↦
           let out : c.args.place.phase < c.index-load.result.now.period → c.args.place.slot < s.slots → ⊥ = λ a b. elim w.else-place-load.branch [
@@ -62,5 +64,6 @@ invariant_of-self c =
             table = holds_alike xs ys s.slots (length s.table.costs.items) s.table.counts.items s.table.cells.items s.table.costs.items s.table.raws.items s.table.total s.table.payload s.table.cost inv.table
                 (λ t r l. sym (payload-out (item c.index-load.result.now c.args.place) s.slots pos' more out t r l))
                 (λ p f r l n. sym (count-out (item c.index-load.result.now c.args.place) s.slots more out p f r l n));
+            kept = kept-push s.loads.items s.slots (length s.table.costs.items) s.places.items c.args.place (record { unit = c.args.unit; payload = s.table.payload; cost = s.table.cost }) (reverse s.table.marks.items) _ (get_or_from_slice_get s.places.items c.args.unit None None free) (most-held xs s.slots (length s.table.costs.items) s.table.counts.items s.table.cells.items s.table.costs.items s.table.raws.items s.table.total s.table.payload s.table.cost inv.table) inv.kept c.push_mark.ensures;
           })
     ]
