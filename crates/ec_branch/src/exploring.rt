@@ -11,6 +11,7 @@ ghost use Rattle.ec_cert.specs.Shapes.{shape_of};
 ghost use Rattle.ec_branch.specs.Frames.{Frame, IsFair};
 ghost use Rattle.ec_branch.specs.Walks.{IsReadyFor};
 
+use crate::back::take_back;
 use crate::guide::Guide;
 use crate::value::Search;
 use crate::walk::walk;
@@ -49,8 +50,7 @@ fn remove_all(loads: &mut Loads, rest: &mut Rest, order: &[u8], prefix: &[Place]
     while i > 0 {
         i -= 1;
         let unit = usize::from(order[i]);
-        loads.remove(unit);
-        rest.unplaced(unit);
+        take_back(loads, rest, unit);
     }
 }
 

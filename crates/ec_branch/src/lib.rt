@@ -1,6 +1,7 @@
 //! The search below a prefix: the order of the units, a first plan, and trees whose leaves hold.
 #![tactic(auto)]
 
+mod back;
 mod exploring;
 mod first_plan;
 mod guide;

@@ -8,6 +8,7 @@ ghost use Rattle.ec_branch.specs.Frames.{Frame};
 ghost use Rattle.ec_branch.specs.Stacks.{Task, IsFor, IsOn, IsWithin, IsBack, IsStepped, effort, state_of, is_less};
 ghost use Rattle.ec_branch.specs.Walks.{IsReadyFor, IsWalked, FollowsGuide};
 
+use crate::back::take_back;
 use crate::guide::Guide;
 use crate::level::{Level, Turn, next_child};
 use crate::node::{Entered, enter};
@@ -32,8 +33,7 @@ fn undo(loads: &mut Loads, rest: &mut Rest, levels: &mut Vec<Level>)
     ensures { (task : Task) → IsWithin task (reverse levels.old.items) loads.old rest.old → IsBack task loads.new rest.new }
 {
     while let Some(level) = levels.pop() {
-        loads.remove(level.unit);
-        rest.unplaced(level.unit);
+        take_back(loads, rest, level.unit);
     }
 }
 
@@ -71,8 +71,7 @@ fn step<G: Guide>(
             let Some(mut level) = levels.pop() else {
                 return Ok(Stepped::Done(tree));
             };
-            loads.remove(level.unit);
-            rest.unplaced(level.unit);
+            take_back(loads, rest, level.unit);
             level.trees.push_reserved(tree);
             Ok(Stepped::On(next_child(loads, rest, search.left, levels, level)))
         }

@@ -1,3 +1,4 @@
 pub mod Answers
+pub mod Desks
 pub mod Outcomes
 pub mod Turns

@@ -5,7 +5,9 @@ ghost use Rattle.ec_units.specs.Load.{loads_of};
 ghost use Rattle.ec_loads.specs.Line.{slots_alone, line_by};
 ghost use Rattle.ec_symmetry.specs.Orders.{IsOrder, IsReachedPrefix};
 ghost use Rattle.ec_book.specs.Books.{IsBookOf};
+ghost use Rattle.ec_workers.specs.Desks.{IsClear};
 
+use crate::desk::Desk;
 use crate::gate::Gate;
 use crate::turn::{ALONE, Ended, Turn, take_turn};
 use ec_book::{Book, Taken, Took};
@@ -22,6 +24,7 @@ fn worked_off<R: Wait, G: Gate>(
     alloc: Global,
     units: &Units,
     order: &[u8],
+    desk: &mut Desk,
     book: &mut Book,
     took: Took,
     gate: &G,
@@ -30,11 +33,13 @@ fn worked_off<R: Wait, G: Gate>(
     requires book { IsBookOf units.now.units units.now.slots order.now book.old }
     requires reached { IsReachedPrefix (line_by slots_alone (loads_of units.now.units) units.now.slots) order.now took.prefix }
     requires some { 1 ≤ took.grant }
+    requires clear { IsClear units.now.units units.now.slots desk.old.loads desk.old.rest }
+    ensures clear { IsClear units.now.units units.now.slots desk.new.loads desk.new.rest }
     ensures book { IsBookOf units.now.units units.now.slots order.now book.new }
 {
     let mut value = took.value;
     for _ in rt.forever() {
-        match take_turn(alloc, units, order, book, &took, value, gate) {
+        match take_turn(alloc, units, order, desk, book, &took, value, gate) {
             Turn::Reported => return None,
             Turn::Again(now) => value = now,
             Turn::Stopped(ended) => return Some(ended),
@@ -44,7 +49,7 @@ fn worked_off<R: Wait, G: Gate>(
 }
 
 /// Takes pieces, the lowest first, until none can be handed out, memory is refused or the book refuses a call; says
-/// which.
+/// which. All pieces are explored in the same loads.
 pub(crate) fn work<R: Wait, G: Gate>(
     rt: &R,
     alloc: Global,
@@ -57,13 +62,16 @@ pub(crate) fn work<R: Wait, G: Gate>(
     requires book { IsBookOf units.now.units units.now.slots order.now book.old }
     ensures book { IsBookOf units.now.units units.now.slots order.now book.new }
 {
+    let Ok(mut desk) = Desk::new(alloc, units) else {
+        return Ended::Memory;
+    };
     for _ in rt.forever() {
         let took = match book.take(ALONE, MOST_GRANT) {
             Ok(Taken::Piece(took)) => took,
             Ok(_) => return Ended::Done,
             Err(_) => return Ended::Memory,
         };
-        if let Some(ended) = worked_off(rt, alloc, units, order, book, took, gate) {
+        if let Some(ended) = worked_off(rt, alloc, units, order, &mut desk, book, took, gate) {
             return ended;
         }
     }

@@ -3,6 +3,7 @@
 
 mod alone;
 mod certify;
+mod desk;
 mod gate;
 mod outcome;
 mod planning;

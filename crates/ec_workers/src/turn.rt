@@ -7,14 +7,16 @@ ghost use Rattle.ec_loads.specs.Search.{IsPartialTree, node_count};
 ghost use Rattle.ec_symmetry.specs.Orders.{IsOrder, IsReachedPrefix, prefix_of};
 ghost use Rattle.ec_cert.specs.Shapes.{shape_of};
 ghost use Rattle.ec_book.specs.Books.{IsBookOf, IsSameSearch};
+ghost use Rattle.ec_workers.specs.Desks.{IsClear};
 ghost use Rattle.ec_workers.specs.Turns.{IsLowered, FindsLower};
 ghost use Rattle.ec_workers.specs.declared.turn.Ended.{Ended};
 ghost use Rattle.ec_workers.specs.declared.turn.Turn.TheVariants.{Stopped};
 
+use crate::desk::Desk;
 use crate::gate::Gate;
 use crate::watch::Watch;
 use ec_book::{Book, BookFault, Took};
-use ec_branch::explore;
+use ec_branch::explore_in;
 use ec_cert::{Subtree, Tree};
 use ec_loads::Plan;
 use ec_units::Units;
@@ -112,6 +114,7 @@ pub(crate) fn take_turn<G: Gate>(
     alloc: Global,
     units: &Units,
     order: &[u8],
+    desk: &mut Desk,
     book: &mut Book,
     took: &Took,
     value: Option<u64>,
@@ -121,6 +124,8 @@ pub(crate) fn take_turn<G: Gate>(
     requires book { IsBookOf units.now.units units.now.slots order.now book.old }
     requires reached { IsReachedPrefix (line_by slots_alone (loads_of units.now.units) units.now.slots) order.now took.now.prefix }
     requires some { 1 ≤ took.now.grant }
+    requires clear { IsClear units.now.units units.now.slots desk.old.loads desk.old.rest }
+    ensures clear { IsClear units.now.units units.now.slots desk.new.loads desk.new.rest }
     ensures book { IsBookOf units.now.units units.now.slots order.now book.new }
     ensures again { FindsLower value book.new result }
 {
@@ -135,7 +140,8 @@ pub(crate) fn take_turn<G: Gate>(
         stopped: false,
     };
     let prefix = took.prefix.as_slice();
-    let explored = explore(alloc, units, order, prefix, &mut watch, took.grant);
+    let Desk { loads, rest } = desk;
+    let explored = explore_in(alloc, loads, rest, order, prefix, &mut watch, took.grant);
     let Watch { kept, stopped, .. } = watch;
     let offered = offer(book, kept);
     match explored {

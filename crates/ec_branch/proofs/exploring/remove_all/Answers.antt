@@ -11,13 +11,13 @@ loop-i-preserved c =
     let inv = c.loop-i.invariant in
     let u = c.from-unit.result in
     let i = c.loop-i.i in
-    let made = c.remove.ensures in
+    let made = c.take_back.ensures.loads in
     record {
       loads = ap (λ (w : Held). w.loads) made ∙ inv.loads;
       slots = ap (λ (w : Held). w.slots) made ∙ inv.slots;
       count = ap (λ (w : Held). length w.places) made ∙ length-set c.loop-i.loads.places u _ ∙ inv.count;
       within = omega (arith, inv.within);
-      left = rest_follows c.loop-i.loads c.remove.new.self c.loop-i.rest c.unplaced.new.self u None inv.left made c.unplaced.ensures;
+      left = rest_follows c.loop-i.loads c.take_back.new.loads c.loop-i.rest c.take_back.new.rest u None inv.left made c.take_back.ensures.rest;
       places =
           λ before ready kids at.
           ap (λ (w : Held). w.places) made

@@ -62,14 +62,14 @@ returns-in-Split-clause-on g c =
     (on_split task c.args.levels.now c.args.loads.now c.args.rest.now old now _ (g.G.Guide.frame c.args.guide.now).floor c.in-Split.level on later.1 is.floor
     (rw c.in-Split.is at c.in_ok-tree-in-Enter.ensures.entered))
 
-pub remove-requires : goal.remove-requires
-remove-requires g c =
+pub take_back-requires-clause-unit : goal.take_back-requires-clause-unit
+take_back-requires-clause-unit g c =
     let now = state_of c.args.search.now (g.G.Guide.halted c.args.guide.now) (g.G.Guide.known c.args.guide.now) in
     within_unit c.requires.on.0 c.args.levels.now.items c.pop.new.self.items c.in-Some.level c.args.loads.now c.args.rest.now
     (on_within c.requires.on.0 c.args.levels.now c.args.loads.now c.args.rest.now now c.args.turn c.requires.on.2) c.in-Some.ensures.items
 
-pub unplaced-requires : goal.unplaced-requires
-unplaced-requires g c =
+pub take_back-requires-clause-flag : goal.take_back-requires-clause-flag
+take_back-requires-clause-flag g c =
     let now = state_of c.args.search.now (g.G.Guide.halted c.args.guide.now) (g.G.Guide.known c.args.guide.now) in
     subst (λ w. c.in-Some.level.unit < w) (sym (flags_count c.args.loads.now c.args.rest.now c.requires.on.2.rest))
     (within_unit c.requires.on.0 c.args.levels.now.items c.pop.new.self.items c.in-Some.level c.args.loads.now c.args.rest.now
@@ -85,8 +85,8 @@ next_child-requires-in-Up g c =
         task,
         now,
         refl,
-        on_rise task c.args.levels.now c.pop.new.self c.args.loads.now c.remove.new.self c.args.rest.now c.unplaced.new.self now c.in-Up.tree c.in-Some.level c.push_reserved.new.self
-            on c.in-Some.ensures.items c.in-Some.ensures.capacity c.remove.ensures c.unplaced.ensures c.push_reserved.ensures.items c.push_reserved.ensures.capacity,
+        on_rise task c.args.levels.now c.pop.new.self c.args.loads.now c.take_back.new.loads c.args.rest.now c.take_back.new.rest now c.in-Up.tree c.in-Some.level c.push_reserved.new.self
+            on c.in-Some.ensures.items c.in-Some.ensures.capacity c.take_back.ensures.loads c.take_back.ensures.rest c.push_reserved.ensures.items c.push_reserved.ensures.capacity,
       );
     }
 
@@ -96,8 +96,8 @@ returns-in-Some-clause-on g c =
     let now = state_of c.args.search.now (g.G.Guide.halted c.args.guide.now) (g.G.Guide.known c.args.guide.now) in
     let on = subst (IsOn task c.args.levels.now c.args.loads.now c.args.rest.now now) c.in-Up.is was in
     c.next_child-in-Up.ensures.on task now refl
-    (on_rise task c.args.levels.now c.pop.new.self c.args.loads.now c.remove.new.self c.args.rest.now c.unplaced.new.self now c.in-Up.tree c.in-Some.level c.push_reserved.new.self
-    on c.in-Some.ensures.items c.in-Some.ensures.capacity c.remove.ensures c.unplaced.ensures c.push_reserved.ensures.items c.push_reserved.ensures.capacity)
+    (on_rise task c.args.levels.now c.pop.new.self c.args.loads.now c.take_back.new.loads c.args.rest.now c.take_back.new.rest now c.in-Up.tree c.in-Some.level c.push_reserved.new.self
+    on c.in-Some.ensures.items c.in-Some.ensures.capacity c.take_back.ensures.loads c.take_back.ensures.rest c.push_reserved.ensures.items c.push_reserved.ensures.capacity)
 
 pub returns-in-Some-clause-less : goal.returns-in-Some-clause-less
 returns-in-Some-clause-less g c =

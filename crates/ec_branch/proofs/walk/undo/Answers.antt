@@ -3,13 +3,13 @@ use Rattle.ec_bounds.proofs.HeldLemmas.{flags_count}
 use Rattle.ec_branch.proofs.StackLemmas.{no_levels, within_less, within_unit, within_end}
 use Rattle.ec_branch.proofs.walk.undo.Goals as goal
 
-pub remove-requires : goal.remove-requires
-remove-requires c =
+pub take_back-requires-clause-unit : goal.take_back-requires-clause-unit
+take_back-requires-clause-unit c =
     let at = c.loop-level.invariant c.requires.0 c.requires.1 in
     within_unit c.requires.0 c.loop-level.levels.items c.pop.new.self.items c.in-Some.level c.loop-level.loads c.loop-level.rest at c.in-Some.ensures.items
 
-pub unplaced-requires : goal.unplaced-requires
-unplaced-requires c =
+pub take_back-requires-clause-flag : goal.take_back-requires-clause-flag
+take_back-requires-clause-flag c =
     let at = c.loop-level.invariant c.requires.0 c.requires.1 in
     subst (λ w. c.in-Some.level.unit < w) (sym (flags_count c.loop-level.loads c.loop-level.rest at.rest))
     (within_unit c.requires.0 c.loop-level.levels.items c.pop.new.self.items c.in-Some.level c.loop-level.loads c.loop-level.rest at c.in-Some.ensures.items)
@@ -17,8 +17,8 @@ unplaced-requires c =
 pub loop-level-preserved : goal.loop-level-preserved
 loop-level-preserved c =
     λ task first.
-    within_less task c.loop-level.levels.items c.pop.new.self.items c.in-Some.level c.loop-level.loads c.remove.new.self c.loop-level.rest c.unplaced.new.self
-    (c.loop-level.invariant task first) c.in-Some.ensures.items c.remove.ensures c.unplaced.ensures
+    within_less task c.loop-level.levels.items c.pop.new.self.items c.in-Some.level c.loop-level.loads c.take_back.new.loads c.loop-level.rest c.take_back.new.rest
+    (c.loop-level.invariant task first) c.in-Some.ensures.items c.take_back.ensures.loads c.take_back.ensures.rest
 
 pub returns : goal.returns
 returns c =
