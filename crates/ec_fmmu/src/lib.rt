@@ -11,4 +11,4 @@ mod seat;
 pub use fmmu::{Fmmu, Fmmus, fmmu_bytes};
 pub use group::{Group, Groups};
 pub use mapping::{Mapping, layout};
-pub use seat::{FIRST_ADDRESS, expected};
+pub use seat::{FIRST_ADDRESS, Key, Seat, expected};

@@ -14,7 +14,7 @@ pub const FIRST_ADDRESS: u32 = 0x0001_0000;
 
 /// What puts groups into order: slot, then period, then phase, both in ticks.
 #[derive(Clone, Copy, Debug, PartialEq, Eq)]
-pub(crate) struct Key {
+pub struct Key {
     pub slot: u8,
     pub period: u16,
     pub phase: u16,
@@ -23,7 +23,7 @@ pub(crate) struct Key {
 /// A slave at the place of its unit: its group, the number of the unit and its own in the unit, both in file order from
 /// 0, and what is mapped of it.
 #[derive(Clone, Copy, Debug, PartialEq, Eq)]
-pub(crate) struct Seat {
+pub struct Seat {
     pub key: Key,
     pub unit: usize,
     pub slave: usize,

@@ -1,0 +1,3 @@
+pub mod GoingLemmas
+pub mod FrameLemmas
+pub mod WithinLemmas
