@@ -1,6 +1,6 @@
 //! A file that is made when it is first written.
 
-ghost use Rattle.core.specs.Option.{option_and_then};
+ghost use Rattle.std.specs.Option.{option_and_then};
 
 use std::io::Write;
 use std::rt::Files;
