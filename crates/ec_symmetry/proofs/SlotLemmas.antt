@@ -1,36 +1,93 @@
 -- Different slots, one place after the other, and the slots that a prefix uses.
-use Rattle.std.proofs.Common.{◌≡◌, ℕ, zero, suc, ◌+◌, ◌<◌, ◌≤◌, ◌==◌, ◌||◌, if◌then◌else◌, Bool, true, false, List, [], ◌∷◌, ◌++◌, map, length, set, drop, get_or, Option, Some, None, refl, ap, sym, ◌∙◌, add-one, append-nil, not-suc-le-zero, le_of_suc-le-suc, drop-cons, drop_of_length-le, take, take_all, length-drop, arith, ◌-◌}
-use Rattle.std.specs.List.{list_any}
+use Rattle.std.proofs.Common.{◌≡◌, ◌≢◌, get_or-set_same, get_or-set_other, subst, inl, inr, ℕ, zero, suc, ◌+◌, ◌<◌, ◌==◌, ◌||◌, Bool, true, false, List, [], ◌∷◌, ◌++◌, map, length, set, get_or, Option, Some, None, refl, ap, sym, ◌∙◌, add-one, append-nil, not-suc-le-zero, le_of_suc-le-suc, take, arith}
 use Rattle.std.proofs.lemmas.List.{take_more_set, map-append}
+use Rattle.std.proofs.lemmas.List.Folds.{list_any-append}
+use Rattle.std.proofs.lemmas.Bool.{cases_eq, eq-eqb, ne_eqb, eqb-true, or_right, false≢true, true≢false}
+use Rattle.std.proofs.Math.Seq.{take-suc}
 use Rattle.ec_units.specs.declared.slave.Place.{Place}
 use Rattle.ec_loads.specs.Search.{Prefix, slots_in, different_numbers}
-use Rattle.ec_symmetry.specs.Choices.{shares_slot}
+use Rattle.ec_symmetry.proofs.UsedLemmas.{member, once}
 
 -- the slots of places
 abbrev pub slots_of : List Place → List ℕ
 slots_of places = map (λ p. p.slot) places
 
-pub has_slot-is : (s : ℕ) (ps : List Place) → list_any (λ m. s == m) (slots_of ps) ≡ list_any (λ (p : Place). s == p.slot) ps
-has_slot-is s [] = refl
-has_slot-is s (p ∷ ps) = ap (λ b. (s == p.slot) || b) (has_slot-is s ps)
+one_more : (k : ℕ) (a b e f : Bool) → (e ≡ true → a ≡ b) → e ≡ f → once (a || (e || false)) + (k + once b) ≡ (once a + k) + once (f || b)
+one_more k true true true true same alike = omega arith
+one_more k true true true false same alike = absurd (true≢false alike)
+one_more k true false true f same alike = absurd (true≢false (same refl))
+one_more k false true true f same alike = absurd (false≢true (same refl))
+one_more k false false true true same alike = omega arith
+one_more k false false true false same alike = absurd (true≢false alike)
+one_more k a b false true same alike = absurd (false≢true alike)
+one_more k true true false false same alike = omega arith
+one_more k true false false false same alike = omega arith
+one_more k false true false false same alike = omega arith
+one_more k false false false false same alike = omega arith
 
--- one more place, and whether a later one has its slot
-pub slots_step : (ps : List Place) (i : ℕ) (d : Place) (found : Bool) → i < length ps → found ≡ shares_slot (get_or ps i d) (take (length ps - (i + 1)) (drop (i + 1) ps)) → different_numbers (slots_of (drop i ps)) ≡ (if found then 0 else 1) + different_numbers (slots_of (drop (i + 1) ps))
-slots_step ps i d found h is =
-    let whole : take (length ps - (i + 1)) (drop (i + 1) ps) ≡ drop (i + 1) ps = take_all (length ps - (i + 1)) (drop (i + 1) ps) (omega (arith, length-drop (i + 1) ps)) in
-    let at : found ≡ list_any (λ m. (get_or ps i d).slot == m) (slots_of (drop (i + 1) ps)) = is ∙ ap (shares_slot (get_or ps i d)) whole ∙ sym (has_slot-is (get_or ps i d).slot (drop (i + 1) ps)) in
-    ap (λ w. different_numbers (slots_of w)) (drop-cons ps i d h)
-    ∙ ap (λ k. different_numbers (slots_of (get_or ps i d ∷ drop k ps))) (sym (add-one i))
-    ∙ ap (λ b. (if b then 0 else 1) + different_numbers (slots_of (drop (i + 1) ps))) (sym at)
+-- one number more counts unless it is there
+different-append : (ns : List ℕ) (n : ℕ) → different_numbers (ns ++ n ∷ []) ≡ different_numbers ns + once (member n ns)
+different-append [] n = omega arith
+different-append (x ∷ ns) n =
+    let alike : (x == n) ≡ (n == x) = elim (cases_eq x n) [
+      | inl is ↦ eq-eqb x n is ∙ sym (eq-eqb n x (sym is))
+      | inr apart ↦ ne_eqb x n apart ∙ sym (ne_eqb n x (λ q. apart (sym q)))
+    ] in
+    (λ j. once (list_any-append (λ m. x == m) ns (n ∷ []) j) + different-append ns n j)
+    ∙ one_more (different_numbers ns) (member x ns) (member n ns) (x == n) (n == x) (λ h. ap (λ s. member s ns) (eqb-true x n h)) alike
 
-pub slots_new : (ps : List Place) (i : ℕ) (d : Place) (found : Bool) → i < length ps → found ≡ shares_slot (get_or ps i d) (take (length ps - (i + 1)) (drop (i + 1) ps)) → found ≡ false → different_numbers (slots_of (drop i ps)) ≡ 1 + different_numbers (slots_of (drop (i + 1) ps))
-slots_new ps i d found h is no_other = slots_step ps i d found h is ∙ ap (λ b. (if b then 0 else 1) + different_numbers (slots_of (drop (i + 1) ps))) no_other
+-- a flag for each slot: whether it is among these
+abbrev pub AreSeen : List Bool → List ℕ → Type 0
+AreSeen seen ns = (s : ℕ) → s < 256 → get_or seen s false ≡ member s ns
 
-pub slots_same : (ps : List Place) (i : ℕ) (d : Place) (found : Bool) → i < length ps → found ≡ shares_slot (get_or ps i d) (take (length ps - (i + 1)) (drop (i + 1) ps)) → found ≡ true → different_numbers (slots_of (drop i ps)) ≡ 0 + different_numbers (slots_of (drop (i + 1) ps))
-slots_same ps i d found h is other = slots_step ps i d found h is ∙ ap (λ b. (if b then 0 else 1) + different_numbers (slots_of (drop (i + 1) ps))) other
+or_none : (b : Bool) → b ≡ (b || (false || false))
+or_none true = refl
+or_none false = refl
 
-pub slots_end : (ps : List Place) (i : ℕ) → length ps ≤ i → different_numbers (slots_of (drop i ps)) ≡ 0
-slots_end ps i h = rw (drop_of_length-le ps h) refl
+-- one slot more has its flag
+seen_more : (seen now : List Bool) (ns : List ℕ) (n : ℕ) → AreSeen seen ns → get_or now n false ≡ true → ((s : ℕ) → s ≢ n → get_or now s false ≡ get_or seen s false) → AreSeen now (ns ++ n ∷ [])
+seen_more seen now ns n flags here other = λ s below.
+    elim (cases_eq s n) [
+      | inl is ↦
+          ap (λ w. get_or now w false) is ∙ here
+          ∙ sym (list_any-append (λ m. s == m) ns (n ∷ []) ∙ or_right (member s ns) ((s == n) || false) (ap (λ b. b || false) (eq-eqb s n is)))
+      | inr apart ↦
+          other s apart ∙ flags s below ∙ or_none (member s ns) ∙ ap (λ b. member s ns || (b || false)) (sym (ne_eqb s n apart))
+          ∙ sym (list_any-append (λ m. s == m) ns (n ∷ []))
+    ]
+
+slots_more : (ps : List Place) (i : ℕ) (d : Place) → i < length ps → slots_of (take (i + 1) ps) ≡ slots_of (take i ps) ++ (get_or ps i d).slot ∷ []
+slots_more ps i d h = rw add-one (ap slots_of (take-suc ps i d h) ∙ map-append (λ (q : Place). q.slot) (take i ps) (get_or ps i d ∷ []))
+
+-- a place in a new slot
+pub slots_new : (ps : List Place) (i : ℕ) (d : Place) (seen : List Bool) (count : ℕ) → i < length ps → (get_or ps i d).slot < length seen → (get_or ps i d).slot < 256 →
+    AreSeen seen (slots_of (take i ps)) → count ≡ different_numbers (slots_of (take i ps)) → get_or seen (get_or ps i d).slot false ≡ false →
+    AreSeen (set seen (get_or ps i d).slot true) (slots_of (take (i + 1) ps)) × (count + 1 ≡ different_numbers (slots_of (take (i + 1) ps)))
+slots_new ps i d seen count h room low flags so_far fresh =
+    let n = (get_or ps i d).slot in
+    let ns = slots_of (take i ps) in
+    let more = slots_more ps i d h in
+    let new = ap once (sym (flags n low) ∙ fresh) in
+    let size = different-append ns n in
+    let whole = ap different_numbers more in (
+      subst (λ w. AreSeen (set seen n true) w) (sym more) (seen_more seen (set seen n true) ns n flags (get_or-set_same seen n true false room) (λ s ne. get_or-set_other seen n s true false ne)),
+      omega (arith, so_far, new, size, whole),
+    )
+
+-- a place in a slot that is in use
+pub slots_same : (ps : List Place) (i : ℕ) (d : Place) (seen : List Bool) (count : ℕ) → i < length ps → (get_or ps i d).slot < 256 →
+    AreSeen seen (slots_of (take i ps)) → count ≡ different_numbers (slots_of (take i ps)) → get_or seen (get_or ps i d).slot false ≡ true →
+    AreSeen seen (slots_of (take (i + 1) ps)) × (count ≡ different_numbers (slots_of (take (i + 1) ps)))
+slots_same ps i d seen count h low flags so_far there =
+    let n = (get_or ps i d).slot in
+    let ns = slots_of (take i ps) in
+    let more = slots_more ps i d h in
+    let old = ap once (sym (flags n low) ∙ there) in
+    let size = different-append ns n in
+    let whole = ap different_numbers more in (
+      subst (λ w. AreSeen seen w) (sym more) (seen_more seen seen ns n flags there (λ s ne. refl)),
+      omega (arith, so_far, old, size, whole),
+    )
 
 -- what one unit adds
 abbrev one_slot : Option Place → List ℕ

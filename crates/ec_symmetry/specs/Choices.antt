@@ -1,6 +1,6 @@
 -- The places of a unit that are still to come, in child order.
-use Rattle.std.specs.Prelude.{ℕ, zero, suc, ◌+◌, ◌-◌, ◌==◌, Bool, List, [], ◌++◌, map}
-use Rattle.std.specs.List.{list_any, flat_map, range_with_len}
+use Rattle.std.specs.Prelude.{ℕ, zero, suc, ◌+◌, ◌-◌, List, [], ◌++◌, map}
+use Rattle.std.specs.List.{flat_map, range_with_len}
 use Rattle.ec_units.specs.declared.slave.Place.{Place}
 
 -- the places of one phase in so many slots, from a first one on
@@ -11,7 +11,3 @@ row phase first count = map (λ s. record { phase = phase; slot = s }) (range_wi
 abbrev pub places_left : ℕ → ℕ → ℕ → ℕ → List Place
 places_left width phase slot zero = []
 places_left width phase slot (suc later) = row phase slot (width - slot) ++ flat_map (λ f. row f 0 width) (range_with_len (phase + 1) later)
-
--- whether another place has the slot of this one
-abbrev pub shares_slot : Place → List Place → Bool
-shares_slot p others = list_any (λ q. p.slot == q.slot) others

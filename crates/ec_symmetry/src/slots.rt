@@ -2,16 +2,11 @@
 
 ghost use Rattle.std.specs.Prelude.{◌≡◌, ℕ, ◌≤◌, length, take, map};
 ghost use Rattle.ec_loads.specs.Search.{different_numbers, slots_in};
-ghost use Rattle.ec_symmetry.specs.Choices.{shares_slot as shares_slot_of};
 
 use ec_units::Place;
 
-/// Whether another place has the slot of this one.
-fn shares_slot(place: &Place, others: &[Place]) -> bool
-    ensures { result ≡ shares_slot_of place.now others.now }
-{
-    others.iter().any(|other| place.slot == other.slot)
-}
+/// How many slots a place can name.
+const SLOTS: usize = 256;
 
 /// The number of different slots of these places, of at most 48 units. Takes no memory.
 pub fn used_slots(places: &[Place]) -> u8
@@ -19,9 +14,12 @@ pub fn used_slots(places: &[Place]) -> u8
     ensures value { result ≡ different_numbers (map (λ p. p.slot) places.now) }
     ensures bound { result ≤ length places.now }
 {
+    let mut seen = [false; SLOTS];
     let mut count = 0u8;
     for i in 0..places.len() {
-        if !shares_slot(&places[i], &places[i + 1..]) {
+        let slot = usize::from(places[i].slot);
+        if !seen[slot] {
+            seen[slot] = true;
             count += 1;
         }
     }
