@@ -4,7 +4,7 @@ use crate::contention::crowd;
 use crate::replay::{replayed, workers};
 use ec_book::Book;
 use ec_branch::search_order;
-use ec_units::read_units;
+use ec_unit_text::read_units;
 use std::alloc::{AllocError, Global};
 use std::test::Fail;
 
