@@ -11,6 +11,7 @@ mod plans;
 mod samples;
 mod script;
 mod searching;
+mod steps;
 mod texts;
 
 use script::Script;
