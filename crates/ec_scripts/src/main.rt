@@ -7,6 +7,7 @@ mod call;
 mod certs;
 mod desk;
 mod guide;
+mod layouts;
 mod plans;
 mod samples;
 mod script;
