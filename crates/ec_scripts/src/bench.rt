@@ -1,9 +1,10 @@
 //! Loads with the bounds that are asked of them.
 
 use crate::call::Call;
+use crate::steps::{Dice, agrees};
 use ec_bounds::{Rest, average_bound, full_bound, tick_bound};
 use ec_loads::Loads;
-use ec_units::Units;
+use ec_units::{Place, Units};
 use std::alloc::{AllocError, Global};
 use std::marker::Model;
 
@@ -26,6 +27,8 @@ impl Model for Bench {
 }
 
 impl Bench {
+    ghost use Rattle.std.specs.Prelude.{◌<◌, length};
+
     pub(crate) fn new(alloc: Global, units: &Units) -> Result<Bench, AllocError> {
         Ok(Bench {
             loads: Loads::new(alloc, units)?,
@@ -34,29 +37,90 @@ impl Bench {
     }
 
     /// Gives a unit its place.
+    fn put(&mut self, unit: usize, place: Place)
+        requires { unit < length self.old.places }
+    {
+        self.loads.place(unit, place);
+        self.rest.placed(unit);
+    }
+
+    /// Takes the place of a unit away.
+    fn free(&mut self, unit: usize)
+        requires { unit < length self.old.places }
+    {
+        self.loads.remove(unit);
+        self.rest.unplaced(unit);
+    }
+
+    /// Gives a unit the place that a call says.
     fn place(&mut self, alloc: Global, call: &Call<'_>) -> Result<String, AllocError> {
         let unit = call.index(1);
         let places = call.places(alloc, 2)?;
         match places.as_slice().first() {
             Some(place) if unit < self.loads.places().len() => {
-                self.loads.place(unit, *place);
-                self.rest.placed(unit);
+                self.put(unit, *place);
                 String::from_str(alloc, "-")
             }
             _ => String::from_str(alloc, "no unit or no place"),
         }
     }
 
-    /// Takes the place of a unit away.
+    /// Takes the place of the unit away that a call says.
     fn remove(&mut self, alloc: Global, call: &Call<'_>) -> Result<String, AllocError> {
         let unit = call.index(1);
         if unit < self.loads.places().len() {
-            self.loads.remove(unit);
-            self.rest.unplaced(unit);
+            self.free(unit);
             String::from_str(alloc, "-")
         } else {
             String::from_str(alloc, "no unit")
         }
+    }
+
+    /// A place that a unit may take.
+    fn any_place(&self, dice: &mut Dice, unit: usize) -> Place {
+        let period = match self.loads.loads().get(unit) {
+            Some(load) => load.period,
+            None => 1,
+        };
+        Place {
+            phase: dice.below(u32::from(period).max(1)) as u16,
+            slot: dice.below(u32::from(self.loads.slots()).max(1)) as u8,
+        }
+    }
+
+    /// One step of a walk: five times in eight a unit gets a place, whether it has one or not, twice one loses its
+    /// place, and once the unit that was given a place last does. Gives the unit that is that one now.
+    fn step(&mut self, dice: &mut Dice, last: usize) -> usize {
+        let kind = dice.below(8);
+        let any = dice.below(self.loads.places().len().max(1) as u32) as usize;
+        let unit = if kind == 7 { last } else { any };
+        let place = self.any_place(dice, unit);
+        if unit >= self.loads.places().len() {
+            return last;
+        }
+        if kind < 5 {
+            self.put(unit, place);
+            unit
+        } else {
+            self.free(unit);
+            last
+        }
+    }
+
+    /// After how many of so many steps each answer of the loads is that of the sums.
+    fn steps(&mut self, count: u32) -> u32 {
+        let mut dice = Dice::new();
+        let mut last = 0usize;
+        let mut agreed = 0u32;
+        for _ in 0..count {
+            last = self.step(&mut dice, last);
+            let tick = dice.below(self.loads.ticks());
+            let value = self.loads.cost(tick) + u64::from(dice.below(2));
+            if agrees(&self.loads, value) {
+                agreed = agreed.saturating_add(1);
+            }
+        }
+        agreed
     }
 
     /// What a call of the loads or of a bound answers.
@@ -71,6 +135,8 @@ impl Bench {
                 .to_string(alloc),
             b"cost" => self.loads.cost(call.count(1)).to_string(alloc),
             b"raw" => self.loads.raw(call.count(1)).to_string(alloc),
+            b"raw_total" => self.loads.raw_total().to_string(alloc),
+            b"steps" => self.steps(call.count(1)).to_string(alloc),
             b"top" => format!(in alloc; "{:?}", self.loads.top()),
             b"full" => format!(in alloc; "{:?}", self.loads.full()),
             b"tick_bound" => format!(in alloc; "{:?}", tick_bound(&self.loads, value)),

@@ -7,10 +7,12 @@ mod call;
 mod certs;
 mod desk;
 mod guide;
+mod layouts;
 mod plans;
 mod samples;
 mod script;
 mod searching;
+mod steps;
 mod texts;
 
 use script::Script;

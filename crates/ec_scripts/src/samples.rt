@@ -5,36 +5,56 @@ use ec_units::{Place, Units};
 use std::alloc::{AllocError, Global};
 use std::fmt::Write;
 
-/// Adds so many units of this size, numbered on, each with one slave.
-fn add_units(
-    text: &mut String,
-    from: u32,
-    count: u32,
-    bytes: u32,
+/// So many units alike: the output and input bytes of each one's slave, and its period in ticks.
+#[derive(Clone, Copy)]
+struct Sizes {
+    out_bytes: u32,
+    in_bytes: u32,
     period: u32,
-) -> Result<(), AllocError> {
+    count: u32,
+}
+
+/// Adds these units, numbered on, each with one slave.
+fn add_units(text: &mut String, from: u32, sizes: &Sizes) -> Result<(), AllocError> {
+    let Sizes {
+        out_bytes,
+        in_bytes,
+        period,
+        count,
+    } = *sizes;
     for number in from..from.saturating_add(count) {
         let letter = char::from(b'a' + (number % 26) as u8);
         let station = number.saturating_add(1001);
         let suffix = if number < 26 { "" } else { "_" };
         write!(
             text,
-            "[[unit]]\nname = \"{letter}{suffix}\"\nperiod = {period}\n[[unit.slave]]\nstation = {station}\nout_bytes = {bytes}\nin_bytes = 0\n"
+            "[[unit]]\nname = \"{letter}{suffix}\"\nperiod = {period}\n[[unit.slave]]\nstation = {station}\nout_bytes = {out_bytes}\nin_bytes = {in_bytes}\n"
         )?;
     }
     Ok(())
 }
 
-/// Bytes, period and count of the units that a word is: `200/2`, or `200/2/5` for five.
-fn sizes_of(word: &str) -> Option<(u32, u32, u32)> {
+/// Output and input bytes; the latter are 0 where no plus sign stands before them.
+fn bytes_of(word: &str) -> Option<(u32, u32)> {
+    let (outputs, inputs) = word.split_once('+').unwrap_or((word, "0"));
+    Some((outputs.parse::<u32>().ok()?, inputs.parse::<u32>().ok()?))
+}
+
+/// The units that a word is: `200/2`, `200/2/5` for five, or `2+4/1` for one with 4 input bytes too.
+fn sizes_of(word: &str) -> Option<Sizes> {
     let mut parts = word.split('/');
-    let bytes = parts.next()?.parse::<u32>().ok()?;
+    let (out_bytes, in_bytes) = bytes_of(parts.next()?)?;
     let period = parts.next()?.parse::<u32>().ok()?;
     let count = match parts.next() {
         Some(count) => count.parse::<u32>().ok()?,
         None => 1,
     };
-    Some((bytes, period, count))
+    Some(Sizes {
+        out_bytes,
+        in_bytes,
+        period,
+        count,
+    })
 }
 
 /// The text of the units a, b, c and so on that these words are, where each word is some.
@@ -46,11 +66,11 @@ pub(crate) fn line_text(
     let mut text = format!(in alloc; "tick_ns = 1000000\nslots = {slots}\n")?;
     let mut number = 0u32;
     for word in words {
-        let Some((bytes, period, count)) = sizes_of(word) else {
+        let Some(sizes) = sizes_of(word) else {
             return Ok(None);
         };
-        add_units(&mut text, number, count, bytes, period)?;
-        number = number.saturating_add(count);
+        add_units(&mut text, number, &sizes)?;
+        number = number.saturating_add(sizes.count);
     }
     Ok(Some(text))
 }

@@ -4,7 +4,7 @@ use crate::bench::Bench;
 use crate::call::Call;
 use crate::desk::Desk;
 use crate::samples::line_of;
-use crate::{certs, plans, searching, texts};
+use crate::{certs, layouts, plans, searching, texts};
 use ec_units::Units;
 use std::alloc::{AllocError, Global};
 use std::sync::Wait;
@@ -18,6 +18,8 @@ pub(crate) enum Script {
     Loads(Bench),
     /// Plans of a line, and places.
     Plans(Units),
+    /// Layouts of a line's plans, and their frames.
+    Layouts(Units),
     /// Certificates, read for a line.
     Certs(Units),
     /// Searches of a line.
@@ -41,6 +43,7 @@ impl Script {
         Ok(match call.name() {
             b"loads" => Some(Script::Loads(Bench::new(alloc, &units)?)),
             b"plans" => Some(Script::Plans(units)),
+            b"layouts" => Some(Script::Layouts(units)),
             b"certs" => Some(Script::Certs(units)),
             b"search" => Some(Script::Search(units)),
             b"book" => {
@@ -63,6 +66,7 @@ impl Script {
             Script::Texts => texts::answer(alloc, &call),
             Script::Loads(bench) => bench.answer(alloc, &call),
             Script::Plans(units) => plans::answer(alloc, units, &call),
+            Script::Layouts(units) => layouts::answer(alloc, units, &call),
             Script::Certs(units) => certs::answer(alloc, units, &call),
             Script::Search(units) => searching::answer(rt, alloc, units, &call),
             Script::Book(desk) => desk.answer(alloc, &call),

@@ -1,0 +1,70 @@
+//! Walks over the places of units, after each step of which what the loads answer from their table is compared with
+//! sums that are made anew.
+
+ghost use Rattle.std.specs.Prelude.{◌<◌};
+
+use ec_loads::{Loads, plain_cost, plain_full, plain_payload, plain_raw, plain_top};
+
+/// Numbers that follow a linear congruence, the same in each run.
+#[derive(Clone, Copy)]
+pub(crate) struct Dice {
+    state: u32,
+}
+
+impl Dice {
+    pub(crate) fn new() -> Dice {
+        Dice { state: 1 }
+    }
+
+    /// A number below this one.
+    pub(crate) fn below(&mut self, bound: u32) -> u32
+        requires { 0 < bound }
+        ensures { result < bound }
+    {
+        self.state = self
+            .state
+            .wrapping_mul(1_664_525)
+            .wrapping_add(1_013_904_223);
+        (self.state >> 16) % bound
+    }
+}
+
+/// Whether the payload of each slot in a tick is that of the sums.
+fn slots_agree(loads: &Loads, tick: u32) -> bool {
+    (0..loads.slots()).all(|slot| loads.payload(tick, slot) == plain_payload(loads, tick, slot))
+}
+
+/// Whether what a tick carries and costs is that of the sums.
+fn tick_agrees(loads: &Loads, tick: u32) -> bool {
+    loads.cost(tick) == plain_cost(loads, tick)
+        && loads.raw(tick) == plain_raw(loads, tick)
+        && slots_agree(loads, tick)
+}
+
+/// The costs without padding of all ticks together.
+fn raw_sum(loads: &Loads) -> u64 {
+    let mut sum = 0u64;
+    for tick in 0..loads.ticks() {
+        sum = sum.saturating_add(plain_raw(loads, tick));
+    }
+    sum
+}
+
+/// The first tick that costs at least the value.
+fn first_reaching(loads: &Loads, value: u64) -> Option<u32> {
+    (0..loads.ticks()).find(|tick| plain_cost(loads, *tick) >= value)
+}
+
+/// Whether what is asked of all ticks at once is that of the sums: the greatest cost, the first slot that is too full,
+/// the sum, and the first tick that costs at least the value.
+fn whole_agrees(loads: &Loads, value: u64) -> bool {
+    loads.top() == plain_top(loads)
+        && loads.full() == plain_full(loads)
+        && loads.raw_total() == raw_sum(loads)
+        && loads.first_at_least(value) == first_reaching(loads, value)
+}
+
+/// Whether each answer of the loads is that of the sums, in every tick and slot.
+pub(crate) fn agrees(loads: &Loads, value: u64) -> bool {
+    whole_agrees(loads, value) && (0..loads.ticks()).all(|tick| tick_agrees(loads, tick))
+}
