@@ -6,9 +6,9 @@ ghost use Rattle.ec_loads.specs.Line.{slots_alone, line_by};
 ghost use Rattle.ec_symmetry.specs.Orders.{IsOrder, IsReachedPrefix};
 ghost use Rattle.ec_book.specs.Books.{IsBookOf};
 
-use crate::gate::Gate;
-use crate::turn::{ALONE, Ended, Turn, take_turn};
+use crate::turn::{ALONE, Turn, take_turn};
 use ec_book::{Book, Taken, Took};
+use ec_crew::{Ended, Gate};
 use ec_units::Units;
 use std::alloc::Global;
 use std::sync::Wait;

@@ -3,12 +3,13 @@
 
 mod alone;
 mod certify;
-mod gate;
+mod crewed;
 mod outcome;
 mod planning;
 mod turn;
 mod watch;
 
-pub use gate::Gate;
+pub use crewed::solve_by_crew;
+pub use ec_crew::Gate;
 pub use outcome::{Cut, Outcome, SolveFault};
 pub use planning::solve;
