@@ -13,6 +13,8 @@ use Rattle.ec_cert.specs.BestPlan.{value_of, IsBestPlan}
 use Rattle.ec_workers.specs.declared.outcome.Cut.{Cut}
 use Rattle.ec_workers.specs.declared.outcome.Cut.TheVariants as cut
 use Rattle.ec_workers.specs.declared.outcome.Outcome.{Outcome}
+use Rattle.ec_workers.specs.declared.outcome.SolveFault.{SolveFault}
+use Rattle.ec_workers.specs.declared.outcome.SolveFault.TheVariants as refused
 use Rattle.ec_workers.specs.declared.outcome.Outcome.TheVariants as outcome
 use Rattle.ec_workers.specs.Outcomes.{IsOptimal, IsWithoutPlan}
 
@@ -43,3 +45,13 @@ abbrev pub IsOutcome : List SyncUnit → ℕ → Asked → Outcome → Type 0
 IsOutcome units n asked (outcome.Optimal plan b cert) = IsOptimal units n plan.places b (cert_view cert)
 IsOutcome units n asked (outcome.NoPlan cert) = IsWithoutPlan units n (cert_view cert)
 IsOutcome units n asked (outcome.Unproved best order tree why) = IsUnproved units n asked best order (shape_of tree) why
+
+-- why a search of so many workers has no outcome: memory was refused before it began, or none of several workers could be started
+abbrev pub IsSolveFault : ℕ → SolveFault → Type 0
+IsSolveFault workers refused.OutOfMemory = Unit {0}
+IsSolveFault workers refused.Spawn = 1 < workers
+
+-- it ended without a proof, for this reason
+abbrev pub HasCut : Cut → Outcome → Type 0
+HasCut why (outcome.Unproved best order tree is) = is ≡ why
+HasCut why _ = ⊥

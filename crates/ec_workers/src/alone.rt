@@ -8,9 +8,9 @@ ghost use Rattle.ec_book.specs.Books.{IsBookOf};
 ghost use Rattle.ec_workers.specs.Desks.{IsClear};
 
 use crate::desk::Desk;
-use crate::gate::Gate;
-use crate::turn::{ALONE, Ended, Turn, take_turn};
+use crate::turn::{ALONE, Turn, take_turn};
 use ec_book::{Book, Taken, Took};
+use ec_crew::{Ended, Gate};
 use ec_units::Units;
 use std::alloc::Global;
 use std::sync::Wait;

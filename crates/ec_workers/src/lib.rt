@@ -3,13 +3,14 @@
 
 mod alone;
 mod certify;
+mod crewed;
 mod desk;
-mod gate;
 mod outcome;
 mod planning;
 mod turn;
 mod watch;
 
-pub use gate::Gate;
+pub use crewed::solve_by_crew;
+pub use ec_crew::Gate;
 pub use outcome::{Cut, Outcome, SolveFault};
 pub use planning::solve;

@@ -15,14 +15,13 @@ ghost use Rattle.ec_workers.specs.declared.outcome.SolveFault.TheVariants.{OutOf
 
 use crate::alone::work;
 use crate::certify::{certificate, lines_of};
-use crate::gate::Gate;
 use crate::outcome::{Cut, Outcome, SolveFault};
 use crate::turn::offer;
-use crate::watch::copy_of;
 use ec_book::{Book, Finished, is_closed};
 use ec_branch::{greedy, search_order};
 use ec_cert::{Best, Order, Tree, UnitLines};
 use ec_checker::faults_refute;
+use ec_crew::{Gate, copy_of};
 use ec_tree::trees_bound;
 use ec_units::Units;
 use std::alloc::Global;
@@ -52,7 +51,7 @@ fn cut_of(spent: u64, nodes: u32) -> Cut
 }
 
 /// What comes of a finished search in which no leaf is open.
-fn proved(
+pub(crate) fn proved(
     alloc: Global,
     units: &Units,
     lines: UnitLines,
@@ -91,7 +90,7 @@ fn proved(
 }
 
 /// What comes of a search without its book, and why it ended.
-fn nothing(order: Order, cut: Cut) -> Outcome
+pub(crate) fn nothing(order: Order, cut: Cut) -> Outcome
     ensures { (units : List SyncUnit) (n : ℕ) (asked : Asked) → IsOrder (length units) order → IsCut asked open_leaf cut → IsOutcome units n asked result }
 {
     Outcome::Unproved {

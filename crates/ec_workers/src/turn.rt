@@ -9,32 +9,21 @@ ghost use Rattle.ec_cert.specs.Shapes.{shape_of};
 ghost use Rattle.ec_book.specs.Books.{IsBookOf, IsSameSearch};
 ghost use Rattle.ec_workers.specs.Desks.{IsClear};
 ghost use Rattle.ec_workers.specs.Turns.{IsLowered, FindsLower};
-ghost use Rattle.ec_workers.specs.declared.turn.Ended.{Ended};
+ghost use Rattle.ec_crew.specs.declared.ended.Ended.{Ended};
 ghost use Rattle.ec_workers.specs.declared.turn.Turn.TheVariants.{Stopped};
 
 use crate::desk::Desk;
-use crate::gate::Gate;
 use crate::watch::Watch;
 use ec_book::{Book, BookFault, Took};
 use ec_branch::explore_in;
-use ec_cert::{Subtree, Tree};
+use ec_cert::Subtree;
+use ec_crew::{Ended, Gate, has_nodes};
 use ec_loads::Plan;
 use ec_units::Units;
 use std::alloc::Global;
 
 /// The number of the only worker.
 pub(crate) const ALONE: usize = 0;
-
-/// Why a worker ends.
-#[derive(Clone, Copy, Debug)]
-pub(crate) enum Ended {
-    /// Nothing can be handed out any more.
-    Done,
-    /// Memory was refused.
-    Memory,
-    /// The book refused what it was told.
-    Refused,
-}
 
 /// What became of a piece.
 pub(crate) enum Turn {
@@ -44,16 +33,6 @@ pub(crate) enum Turn {
     Again(Option<u64>),
     /// The worker ends.
     Stopped(Ended),
-}
-
-/// Whether a tree splits or closes a node.
-fn has_nodes(tree: &Tree) -> bool
-    ensures { IsTrue result ↔ (0 < node_count (shape_of tree.now)) }
-{
-    match tree {
-        Tree::OpenLeaf => false,
-        _ => true,
-    }
 }
 
 /// Offers a plan that was kept; no where memory was refused to it.

@@ -1,15 +1,15 @@
 //! The guide of a worker that works alone.
 
-ghost use Rattle.std.specs.Prelude.{◌≡◌, IfOk};
+ghost use Rattle.std.specs.Prelude.{◌≡◌};
 ghost use Rattle.std.specs.Option.{ForSome};
 ghost use Rattle.ec_units.specs.Load.{loads_of};
 ghost use Rattle.ec_loads.specs.Legal.{IsLegal};
 
-use crate::gate::Gate;
 use ec_branch::Guide;
-use ec_loads::{Places, Plan};
+use ec_crew::{Gate, copy_of};
+use ec_loads::Plan;
 use ec_units::Units;
-use std::alloc::{AllocError, Global};
+use std::alloc::Global;
 
 /// What a worker watches while it explores a piece: the value, in wire bytes, that of the piece at first and then that
 /// of the last plan that it was told, and that plan.
@@ -24,15 +24,6 @@ pub(crate) struct Watch<'a, G: Gate> {
     pub kept: Option<Plan>,
     pub stopped: bool,
     pub ghost legal: { ForSome kept (λ plan. IsLegal (loads_of units.now.units) units.now.slots plan.places) },
-}
-
-/// The same plan again.
-pub(crate) fn copy_of(alloc: Global, plan: &Plan) -> Result<Plan, AllocError>
-    ensures { IfOk result (λ copy. copy.places ≡ plan.now.places) }
-{
-    Ok(Plan {
-        places: Places::new(Vec::from_slice(alloc, plan.places.as_slice())?),
-    })
 }
 
 impl<'a, G: Gate> Guide for Watch<'a, G> {

@@ -1,0 +1,9 @@
+use Rattle.std.proofs.Common.{◌≡◌, vec_len, vec_capacity, length, All}
+use Rattle.std.specs.Vec.Iter.{into_iter_items}
+use Rattle.ec_seats.specs.Seats.{IsOf}
+use Rattle.ec_crew.proofs.threads.into_slots.Given as goal
+
+abbrev pub invariant-loop-seat : goal.invariant-loop-seat
+invariant-loop-seat g l =
+    (vec_len l.slots ≡ length l.yielded) × (vec_capacity l.slots ≡ vec_capacity l.initial.slots)
+    × All (λ s. IsOf g.S.Search.loads g.S.Search.slots g.S.Search.order s) (into_iter_items l.seat-iterator)

@@ -1,0 +1,151 @@
+//! A search by several workers.
+
+ghost use Rattle.std.specs.Prelude.{◌≡◌, ◌≢◌, ◌≤◌, IfOk, [], length, vec_len};
+ghost use Rattle.ec_symmetry.specs.Orders.{IsOrder};
+ghost use Rattle.ec_book.specs.Books.{IsBookOf};
+ghost use Rattle.ec_seats.specs.Seats.{AreOf};
+ghost use Rattle.ec_seats.specs.Closing.{IsJournal};
+ghost use Rattle.ec_crew.specs.Crews.{IsClosedFor, IsCrewed};
+ghost use Rattle.ec_crew.specs.declared.ended.Ended.TheVariants.{Refused};
+
+use crate::ended::Ended;
+use crate::gate::Gate;
+use crate::post::Post;
+use crate::seeding::seed;
+use crate::threads::{into_slots, joined, out_of_slots, work_all};
+use ec_book::{Book, Finished};
+use ec_seats::{CloseFault, Search, Seat, Shared};
+use ec_units::Units;
+use std::alloc::Global;
+use std::marker::Brand;
+use std::sync::ledger::Blank;
+use std::sync::{Mutex, Wait};
+use std::thread::{JoinHandle, Threads};
+
+/// What several workers made of a book, and why they ended.
+#[derive(Drop)]
+pub struct Crewed {
+    pub finished: Finished,
+    /// The book refused one of them what it told, or the notes of the workers aren't those of the book; else memory was
+    /// refused to one of them; else all were done.
+    pub ended: Ended,
+}
+
+/// Why nothing came of the work of several workers.
+#[derive(Clone, Copy, Debug, PartialEq, Eq)]
+pub enum CrewFault {
+    /// Memory was refused before the workers had their seats.
+    OutOfMemory,
+    /// No worker could be started.
+    Spawn,
+    /// Memory was refused when the book was to be closed.
+    Unclosed,
+    /// A seat was of another search than the book.
+    OtherUnits,
+}
+
+/// Closes the book, when all seats are back.
+fn closed<S: Search>(
+    alloc: Global,
+    shared: Shared<S>,
+    seats: Vec<Seat<'_, '_, S>>,
+    ended: Ended,
+) -> Result<Crewed, CrewFault>
+    requires { vec_len seats ≡ S.parts }
+    ensures closed { IfOk result (λ c. IsClosedFor S.loads S.slots S.order c.finished) }
+    ensures journal { IfOk result (λ c. c.ended ≢ Refused → (c.ended ≡ ended) × IsJournal seats.entry.items c.finished.log) }
+{
+    match shared.close(alloc, seats) {
+        Ok(finished) => Ok(Crewed { finished, ended }),
+        Err(CloseFault::Journal(finished)) => Ok(Crewed {
+            finished,
+            ended: Ended::Refused,
+        }),
+        Err(CloseFault::OutOfMemory) => Err(CrewFault::Unclosed),
+        Err(CloseFault::OtherUnits) => Err(CrewFault::OtherUnits),
+    }
+}
+
+/// Lets worker 0 seed and then each worker work in a thread of its own; why they ended, if one of them could be started.
+fn run_all<S: Search + Send + Sync, R: Threads + Wait + Sync, G: Gate + Sync>(
+    rt: &R,
+    alloc: Global,
+    shared: &Shared<S>,
+    slots: &[Mutex<Post<'_, '_, S>>],
+    gate: &G,
+    handles: Vec<JoinHandle<Ended>>,
+) -> Option<Ended>
+    requires { 1 ≤ length slots.now }
+{
+    let seeded = seed(rt, alloc, shared, &mut *slots[0].lock(rt), slots.len());
+    let others = match seeded {
+        Some(_) => &slots[1..],
+        None => slots,
+    };
+    let handles = work_all(rt, alloc, shared, others, gate, handles);
+    if handles.is_empty() {
+        return None;
+    }
+    Some(joined(rt, handles, seeded.unwrap_or(Ended::Done)))
+}
+
+/// The search of a ledger, by as many workers as it has parts.
+fn search_on<S: Search + Send + Sync, R: Threads + Wait + Sync, G: Gate + Sync>(
+    rt: &R,
+    alloc: Global,
+    blank: Blank,
+    book: Book,
+    units: &Units,
+    order: &[u8],
+    workers: usize,
+    gate: &G,
+) -> Result<Crewed, CrewFault>
+    requires name { blank.name ≡ S.name }
+    requires parts { (blank.parts ≡ S.parts) × (blank.parts ≡ workers) }
+    requires few { (1 ≤ workers) × (workers ≤ 16) }
+    requires order { IsOrder (length units.now.units) order.now }
+    requires search { AreOf S.loads S.slots S.order units.now.units units.now.slots order.now }
+    requires book { IsBookOf units.now.units units.now.slots order.now book }
+    requires unused { book.log ≡ [] }
+    ensures { IfOk result (λ c. IsClosedFor S.loads S.slots S.order c.finished) }
+{
+    let Ok(slots) = Vec::with_capacity(alloc, workers) else {
+        return Err(CrewFault::OutOfMemory);
+    };
+    let Ok(back) = Vec::with_capacity(alloc, workers) else {
+        return Err(CrewFault::OutOfMemory);
+    };
+    let Ok(handles) = Vec::with_capacity(alloc, workers) else {
+        return Err(CrewFault::OutOfMemory);
+    };
+    let Ok((shared, seats)) = Shared::<S>::new(alloc, blank, book, units, order, workers) else {
+        return Err(CrewFault::OutOfMemory);
+    };
+    let slots = into_slots(seats, slots);
+    let Some(ended) = run_all(rt, alloc, &shared, slots.as_slice(), gate, handles) else {
+        return Err(CrewFault::Spawn);
+    };
+    closed(alloc, shared, out_of_slots(slots, back), ended)
+}
+
+/// Searches on a book on which nothing has happened, with 1 to 16 workers, each in a thread of its own. Worker 0 first
+/// offers the greedy plan and splits and closes single nodes until as many pieces are free as there are workers. `gate`
+/// is told before each later node. What the workers did comes back in the finished book, in whatever order they did it.
+pub fn search_by_crew<R: Threads + Wait + Sync, G: Gate + Sync>(
+    rt: &R,
+    alloc: Global,
+    book: Book,
+    units: &Units,
+    order: &[u8],
+    workers: usize,
+    gate: &G,
+) -> Result<Crewed, CrewFault>
+    requires few { (1 ≤ workers) × (workers ≤ 16) }
+    requires order { IsOrder (length units.now.units) order.now }
+    requires book { IsBookOf units.now.units units.now.slots order.now book }
+    requires unused { book.log ≡ [] }
+    ensures { IfOk result (λ c. IsCrewed units.now.units units.now.slots order.now c.finished) }
+{
+    let blank = Blank::new(workers as u64);
+    search_on::<Brand, R, G>(rt, alloc, blank, book, units, order, workers, gate)
+}

@@ -1,0 +1,100 @@
+//! What worker 0 does before the workers start.
+
+ghost use Rattle.std.specs.Prelude.{◌≡◌, ◌≢◌, ◌≤◌};
+
+use crate::ended::Ended;
+use crate::gate::Gate;
+use crate::ground::{Ground, ground_of};
+use crate::post::Post;
+use crate::work::worked_off;
+use ec_book::{BookFault, Step, Taken};
+use ec_branch::greedy;
+use ec_seats::{Search, Shared};
+use std::alloc::Global;
+use std::sync::Wait;
+
+/// Nobody is told of nodes that are split or closed before the workers start.
+struct Quiet;
+
+impl Gate for Quiet {
+    fn before(&self, _worker: usize, _piece: u64) {}
+}
+
+/// How many pieces the last step left open, where it is a report; else none.
+fn opened(steps: &[Step]) -> usize {
+    if steps.is_empty() {
+        return 0;
+    }
+    match &steps[steps.len() - 1] {
+        Step::Reported { count, .. } => *count as usize,
+        _ => 0,
+    }
+}
+
+/// Offers the greedy plan, if there is one; why the worker ends, if it does.
+fn offered_greedy<S: Search, R: Wait>(
+    rt: &R,
+    alloc: Global,
+    shared: &Shared<S>,
+    post: &mut Post<'_, '_, S>,
+) -> Option<Ended> {
+    let plan = match greedy(alloc, post.seat.units()) {
+        Ok(Some(plan)) => plan,
+        Ok(None) => return None,
+        Err(_) => return Some(Ended::Memory),
+    };
+    match shared.better(rt, &mut post.seat, plan) {
+        Ok(()) => None,
+        Err((BookFault::NotBetter(_), _)) => None,
+        Err((BookFault::OutOfMemory, _)) => Some(Ended::Memory),
+        Err(_) => Some(Ended::Refused),
+    }
+}
+
+/// Splits or closes one node after another, each of the lowest free piece, until as many pieces are free as there are
+/// workers, or nothing can be handed out; why the worker ends, if it does.
+fn split_up<S: Search, R: Wait>(
+    rt: &R,
+    alloc: Global,
+    shared: &Shared<S>,
+    post: &mut Post<'_, '_, S>,
+    ground: &mut Ground<S>,
+    workers: usize,
+) -> Option<Ended> {
+    let mut free = 1usize;
+    for _ in rt.forever() {
+        if free >= workers {
+            return None;
+        }
+        let took = match post.take(rt, shared, 1) {
+            Ok(Taken::Piece(took)) => took,
+            Ok(_) => return None,
+            Err(ended) => return Some(ended),
+        };
+        if let Some(ended) = worked_off(rt, alloc, shared, post, ground, &took, &Quiet) {
+            return Some(ended);
+        }
+        free = free
+            .saturating_sub(1)
+            .saturating_add(opened(post.seat.receipts()));
+    }
+    unreachable!()
+}
+
+/// Offers the greedy plan, and then makes pieces for as many workers; why worker 0 ends before the others start, if it
+/// does.
+pub(crate) fn seed<S: Search, R: Wait>(
+    rt: &R,
+    alloc: Global,
+    shared: &Shared<S>,
+    post: &mut Post<'_, '_, S>,
+    workers: usize,
+) -> Option<Ended> {
+    if let Some(ended) = offered_greedy(rt, alloc, shared, post) {
+        return Some(ended);
+    }
+    let Ok(mut ground) = ground_of(alloc, post) else {
+        return Some(Ended::Memory);
+    };
+    split_up(rt, alloc, shared, post, &mut ground, workers)
+}

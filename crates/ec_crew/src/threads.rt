@@ -1,0 +1,92 @@
+//! The threads of the workers.
+
+ghost use Rattle.std.specs.Prelude.{◌≡◌, ◌⊎◌, ◌+◌, ◌≤◌, ◌↔◌, All, vec_len, vec_capacity};
+ghost use Rattle.ec_seats.specs.Seats.{IsOf};
+ghost use Rattle.ec_crew.specs.declared.ended.Ended.TheVariants.{Done, Refused};
+
+use crate::ended::Ended;
+use crate::gate::Gate;
+use crate::post::Post;
+use crate::work::work;
+use ec_seats::{Search, Seat, Shared};
+use std::alloc::Global;
+use std::sync::{Mutex, Wait};
+use std::thread;
+use std::thread::{JoinHandle, Threads};
+
+/// Puts each seat in a slot of its own, for which there is room.
+pub(crate) fn into_slots<'u, 'o, S: Search>(
+    seats: Vec<Seat<'u, 'o, S>>,
+    slots: Vec<Mutex<Post<'u, 'o, S>>>,
+) -> Vec<Mutex<Post<'u, 'o, S>>>
+    requires ours { All (λ s. IsOf S.loads S.slots S.order s) seats.items }
+    requires empty { vec_len slots ≡ 0 }
+    requires room { vec_len seats ≤ vec_capacity slots }
+    ensures { vec_len result ≡ vec_len seats.entry }
+{
+    let mut slots = slots;
+    for seat in seats {
+        slots.push_reserved(Mutex::new(Post { seat }));
+    }
+    slots
+}
+
+/// Takes the seats out of their slots again; there is room for them.
+pub(crate) fn out_of_slots<'u, 'o, S: Search>(
+    slots: Vec<Mutex<Post<'u, 'o, S>>>,
+    seats: Vec<Seat<'u, 'o, S>>,
+) -> Vec<Seat<'u, 'o, S>>
+    requires empty { vec_len seats ≡ 0 }
+    requires room { vec_len slots ≤ vec_capacity seats }
+    ensures { vec_len result ≡ vec_len slots.entry }
+{
+    let mut seats = seats;
+    for slot in slots {
+        let Post { seat, .. } = slot.into_inner();
+        seats.push_reserved(seat);
+    }
+    seats
+}
+
+/// Lets each worker work in a thread of its own, of which the handles are given once all have ended. A worker whose
+/// thread can't be started is left out.
+pub(crate) fn work_all<S: Search + Send + Sync, R: Threads + Wait + Sync, G: Gate + Sync>(
+    rt: &R,
+    alloc: Global,
+    shared: &Shared<S>,
+    slots: &[Mutex<Post<'_, '_, S>>],
+    gate: &G,
+    handles: Vec<JoinHandle<Ended>>,
+) -> Vec<JoinHandle<Ended>> {
+    thread::scope(thread::scope_env(), rt, |scope| {
+        let mut handles = handles;
+        for slot in slots {
+            let started = scope.spawn(move || work(rt, alloc, shared, &mut *slot.lock(rt), gate));
+            if let Ok(handle) = started {
+                let _ = handles.push(handle);
+            }
+        }
+        handles
+    })
+}
+
+/// Why two workers ended: the book refused one of them, else memory was refused, else both were done.
+fn worse(a: Ended, b: Ended) -> Ended
+    ensures refused { (result ≡ Refused) ↔ ((a ≡ Refused) ⊎ (b ≡ Refused)) }
+    ensures done { (result ≡ Done) ↔ ((a ≡ Done) × (b ≡ Done)) }
+{
+    match (a, b) {
+        (Ended::Refused, _) | (_, Ended::Refused) => Ended::Refused,
+        (Ended::Memory, _) | (_, Ended::Memory) => Ended::Memory,
+        (Ended::Done, Ended::Done) => Ended::Done,
+    }
+}
+
+/// Why all workers ended, the first of whom ended so.
+pub(crate) fn joined<R: Threads>(rt: &R, handles: Vec<JoinHandle<Ended>>, first: Ended) -> Ended {
+    let mut all = first;
+    for handle in handles {
+        all = worse(all, handle.join(rt));
+    }
+    all
+}

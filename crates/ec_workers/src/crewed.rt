@@ -1,0 +1,112 @@
+//! A search by several workers, and what comes of it.
+
+ghost use Rattle.std.specs.Prelude.{◌≡◌, ◌≢◌, ℕ, ◌<◌, ◌≤◌, IfOk, IfErr, length};
+ghost use Rattle.ec_symmetry.specs.Orders.{IsOrder};
+ghost use Rattle.ec_checker.specs.Certified.{lines_of as lines_spec};
+ghost use Rattle.ec_crew.specs.Crews.{IsCrewed};
+ghost use Rattle.ec_crew.specs.declared.ended.Ended.TheVariants.{Refused, Memory as EndedMemory};
+ghost use Rattle.ec_workers.specs.Answers.{asked_for, HasCut, IsOutcome, IsSolveFault};
+ghost use Rattle.ec_workers.specs.declared.outcome.Cut.TheVariants.{Budget, Journal, Memory};
+
+use crate::certify::lines_of;
+use crate::outcome::{Cut, Outcome, SolveFault};
+use crate::planning::{nothing, proved};
+use ec_book::{Book, Finished, is_closed};
+use ec_branch::search_order;
+use ec_cert::{Order, UnitLines};
+use ec_crew::{CrewFault, Crewed, Ended, Gate, search_by_crew};
+use ec_units::Units;
+use std::alloc::Global;
+use std::sync::Wait;
+use std::thread::Threads;
+
+/// Why several workers, to none of whom the book refused anything but memory, left a leaf open: all nodes are spent,
+/// else memory was refused, else what they wrote down doesn't agree.
+fn cut_of_crew(spent: u64, nodes: u32, ended: Ended) -> Cut
+    ensures budget { result ≡ Budget → spent ≡ nodes }
+    ensures memory { result ≡ Memory → (spent ≢ nodes) × (ended ≡ EndedMemory) }
+    ensures journal { result ≡ Journal → (spent ≢ nodes) × (ended ≢ EndedMemory) }
+{
+    if spent == u64::from(nodes) {
+        Cut::Budget
+    } else if ended == Ended::Memory {
+        Cut::Memory
+    } else {
+        Cut::Journal
+    }
+}
+
+/// What comes of the work of several workers.
+fn outcome_of(
+    alloc: Global,
+    units: &Units,
+    lines: UnitLines,
+    order: Order,
+    crewed: Crewed,
+    nodes: u32,
+) -> Outcome
+    requires lines { lines ≡ lines_spec units.now.units }
+    requires order { IsOrder (length units.now.units) order }
+    requires crewed { IsCrewed units.now.units units.now.slots order crewed.finished }
+    ensures outcome { (workers : ℕ) → 1 < workers → IsOutcome units.now.units units.now.slots (asked_for workers nodes) result }
+    ensures journal { crewed.ended ≡ Refused → HasCut Journal result }
+{
+    let Crewed { finished, ended } = crewed;
+    let Finished {
+        best,
+        tree,
+        spent,
+        ..
+    } = finished;
+    if ended == Ended::Refused {
+        return Outcome::Unproved {
+            best,
+            order,
+            tree,
+            cut: Cut::Journal,
+        };
+    }
+    if is_closed(&tree) {
+        return proved(alloc, units, lines, order, best, tree);
+    }
+    Outcome::Unproved {
+        best,
+        order,
+        tree,
+        cut: cut_of_crew(spent, nodes, ended),
+    }
+}
+
+/// Searches for a plan whose busiest tick costs least, as `solve` does, with 2 to 16 workers, each in a thread of its
+/// own; one that can't be started is left out. They split and close at most `nodes` nodes of the tree (1 to
+/// 10,000,000); the greedy plan counts none. Worker 0 first splits and closes single nodes, until as many pieces are
+/// free as there are workers; `gate` is told before each later node. What an outcome says is so whatever the number of
+/// workers and the order in which their pieces end.
+///
+/// `OutOfMemory` where memory was refused before the workers had their seats; `Spawn` where none could be started.
+pub fn solve_by_crew<R: Threads + Wait + Sync, G: Gate + Sync>(
+    rt: &R,
+    alloc: Global,
+    units: &Units,
+    workers: usize,
+    nodes: u32,
+    gate: &G,
+) -> Result<Outcome, SolveFault>
+    requires workers { (2 ≤ workers) × (workers ≤ 16) }
+    requires nodes { (1 ≤ nodes) × (nodes ≤ 10000000) }
+    ensures outcome { IfOk result (IsOutcome units.now.units units.now.slots (asked_for workers nodes)) }
+    ensures fault { IfErr result (IsSolveFault workers) }
+{
+    let lines = lines_of(alloc, units)?;
+    let order = search_order(alloc, units)?;
+    let book = Book::new(alloc, units, order.as_slice(), u64::from(nodes))?;
+    let crewed = search_by_crew(rt, alloc, book, units, order.as_slice(), workers, gate);
+    let order = Order::new(order);
+    match crewed {
+        Ok(crewed) => Ok(outcome_of(alloc, units, lines, order, crewed, nodes)),
+        Err(CrewFault::OutOfMemory) => Err(SolveFault::OutOfMemory),
+        Err(CrewFault::Spawn) => Err(SolveFault::Spawn),
+        Err(CrewFault::Unclosed) => Ok(nothing(order, Cut::Memory)),
+        Err(CrewFault::OtherUnits) => Ok(nothing(order, Cut::Journal)),
+    }
+}
