@@ -5,6 +5,7 @@
 mod bench;
 mod call;
 mod certs;
+mod crews;
 mod desk;
 mod guide;
 mod layouts;
@@ -20,13 +21,14 @@ use std::alloc::{AllocError, Global};
 use std::fmt::Write;
 use std::io;
 use std::sync::Wait;
+use std::thread::Threads;
 
 /// What stands between a call and its answer.
 const SIGN: &str = " => ";
 
 /// Does a line, and tells it where it is answered otherwise than it says; a line without an answer is to say `-`.
 fn tell(
-    rt: &impl Wait,
+    rt: &(impl Threads + Wait + Sync),
     alloc: Global,
     script: &mut Script,
     line: &str,
@@ -43,7 +45,12 @@ fn tell(
 
 /// Does a script: its first line names its subject, and each other one is a call, is empty, or begins with a number
 /// sign and is a remark.
-fn perform(rt: &impl Wait, alloc: Global, text: &str, out: &mut String) -> Result<u32, AllocError> {
+fn perform(
+    rt: &(impl Threads + Wait + Sync),
+    alloc: Global,
+    text: &str,
+    out: &mut String,
+) -> Result<u32, AllocError> {
     let mut lines = text.lines();
     let head = lines.next().unwrap_or("");
     let Some(mut script) = Script::of(alloc, head)? else {
@@ -61,7 +68,11 @@ fn perform(rt: &impl Wait, alloc: Global, text: &str, out: &mut String) -> Resul
 }
 
 /// What there is to tell of all scripts, and how many lines they have.
-fn report(rt: &impl Wait, alloc: Global, scripts: &str) -> Result<String, AllocError> {
+fn report(
+    rt: &(impl Threads + Wait + Sync),
+    alloc: Global,
+    scripts: &str,
+) -> Result<String, AllocError> {
     let mut out = String::new(alloc);
     let mut count = 0u32;
     for text in scripts.split("~\n") {

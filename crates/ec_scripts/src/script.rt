@@ -8,6 +8,7 @@ use crate::{certs, layouts, plans, searching, texts};
 use ec_units::Units;
 use std::alloc::{AllocError, Global};
 use std::sync::Wait;
+use std::thread::Threads;
 
 /// What the calls of a script are asked of.
 #[derive(Drop)]
@@ -57,7 +58,7 @@ impl Script {
     /// What a call answers.
     pub(crate) fn answer(
         &mut self,
-        rt: &impl Wait,
+        rt: &(impl Threads + Wait + Sync),
         alloc: Global,
         text: &str,
     ) -> Result<String, AllocError> {

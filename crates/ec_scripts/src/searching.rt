@@ -4,6 +4,7 @@ ghost use Rattle.std.specs.Prelude.{◌≤◌};
 
 use crate::call::Call;
 use crate::certs::written;
+use crate::crews::crewed;
 use crate::guide::{Wish, found_below, is_reached};
 use crate::samples::places_text;
 use ec_branch::{greedy, search_order};
@@ -15,6 +16,7 @@ use ec_workers::{Gate, Outcome, solve};
 use std::alloc::{AllocError, Global};
 use std::sync::Wait;
 use std::sync::atomic::{AtomicU64, Ordering};
+use std::thread::Threads;
 
 /// A gate that counts the calls, and apart those that aren't of worker 0 and piece 0.
 #[derive(Drop)]
@@ -160,7 +162,7 @@ fn explored(alloc: Global, units: &Units, call: &Call<'_>) -> Result<String, All
 
 /// What a call about searches of these units answers.
 pub(crate) fn answer(
-    rt: &impl Wait,
+    rt: &(impl Threads + Wait + Sync),
     alloc: Global,
     units: &Units,
     call: &Call<'_>,
@@ -173,6 +175,7 @@ pub(crate) fn answer(
         b"greedy" => greedy_text(alloc, units),
         b"explore" => explored(alloc, units, call),
         b"solve" => solved(rt, alloc, units, call),
+        b"crew" => crewed(rt, alloc, units, call),
         b"checked" => Ok(certified(rt, alloc, units)?.1),
         b"lines" => {
             let text = certified(rt, alloc, units)?.0;
