@@ -83,7 +83,7 @@ fn run_all<S: Search + Send + Sync, R: Threads + Wait + Sync, G: Gate + Sync>(
         None => slots,
     };
     let handles = work_all(rt, alloc, shared, others, gate, handles);
-    if handles.is_empty() {
+    if handles.is_empty() && !others.is_empty() {
         return None;
     }
     Some(joined(rt, handles, seeded.unwrap_or(Ended::Done)))
