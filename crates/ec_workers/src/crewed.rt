@@ -77,14 +77,8 @@ fn outcome_of(
     }
 }
 
-/// Searches for a plan whose busiest tick costs least, as `solve` does, with 2 to 16 workers, each in a thread of its
-/// own; one that can't be started is left out. They split and close at most `nodes` nodes of the tree (1 to
-/// 10,000,000); the greedy plan counts none. Worker 0 first splits and closes single nodes, until as many pieces are
-/// free as there are workers; `gate` is told before each later node. What an outcome says is so whatever the number of
-/// workers and the order in which their pieces end.
-///
-/// `OutOfMemory` where memory was refused before the workers had their seats; `Spawn` where none could be started.
-pub fn solve_by_crew<R: Threads + Wait + Sync, G: Gate + Sync>(
+/// Searches with 2 to 16 workers, each in a thread of its own, on a book under one lock.
+pub(crate) fn solve_by_crew<R: Threads + Wait + Sync, G: Gate + Sync>(
     rt: &R,
     alloc: Global,
     units: &Units,

@@ -7,10 +7,10 @@ mod crewed;
 mod desk;
 mod outcome;
 mod planning;
+mod solving;
 mod turn;
 mod watch;
 
-pub use crewed::solve_by_crew;
 pub use ec_crew::Gate;
 pub use outcome::{Cut, Outcome, SolveFault};
-pub use planning::solve;
+pub use solving::solve;

@@ -101,23 +101,18 @@ pub(crate) fn nothing(order: Order, cut: Cut) -> Outcome
     }
 }
 
-/// Searches for a plan whose busiest tick costs least, with one worker, which runs in the calling thread and splits
-/// and closes at most `nodes` nodes of the tree (1 to 10,000,000); the greedy plan counts none. With these units and
-/// this budget the answer is always the same, as long as memory is given. `gate` is told before each node.
-pub fn solve<R: Wait, G: Gate + Sync>(
+/// Searches with one worker, which runs in the calling thread, on a book without a lock.
+pub(crate) fn solve_alone<R: Wait, G: Gate>(
     rt: &R,
     alloc: Global,
     units: &Units,
-    workers: usize,
     nodes: u32,
     gate: &G,
 ) -> Result<Outcome, SolveFault>
-    requires workers { workers ≡ 1 }
     requires nodes { (1 ≤ nodes) × (nodes ≤ 10000000) }
-    ensures outcome { IfOk result (IsOutcome units.now.units units.now.slots (asked_for workers nodes)) }
+    ensures outcome { IfOk result (IsOutcome units.now.units units.now.slots (asked_for 1 nodes)) }
     ensures fault { IfErr result (λ e. e ≡ OutOfMemory) }
 {
-    let _ = workers;
     let lines = lines_of(alloc, units)?;
     let order = search_order(alloc, units)?;
     let mut book = Book::new(alloc, units, order.as_slice(), u64::from(nodes))?;

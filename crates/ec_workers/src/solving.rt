@@ -1,0 +1,43 @@
+//! The planner, whatever the number of its workers.
+
+ghost use Rattle.std.specs.Prelude.{◌≤◌, IfOk, IfErr};
+ghost use Rattle.ec_workers.specs.Answers.{asked_for, IsOutcome, IsSolveFault};
+
+use crate::crewed::solve_by_crew;
+use crate::outcome::{Outcome, SolveFault};
+use crate::planning::solve_alone;
+use ec_crew::Gate;
+use ec_units::Units;
+use std::alloc::Global;
+use std::sync::Wait;
+use std::thread::Threads;
+
+/// Searches for a plan whose busiest tick costs least, with 1 to 16 workers, which split and close at most `nodes`
+/// nodes of the tree (1 to 10,000,000); the greedy plan counts none. `gate` is told before each node.
+///
+/// One worker runs in the calling thread, and its answer is always the same for the same units and budget, as long as
+/// memory is given. Several run each in a thread of its own; one that can't be started is left out. Before they start,
+/// worker 0 splits and closes single nodes, of which `gate` isn't told, until as many pieces are free as there are
+/// workers. Which of several optimal plans they give, and with which certificate, hangs on the order in which their
+/// pieces end; what an outcome says is so whatever that order is.
+///
+/// `OutOfMemory` where memory was refused before the search began, `Spawn` where more than one worker was asked for and
+/// none could be started.
+pub fn solve<R: Threads + Wait + Sync, G: Gate + Sync>(
+    rt: &R,
+    alloc: Global,
+    units: &Units,
+    workers: usize,
+    nodes: u32,
+    gate: &G,
+) -> Result<Outcome, SolveFault>
+    requires workers { (1 ≤ workers) × (workers ≤ 16) }
+    requires nodes { (1 ≤ nodes) × (nodes ≤ 10000000) }
+    ensures outcome { IfOk result (IsOutcome units.now.units units.now.slots (asked_for workers nodes)) }
+    ensures fault { IfErr result (IsSolveFault workers) }
+{
+    if workers == 1 {
+        return solve_alone(rt, alloc, units, nodes, gate);
+    }
+    solve_by_crew(rt, alloc, units, workers, nodes, gate)
+}
