@@ -15,13 +15,15 @@ use Rattle.ec_cert_text.specs.Text.{certificate_text}
 use Rattle.ec_workers.specs.declared.outcome.Cut.{Cut}
 use Rattle.ec_workers.specs.declared.outcome.Outcome.{Outcome}
 use Rattle.ec_workers.specs.declared.outcome.Outcome.TheVariants as outcome
-use Rattle.ec_workers.specs.Answers.{Asked, IsOutcome}
+use Rattle.ec_workers.specs.declared.outcome.SolveFault.{SolveFault}
+use Rattle.ec_workers.specs.Answers.{Asked, IsOutcome, IsSolveFault}
 use Rattle.ec_lines.specs.declared.answer.Answer.{Answer}
 use Rattle.ec_lines.specs.declared.refusal.Refusal.{Refusal}
+use Rattle.ec_lines.specs.declared.refusal.Refusal.TheVariants as refusal
 use Rattle.ec_answers.specs.Input.{IsUnitsFault}
 use Rattle.ec_lines.specs.Outcomes.{outcome_output}
 use Rattle.ec_lines.specs.Output.{Written, done, refused, written_of}
-use Rattle.ec_lines.specs.Refusals.{out_of_memory, IsPlanMemory}
+use Rattle.ec_lines.specs.Refusals.{out_of_memory}
 
 -- the certificate that is written for an outcome, if it has one
 abbrev pub outcome_cert : Outcome → Option (List ℕ)
@@ -41,14 +43,15 @@ pub record IsPlanOf (asked : Asked) (bytes : List ℕ) (us : Units) (o : Outcome
   pub said : reading bytes ≡ Ok (units_view us)
   pub answer : IsOutcome us.units us.slots asked o
 
--- why bytes have no outcome: they give no units, or memory ran out
-abbrev pub IsPlanFault : List ℕ → Refusal → Type 0
-IsPlanFault bytes r = IsUnitsFault bytes r ⊎ IsPlanMemory r
+-- why bytes have no outcome: they give no units, memory ran out over them or over the text, or the search has none: memory ran out before it began, or none of
+-- several workers could be started
+abbrev pub IsPlanFault : Asked → List ℕ → Refusal → Type 0
+IsPlanFault asked bytes r = IsUnitsFault bytes r ⊎ ((r ≡ out_of_memory) ⊎ ((f : SolveFault) × (r ≡ refusal.Solve f) × IsSolveFault asked.workers f))
 
 -- units with an outcome that bytes have, or why they have none
 abbrev pub PlansFrom : Asked → Result (Units × Outcome) Refusal → List ℕ → Type 0
 PlansFrom asked (Ok found) bytes = IsPlanOf asked bytes found.0 found.1
-PlansFrom asked (Err r) bytes = IsPlanFault bytes r
+PlansFrom asked (Err r) bytes = IsPlanFault asked bytes r
 
 -- written is the text of this outcome, and this is its certificate, if it has one
 pub record IsOutcomeWritten (asked : Asked) (bytes : List ℕ) (w : Written) (cert : Option (List ℕ)) : Type 0 where
@@ -59,15 +62,15 @@ pub record IsOutcomeWritten (asked : Asked) (bytes : List ℕ) (w : Written) (ce
   pub certificate : cert ≡ outcome_cert found
 
 -- written is the line that says why there is no outcome, or that memory ran out over it, and no certificate
-pub record IsUnplanned (bytes : List ℕ) (w : Written) (cert : Option (List ℕ)) : Type 0 where
+pub record IsUnplanned (asked : Asked) (bytes : List ℕ) (w : Written) (cert : Option (List ℕ)) : Type 0 where
   pub refusal : Refusal
-  pub fault : IsPlanFault bytes refusal
+  pub fault : IsPlanFault asked bytes refusal
   pub line : w ≡ refused refusal
   pub certificate : cert ≡ None
 
 -- what is written for the bytes of units, and the certificate that is written before it
 abbrev pub IsPlanWritten : Asked → List ℕ → Written → Option (List ℕ) → Type 0
-IsPlanWritten asked bytes w cert = IsOutcomeWritten asked bytes w cert ⊎ IsUnplanned bytes w cert
+IsPlanWritten asked bytes w cert = IsOutcomeWritten asked bytes w cert ⊎ IsUnplanned asked bytes w cert
 
 -- a certificate of the units that bytes say, or none
 abbrev pub IsCertOf : Asked → List ℕ → Option (List ℕ) → Type 0

@@ -18,6 +18,7 @@ use ec_workers::{Gate, Outcome, solve};
 use std::alloc::Global;
 use std::io::{Read, Write};
 use std::sync::Wait;
+use std::thread::Threads;
 
 /// A gate that does nothing.
 struct Quiet;
@@ -65,14 +66,14 @@ fn certified<O: Write>(
 }
 
 /// The units that the reader has, and what comes of a search over them with this budget.
-fn planned<R: Read, T: Wait>(
+fn planned<R: Read, T: Threads + Wait + Sync>(
     rt: &T,
     alloc: Global,
     workers: usize,
     nodes: u32,
     units: &mut Io<R>,
 ) -> Result<(Units, Outcome), Refusal>
-    requires workers { workers ≡ 1 }
+    requires workers { (1 ≤ workers) × (workers ≤ 16) }
     requires nodes { (1 ≤ nodes) × (nodes ≤ 10000000) }
     requires fresh { has_failed units.old ≡ false }
     ensures told { has_failed units.new ≡ false → IfSome (R.remaining (stream units.old)) (PlansFrom (asked_for workers nodes) result) }
@@ -87,14 +88,14 @@ fn planned<R: Read, T: Wait>(
 }
 
 /// What a plan answers of the units that the reader has.
-pub fn plan_answer<R: Read, T: Wait>(
+pub fn plan_answer<R: Read, T: Threads + Wait + Sync>(
     rt: &T,
     alloc: Global,
     workers: usize,
     nodes: u32,
     units: &mut Io<R>,
 ) -> Result<Answer, Refusal>
-    requires workers { workers ≡ 1 }
+    requires workers { (1 ≤ workers) × (workers ≤ 16) }
     requires nodes { (1 ≤ nodes) × (nodes ≤ 10000000) }
     requires fresh { has_failed units.old ≡ false }
     ensures told { has_failed units.new ≡ false → IfSome (R.remaining (stream units.old)) (AnswersPlan (asked_for workers nodes) Any result) }
@@ -107,7 +108,7 @@ pub fn plan_answer<R: Read, T: Wait>(
 }
 
 /// What a plan answers of the units that the reader has; its certificate, if it has one, is written to `out`.
-pub fn certified_answer<R: Read, T: Wait, O: Write>(
+pub fn certified_answer<R: Read, T: Threads + Wait + Sync, O: Write>(
     rt: &T,
     alloc: Global,
     workers: usize,
@@ -115,7 +116,7 @@ pub fn certified_answer<R: Read, T: Wait, O: Write>(
     units: &mut Io<R>,
     out: &mut Io<O>,
 ) -> Result<Answer, Refusal>
-    requires workers { workers ≡ 1 }
+    requires workers { (1 ≤ workers) × (workers ≤ 16) }
     requires nodes { (1 ≤ nodes) × (nodes ≤ 10000000) }
     requires fresh { has_failed units.old ≡ false }
     requires out { has_failed out.old ≡ false }

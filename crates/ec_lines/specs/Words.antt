@@ -4,10 +4,10 @@ use Rattle.std.proofs.Common.{Global}
 use Rattle.ec_lines.specs.declared.job.Job.{Job}
 use Rattle.ec_lines.specs.declared.job.Job.TheVariants as job
 
--- the numbers of a job are within the limits: one worker, and 1 to 10,000,000 nodes
+-- the numbers of a job are within the limits: 1 to 16 workers, and 1 to 10,000,000 nodes
 abbrev pub JobFits : Job → Type 0
 JobFits job.Cost = Unit {0}
-JobFits (job.Plan workers nodes) = (workers ≡ 1) × (1 ≤ nodes) × (nodes ≤ 10000000)
+JobFits (job.Plan workers nodes) = (1 ≤ workers) × (workers ≤ 16) × (1 ≤ nodes) × (nodes ≤ 10000000)
 JobFits job.Check = Unit {0}
 
 -- a check has the path of a certificate to read, and no other job has one
