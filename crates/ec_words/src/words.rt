@@ -32,9 +32,9 @@ fn plan_command<'a>(alloc: Global) -> Result<Command<'a>, AllocError> {
     let workers = Arg::new(alloc, "workers")
         .long("workers")
         .value_name("N")
-        .value_parser(value_parser!(usize).range(1..=1))
+        .value_parser(value_parser!(usize).range(1..=16))
         .default_value("1")
-        .help("How many workers search; for now 1 alone");
+        .help("How many workers search, 1 to 16; with 1 the plan and the certificate are the same every time");
     let nodes = Arg::new(alloc, "nodes")
         .long("nodes")
         .value_name("N")
@@ -107,7 +107,7 @@ fn numbers_of(matches: &ArgMatches<'_>) -> Option<(usize, u32)>
 {
     let workers = matches.get_one::<usize>("workers")?;
     let nodes = matches.get_one::<u32>("nodes")?;
-    if workers != 1 || nodes < 1 || nodes > 10_000_000 {
+    if workers < 1 || workers > 16 || nodes < 1 || nodes > 10_000_000 {
         return None;
     }
     Some((workers, nodes))
