@@ -15,6 +15,7 @@ use std::alloc::Global;
 use std::io::{Read, Write};
 use std::rt::Files;
 use std::sync::Wait;
+use std::thread::Threads;
 use std::{fs, io};
 
 /// Tells the costs.
@@ -50,7 +51,7 @@ fn check_at<R: Read, W: Write, F: Files>(
 }
 
 /// Does a plan without writing its certificate.
-fn plan_alone<R: Read, W: Write, T: Wait>(
+fn plan_alone<R: Read, W: Write, T: Threads + Wait + Sync>(
     wait: &T,
     alloc: Global,
     job: &Job,
@@ -69,7 +70,7 @@ fn plan_alone<R: Read, W: Write, T: Wait>(
 }
 
 /// Does a plan, and writes its certificate, if it has one, to this path, which is opened at the first write.
-fn plan_to<R: Read, W: Write, F: Files, T: Wait>(
+fn plan_to<R: Read, W: Write, F: Files, T: Threads + Wait + Sync>(
     files: &F,
     wait: &T,
     alloc: Global,
@@ -91,7 +92,7 @@ fn plan_to<R: Read, W: Write, F: Files, T: Wait>(
 }
 
 /// Does what a command line says, on these units and to this text, and says with which status the program ends.
-pub fn do_line<R: Read, W: Write, F: Files, T: Wait>(
+pub fn do_line<R: Read, W: Write, F: Files, T: Threads + Wait + Sync>(
     files: &F,
     wait: &T,
     alloc: Global,

@@ -13,6 +13,7 @@ use ec_wire::{Io, WriteFault};
 use std::alloc::Global;
 use std::io::{Read, Write};
 use std::sync::Wait;
+use std::thread::Threads;
 
 /// The exit status of a run: 0 optimal, least or done, 1 no plan, 2 unproved, 3 refused input, 4 reading, writing or
 /// memory failed.
@@ -81,7 +82,7 @@ pub fn run_check<R: Read, C: Read, W: Write>(
 }
 
 /// Reads the units, searches for a plan whose busiest tick is least, and then writes the text of what was found.
-pub fn run_plan<R: Read, W: Write, T: Wait>(
+pub fn run_plan<R: Read, W: Write, T: Threads + Wait + Sync>(
     rt: &T,
     alloc: Global,
     workers: usize,
@@ -89,7 +90,7 @@ pub fn run_plan<R: Read, W: Write, T: Wait>(
     units: &mut Io<R>,
     text: &mut Io<W>,
 ) -> Status
-    requires workers { workers ≡ 1 }
+    requires workers { (1 ≤ workers) × (workers ≤ 16) }
     requires nodes { (1 ≤ nodes) × (nodes ≤ 10000000) }
     requires units { has_failed units.old ≡ false }
     requires text { has_failed text.old ≡ false }
@@ -101,7 +102,7 @@ pub fn run_plan<R: Read, W: Write, T: Wait>(
 
 /// Reads the units, searches for a plan whose busiest tick is least, writes the certificate, if there is one, to
 /// `out`, and then writes the text of what was found.
-pub fn run_plan_to<R: Read, W: Write, O: Write, T: Wait>(
+pub fn run_plan_to<R: Read, W: Write, O: Write, T: Threads + Wait + Sync>(
     rt: &T,
     alloc: Global,
     workers: usize,
@@ -110,7 +111,7 @@ pub fn run_plan_to<R: Read, W: Write, O: Write, T: Wait>(
     text: &mut Io<W>,
     out: &mut Io<O>,
 ) -> Status
-    requires workers { workers ≡ 1 }
+    requires workers { (1 ≤ workers) × (workers ≤ 16) }
     requires nodes { (1 ≤ nodes) × (nodes ≤ 10000000) }
     requires units { has_failed units.old ≡ false }
     requires text { has_failed text.old ≡ false }

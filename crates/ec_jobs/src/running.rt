@@ -11,13 +11,14 @@ use ec_wire::Io;
 use std::alloc::Global;
 use std::io::{Read, Write};
 use std::sync::Wait;
+use std::thread::Threads;
 
 /// Does a job: reads the units, and for a check then the certificate, makes its whole answer, and then writes it to
 /// `text`; what there is for jobs that search for nothing is as in `run_plain`. A plan searches with one worker in the
-/// calling thread, and where it is optimal or there is none, its certificate is written to `out`, if `out` is there,
-/// before the text. It reads at most 1,048,577 bytes of units and 67,108,865 of a certificate. A cost and a plan leave
+/// calling thread or with 2 to 16 in threads of their own, and where it is optimal or there is none, its certificate is
+/// written to `out`, if `out` is there, before the text. It reads at most 1,048,577 bytes of units and 67,108,865 of a certificate. A cost and a plan leave
 /// `cert` unread, a cost and a check leave `out`, and so does a plan without a certificate.
-pub fn run<R: Read, C: Read, W: Write, O: Write, T: Wait>(
+pub fn run<R: Read, C: Read, W: Write, O: Write, T: Threads + Wait + Sync>(
     rt: &T,
     alloc: Global,
     job: &Job,
