@@ -14,6 +14,7 @@ mod samples;
 mod script;
 mod searching;
 mod steps;
+mod sweep;
 mod texts;
 
 use script::Script;

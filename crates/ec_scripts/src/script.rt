@@ -4,7 +4,7 @@ use crate::bench::Bench;
 use crate::call::Call;
 use crate::desk::Desk;
 use crate::samples::line_of;
-use crate::{certs, layouts, plans, searching, texts};
+use crate::{certs, layouts, plans, searching, sweep, texts};
 use ec_units::Units;
 use std::alloc::{AllocError, Global};
 use std::sync::Wait;
@@ -25,6 +25,8 @@ pub(crate) enum Script {
     Certs(Units),
     /// Searches of a line.
     Search(Units),
+    /// Searches of many lines with so many slots.
+    Sweep(u8),
     /// A book for a line.
     Book(Desk),
 }
@@ -35,6 +37,9 @@ impl Script {
         let call = Call::of(alloc, head)?;
         if call.word(0) == "texts" {
             return Ok(Some(Script::Texts));
+        }
+        if call.word(0) == "sweep" {
+            return Ok(Some(Script::Sweep(call.small(1))));
         }
         let is_book = call.word(0) == "book";
         let words = call.rest(if is_book { 3 } else { 2 });
@@ -70,6 +75,7 @@ impl Script {
             Script::Layouts(units) => layouts::answer(alloc, units, &call),
             Script::Certs(units) => certs::answer(alloc, units, &call),
             Script::Search(units) => searching::answer(rt, alloc, units, &call),
+            Script::Sweep(slots) => sweep::answer(rt, alloc, *slots, &call),
             Script::Book(desk) => desk.answer(alloc, &call),
         }
     }

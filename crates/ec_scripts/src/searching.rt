@@ -4,7 +4,7 @@ ghost use Rattle.std.specs.Prelude.{◌≤◌};
 
 use crate::call::Call;
 use crate::certs::written;
-use crate::crews::crewed;
+use crate::crews::{crewed, crewed_again, met};
 use crate::guide::{Wish, found_below, is_reached};
 use crate::samples::places_text;
 use ec_branch::{greedy, search_order};
@@ -69,7 +69,7 @@ fn outcome_text(alloc: Global, outcome: &Outcome, whole: bool) -> Result<String,
 /// What one worker finds within so many nodes, and before how many of them its gate was told, and of how many others
 /// than worker 0 with piece 0.
 fn solved(
-    rt: &impl Wait,
+    rt: &(impl Threads + Wait + Sync),
     alloc: Global,
     units: &Units,
     call: &Call<'_>,
@@ -97,7 +97,11 @@ fn cert_of(outcome: Outcome) -> Option<Cert> {
 }
 
 /// The text of the certificate that a search writes, and what the checker answers of it.
-fn certified(rt: &impl Wait, alloc: Global, units: &Units) -> Result<(String, String), AllocError> {
+fn certified(
+    rt: &(impl Threads + Wait + Sync),
+    alloc: Global,
+    units: &Units,
+) -> Result<(String, String), AllocError> {
     let gate = Counting {
         calls: AtomicU64::new(0),
         others: AtomicU64::new(0),
@@ -176,6 +180,8 @@ pub(crate) fn answer(
         b"explore" => explored(alloc, units, call),
         b"solve" => solved(rt, alloc, units, call),
         b"crew" => crewed(rt, alloc, units, call),
+        b"again" => crewed_again(rt, alloc, units, call),
+        b"meet" => met(rt, alloc, units, call),
         b"checked" => Ok(certified(rt, alloc, units)?.1),
         b"lines" => {
             let text = certified(rt, alloc, units)?.0;
