@@ -10,6 +10,7 @@ pub mod NameLemmas
 pub mod NodeLaws
 pub mod NumberLemmas
 pub mod PartLaws
+pub mod SpelledLaws
 pub mod TextLaws
 pub mod WordLaws
 pub mod WriteLemmas

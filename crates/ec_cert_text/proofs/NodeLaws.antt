@@ -1,5 +1,5 @@
 -- Trees: what is read is spelled so, and is read again.
-use Rattle.std.proofs.Common.{◌≡◌, ℕ, zero, suc, ◌+◌, ◌<◌, ◌≤◌, Bool, true, false, ◌==◌, cond, nat_eq, List, [], ◌∷◌, ◌++◌, drop, codes, Result, Ok, Err, refl, ap, sym, ◌∙◌, arith, inl, inr, append_assoc}
+use Rattle.std.proofs.Common.{◌≡◌, ℕ, zero, suc, ◌+◌, ◌<◌, Bool, true, false, ◌==◌, cond, nat_eq, List, [], ◌∷◌, ◌++◌, drop, codes, Result, Ok, Err, refl, ap, sym, ◌∙◌, arith, inl, inr, append_assoc}
 use Rattle.std.specs.List.{starts_with, flat_map, AllByRecursion}
 use Rattle.std.specs.Str.{bytes_eq}
 use Rattle.std.specs.Fmt.{decimal}
@@ -13,6 +13,7 @@ use Rattle.ec_cert_text.specs.declared.nodes.Node.TheVariants as node
 use Rattle.ec_cert.specs.Shapes.{shapes}
 use Rattle.ec_cert_text.specs.Reading.{At, line_at, number_in, pair_in, ok_map, on_line, many_from, node_in, node_at, below, tree_at}
 use Rattle.ec_cert.specs.WellFormed.{IsLeafLine, HasLevels, HaveLevels}
+use Rattle.ec_cert_text.specs.NodeWords.{node_words, NodeFits, BeginsWithNode}
 use Rattle.ec_cert_text.specs.Text.{leaf_line, node_lines, row_lines}
 use Rattle.ec_cert.proofs.TreeLemmas.{shape_count-shapes}
 use Rattle.ec_cert_text.proofs.WordLaws.{if_err, bind_ok, chosen, ok_map_ok, on_line_ok, lacks, lacks-append, decimal_lacks, number_found, number_again, pair_found, pair_again, begins, same_bytes, line_found, line_again}
@@ -20,18 +21,6 @@ use Rattle.ec_cert_text.proofs.ManyLaws.{Spells, many_found}
 use Rattle.ec_cert_text.proofs.HeadLaws.{regroup_1, regroup_2}
 
 -- ---- lines of nodes
-
-abbrev node_words : Node → List ℕ
-node_words (node.Split n) = codes "S " ++ decimal n
-node_words (node.TickLeaf t) = codes "T " ++ decimal t
-node_words (node.FullLeaf t s) = codes "F " ++ (decimal t ++ 32 ∷ decimal s)
-node_words node.Average = codes "A"
-
-abbrev NodeFits : Node → Type 0
-NodeFits (node.Split n) = (1 ≤ n) × (n ≤ 480)
-NodeFits (node.TickLeaf t) = t ≤ 1023
-NodeFits (node.FullLeaf t s) = (t ≤ 1023) × (s ≤ 7)
-NodeFits node.Average = Unit {0}
 
 split_found : (line : List ℕ) (h : Node) → starts_with nat_eq line (codes "S ") ≡ true → ok_map node.Split (number_in 1 480 (drop 2 line)) ≡ Ok h → NodeFits h × (line ≡ node_words h)
 split_found line h b e =
@@ -104,6 +93,10 @@ unfolding node_at
 node_again d n h rest f =
     let deep : (suc d == 0) ≡ false = grind (arith, nat_tests) in
     rw (line_again n (node_words h) rest (node_lacks h f), node_no_end h, node_in_again h f, deep) refl
+
+pub node_spelled : (d n : ℕ) (text rest : List ℕ) (h : Node) → 0 < d → BeginsWithNode text h rest → node_at d (record { line = n; rest = text }) ≡ Ok (h, record { line = n + 1; rest = rest })
+node_spelled zero n text rest h lt b = absurd (omega arith)
+node_spelled (suc d) n text rest h lt b = rw b.1 (node_again d n h rest b.0)
 
 -- ---- trees
 

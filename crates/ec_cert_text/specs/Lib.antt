@@ -1,4 +1,5 @@
 pub mod Fronts
+pub mod NodeWords
 pub mod Reading
 pub mod Text
 pub mod Views

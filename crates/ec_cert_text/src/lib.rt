@@ -11,6 +11,7 @@ mod lines;
 mod nodes;
 mod place;
 mod reading;
+mod spelled;
 mod words;
 mod writing;
 

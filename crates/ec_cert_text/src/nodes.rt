@@ -8,6 +8,7 @@ ghost use Rattle.ec_cert_text.specs.Views.{at_view, tree_views};
 use crate::fault::CertFault;
 use crate::lines::{fault_on, line_of};
 use crate::place::TextPlace;
+use crate::spelled::spelled_node;
 use crate::words::{Wrong, number, pair};
 use ec_cert::Tree;
 use std::alloc::Global;
@@ -42,9 +43,9 @@ fn node_in(line: &[u8]) -> Result<Node, Wrong>
     Err(Wrong::Words)
 }
 
-/// The node of the next line, where the tree may have so many levels from it on.
+/// The node of the next line, or what is wrong with that line.
 #[tactic(auto, unfolding(crate::specs::Reading::node_at))]
-fn node_of(levels: u8, place: TextPlace<'_>) -> Result<(Node, TextPlace<'_>), CertFault>
+fn judged_node(levels: u8, place: TextPlace<'_>) -> Result<(Node, TextPlace<'_>), CertFault>
     ensures exact { Gives (λ x. (x.0, at_view x.1)) result (node_at levels (at_view place.entry)) }
     ensures deep { OnOk result (0 < levels) }
 {
@@ -56,6 +57,23 @@ fn node_of(levels: u8, place: TextPlace<'_>) -> Result<(Node, TextPlace<'_>), Ce
         Err(wrong) => Err(fault_on(place.line, wrong)),
         Ok(_) if levels == 0 => Err(CertFault::TooDeep(place.line)),
         Ok(node) => Ok((node, rest)),
+    }
+}
+
+/// The node of the next line, where the tree may have so many levels from it on.
+fn node_of(levels: u8, place: TextPlace<'_>) -> Result<(Node, TextPlace<'_>), CertFault>
+    ensures exact { Gives (λ x. (x.0, at_view x.1)) result (node_at levels (at_view place.entry)) }
+    ensures deep { OnOk result (0 < levels) }
+{
+    match spelled_node(place.rest) {
+        Some((node, rest)) if 0 < levels => {
+            let next = TextPlace {
+                line: place.line + 1,
+                rest,
+            };
+            Ok((node, next))
+        }
+        _ => judged_node(levels, place),
     }
 }
 

@@ -23,8 +23,11 @@ pub const MOST_BYTES: usize = 67_108_864;
 fn is_text(text: &[u8]) -> bool
     ensures { result ≡ list_all is_text_byte text.now }
 {
-    text.iter()
-        .all(|byte| *byte == b'\n' || (32 <= *byte && *byte <= 126))
+    let mut all = true;
+    for byte in text {
+        all &= *byte == b'\n' || (32 <= *byte && *byte <= 126);
+    }
+    all
 }
 
 /// The version that the first line says, and the place after it.

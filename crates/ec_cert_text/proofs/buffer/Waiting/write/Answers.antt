@@ -1,4 +1,4 @@
-use Rattle.std.proofs.Common.{◌≡◌, List, ℕ, [], ap, subst, rules, ◌∙◌}
+use Rattle.std.proofs.Common.{◌≡◌, [], ap, subst, rules, ◌∙◌}
 use Rattle.std.specs.Io.KnownBytes.{Appends}
 use Rattle.ec_wire.specs.Stream.{stream}
 use Rattle.ec_cert_text.proofs.WriteLemmas.{on_ok, direct_all, direct_front}

@@ -1,0 +1,22 @@
+-- The line of a node as it is written, without its line feed.
+use Rattle.std.specs.Prelude.{◌≡◌, ℕ, ◌≤◌, List, ◌∷◌, ◌++◌, codes}
+use Rattle.std.specs.Fmt.{decimal}
+use Rattle.ec_cert_text.specs.declared.nodes.Node.{Node}
+use Rattle.ec_cert_text.specs.declared.nodes.Node.TheVariants as node
+
+abbrev pub node_words : Node → List ℕ
+node_words (node.Split n) = codes "S " ++ decimal n
+node_words (node.TickLeaf t) = codes "T " ++ decimal t
+node_words (node.FullLeaf t s) = codes "F " ++ (decimal t ++ 32 ∷ decimal s)
+node_words node.Average = codes "A"
+
+-- its numbers are within the ranges of their words
+abbrev pub NodeFits : Node → Type 0
+NodeFits (node.Split n) = (1 ≤ n) × (n ≤ 480)
+NodeFits (node.TickLeaf t) = t ≤ 1023
+NodeFits (node.FullLeaf t s) = (t ≤ 1023) × (s ≤ 7)
+NodeFits node.Average = Unit {0}
+
+-- a text that begins with the line of a node, and what comes after it
+abbrev pub BeginsWithNode : List ℕ → Node → List ℕ → Type 0
+BeginsWithNode text h rest = NodeFits h × (text ≡ node_words h ++ 10 ∷ rest)
