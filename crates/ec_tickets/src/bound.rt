@@ -92,7 +92,11 @@ impl Bound {
         ensures each { IfOk result (λ r. All (IsNewReader r.0) r.1.items) }
     {
         let mut all = Vec::with_capacity(alloc, readers)?;
-        let (table, mut seat) = Table::<(), u64, (), Falls, Global>::of_words(alloc, &[NOTHING], &())?;
+        let (table, mut seat) = Table::<(), u64, (), Falls, Global>::of_words(
+            alloc,
+            &[NOTHING],
+            &(),
+        )?;
         for number in 0..readers as u8 {
             let another = table.shared.split_seat::<Twice>(&mut seat);
             all.push_reserved(Reader {
