@@ -153,7 +153,12 @@ impl<'u, 'o, 'b, S: Search> Post<'u, 'o, 'b, S> {
     }
 
     /// Offers a plan, and publishes what its busiest tick costs where it is better; why the worker ends, if it does.
-    pub(crate) fn offer<R: Wait>(&mut self, rt: &R, shared: &Shared<S>, plan: Plan) -> Option<Ended> {
+    pub(crate) fn offer<R: Wait>(
+        &mut self,
+        rt: &R,
+        shared: &Shared<S>,
+        plan: Plan,
+    ) -> Option<Ended> {
         match shared.better(rt, &mut self.seat, plan) {
             Ok(()) => {
                 self.publish();

@@ -97,18 +97,28 @@ pub(crate) fn work_all<S: Search + Send + Sync, R: Threads + Wait + Sync, G: Gat
     requires empty { vec_len handles ≡ 0 }
     requires room { length slots.now ≤ vec_capacity handles }
 {
-    thread::scope(thread::scope_env(), rt, |scope|
-        requires { (vec_len handles ≡ 0) × (length slots.now ≤ vec_capacity handles) }
-    {
-        let mut handles = handles;
-        for slot in slots {
-            let started = scope.spawn(move || work(rt, alloc, shared, &mut *slot.lock(rt), gate));
-            if let Ok(handle) = started {
-                handles.push_reserved(handle);
+    thread::scope(
+        thread::scope_env(),
+        rt,
+        |scope|
+            requires { (vec_len handles ≡ 0) × (length slots.now ≤ vec_capacity handles) }
+        {
+            let mut handles = handles;
+            for slot in slots {
+                let started = scope.spawn(move || work(
+                    rt,
+                    alloc,
+                    shared,
+                    &mut *slot.lock(rt),
+                    gate,
+                ));
+                if let Ok(handle) = started {
+                    handles.push_reserved(handle);
+                }
             }
-        }
-        handles
-    })
+            handles
+        },
+    )
 }
 
 /// Why two workers ended: the book refused one of them, else memory was refused, else both were done.
