@@ -1,22 +1,25 @@
 //! A search by several workers.
 
-ghost use Rattle.std.specs.Prelude.{◌≡◌, ◌≢◌, ◌≤◌, IfOk, [], length, vec_len};
+ghost use Rattle.std.specs.Prelude.{◌≡◌, ◌≢◌, ◌≤◌, IfOk, [], length, vec_len, vec_capacity, All};
 ghost use Rattle.ec_symmetry.specs.Orders.{IsOrder};
 ghost use Rattle.ec_book.specs.Books.{IsBookOf};
 ghost use Rattle.ec_seats.specs.Seats.{AreOf};
 ghost use Rattle.ec_seats.specs.Closing.{IsJournal};
+ghost use Rattle.ec_tickets.specs.Lowest.{IsNewReader};
 ghost use Rattle.ec_crew.specs.Crews.{IsClosedFor, IsCrewed};
 ghost use Rattle.ec_crew.specs.declared.ended.Ended.TheVariants.{Refused};
 
 use crate::ended::Ended;
 use crate::gate::Gate;
+use crate::pieces::left_free;
 use crate::post::Post;
 use crate::seeding::seed;
-use crate::threads::{into_slots, joined, out_of_slots, work_all};
+use crate::threads::{deal, into_slots, joined, out_of_slots, work_all};
 use ec_book::{Book, Finished};
 use ec_seats::{CloseFault, Search, Seat, Shared};
+use ec_tickets::{Bound, Reader, Tickets};
 use ec_units::Units;
-use std::alloc::Global;
+use std::alloc::{AllocError, Global};
 use std::marker::Brand;
 use std::sync::ledger::Blank;
 use std::sync::{Mutex, Wait};
@@ -71,13 +74,17 @@ fn run_all<S: Search + Send + Sync, R: Threads + Wait + Sync, G: Gate + Sync>(
     rt: &R,
     alloc: Global,
     shared: &Shared<S>,
-    slots: &[Mutex<Post<'_, '_, S>>],
+    slots: &[Mutex<Post<'_, '_, '_, S>>],
     gate: &G,
     handles: Vec<JoinHandle<Ended>>,
 ) -> Option<Ended>
-    requires { 1 ≤ length slots.now }
+    requires some { 1 ≤ length slots.now }
+    requires empty { vec_len handles ≡ 0 }
+    requires room { length slots.now ≤ vec_capacity handles }
 {
     let seeded = seed(rt, alloc, shared, &mut *slots[0].lock(rt), slots.len());
+    let (first, end) = left_free(slots[0].lock(rt).seat.receipts());
+    deal(rt, slots, first, end);
     let others = match seeded {
         Some(_) => &slots[1..],
         None => slots,
@@ -87,6 +94,20 @@ fn run_all<S: Search + Send + Sync, R: Threads + Wait + Sync, G: Gate + Sync>(
         return None;
     }
     Some(joined(rt, handles, seeded.unwrap_or(Ended::Done)))
+}
+
+/// What that many workers (1 to 16) share beside the book: a bound with a reader for each, and tickets for each.
+fn shared_means(
+    alloc: Global,
+    workers: usize,
+) -> Result<(Bound, Vec<Reader>, Vec<Tickets>), AllocError>
+    requires { (1 ≤ workers) × (workers ≤ 16) }
+    ensures readers { IfOk result (λ r. (vec_len r.1 ≡ workers) × All (IsNewReader r.0) r.1.items) }
+    ensures tickets { IfOk result (λ r. vec_len r.2 ≡ workers) }
+{
+    let (bound, readers) = Bound::new(alloc, workers)?;
+    let tickets = Tickets::new(alloc, workers)?;
+    Ok((bound, readers, tickets))
 }
 
 /// The search of a ledger, by as many workers as it has parts.
@@ -109,6 +130,9 @@ fn search_on<S: Search + Send + Sync, R: Threads + Wait + Sync, G: Gate + Sync>(
     requires unused { book.log ≡ [] }
     ensures { IfOk result (λ c. IsClosedFor S.loads S.slots S.order c.finished) }
 {
+    let Ok((bound, readers, tickets)) = shared_means(alloc, workers) else {
+        return Err(CrewFault::OutOfMemory);
+    };
     let Ok(slots) = Vec::with_capacity(alloc, workers) else {
         return Err(CrewFault::OutOfMemory);
     };
@@ -121,7 +145,7 @@ fn search_on<S: Search + Send + Sync, R: Threads + Wait + Sync, G: Gate + Sync>(
     let Ok((shared, seats)) = Shared::<S>::new(alloc, blank, book, units, order, workers) else {
         return Err(CrewFault::OutOfMemory);
     };
-    let slots = into_slots(seats, slots);
+    let slots = into_slots(seats, &bound, readers, tickets, slots);
     let Some(ended) = run_all(rt, alloc, &shared, slots.as_slice(), gate, handles) else {
         return Err(CrewFault::Spawn);
     };
@@ -129,8 +153,8 @@ fn search_on<S: Search + Send + Sync, R: Threads + Wait + Sync, G: Gate + Sync>(
 }
 
 /// Searches on a book on which nothing has happened, with 1 to 16 workers, each in a thread of its own. Worker 0 first
-/// offers the greedy plan and splits and closes single nodes until as many pieces are free as there are workers. `gate`
-/// is told before each later node. What the workers did comes back in the finished book, in whatever order they did it.
+/// offers the greedy plan and splits and closes single nodes until as many pieces are free as there are workers; the
+/// free pieces are then dealt to the workers in turn. `gate` is told before each later node. What the workers did comes back in the finished book, in whatever order they did it.
 pub fn search_by_crew<R: Threads + Wait + Sync, G: Gate + Sync>(
     rt: &R,
     alloc: Global,

@@ -40,7 +40,7 @@ fn empty_loads(alloc: Global, units: &Units) -> Result<(Loads, Rest), AllocError
 /// The loads of the search of a seat.
 pub(crate) fn ground_of<S: Search>(
     alloc: Global,
-    post: &Post<'_, '_, S>,
+    post: &Post<'_, '_, '_, S>,
 ) -> Result<Ground<S>, AllocError> {
     let (loads, rest) = empty_loads(alloc, post.units())?;
     Ok(Ground {

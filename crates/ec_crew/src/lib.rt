@@ -1,11 +1,13 @@
 //! Several workers on one book under a lock, each in a thread of its own.
 #![tactic(auto)]
 
+mod bounds;
 mod copying;
 mod crew;
 mod ended;
 mod gate;
 mod ground;
+mod pieces;
 mod post;
 mod seeding;
 mod threads;

@@ -5,9 +5,10 @@ ghost use Rattle.std.specs.Prelude.{◌≡◌, ◌≢◌, ◌≤◌};
 use crate::ended::Ended;
 use crate::gate::Gate;
 use crate::ground::{Ground, ground_of};
+use crate::pieces::opened;
 use crate::post::Post;
 use crate::work::worked_off;
-use ec_book::{BookFault, Step, Taken};
+use ec_book::Taken;
 use ec_branch::greedy;
 use ec_seats::{Search, Shared};
 use std::alloc::Global;
@@ -20,35 +21,19 @@ impl Gate for Quiet {
     fn before(&self, _worker: usize, _piece: u64) {}
 }
 
-/// How many pieces the last step left open, where it is a report; else none.
-fn opened(steps: &[Step]) -> usize {
-    if steps.is_empty() {
-        return 0;
-    }
-    match &steps[steps.len() - 1] {
-        Step::Reported { count, .. } => *count as usize,
-        _ => 0,
-    }
-}
-
 /// Offers the greedy plan, if there is one; why the worker ends, if it does.
 fn offered_greedy<S: Search, R: Wait>(
     rt: &R,
     alloc: Global,
     shared: &Shared<S>,
-    post: &mut Post<'_, '_, S>,
+    post: &mut Post<'_, '_, '_, S>,
 ) -> Option<Ended> {
     let plan = match greedy(alloc, post.seat.units()) {
         Ok(Some(plan)) => plan,
         Ok(None) => return None,
         Err(_) => return Some(Ended::Memory),
     };
-    match shared.better(rt, &mut post.seat, plan) {
-        Ok(()) => None,
-        Err((BookFault::NotBetter(_), _)) => None,
-        Err((BookFault::OutOfMemory, _)) => Some(Ended::Memory),
-        Err(_) => Some(Ended::Refused),
-    }
+    post.offer(rt, shared, plan)
 }
 
 /// Splits or closes one node after another, each of the lowest free piece, until as many pieces are free as there are
@@ -57,7 +42,7 @@ fn split_up<S: Search, R: Wait>(
     rt: &R,
     alloc: Global,
     shared: &Shared<S>,
-    post: &mut Post<'_, '_, S>,
+    post: &mut Post<'_, '_, '_, S>,
     ground: &mut Ground<S>,
     workers: usize,
 ) -> Option<Ended> {
@@ -74,9 +59,10 @@ fn split_up<S: Search, R: Wait>(
         if let Some(ended) = worked_off(rt, alloc, shared, post, ground, &took, &Quiet) {
             return Some(ended);
         }
+        let (first, end) = opened(post.seat.receipts());
         free = free
             .saturating_sub(1)
-            .saturating_add(opened(post.seat.receipts()));
+            .saturating_add(end.saturating_sub(first) as usize);
     }
     unreachable!()
 }
@@ -87,7 +73,7 @@ pub(crate) fn seed<S: Search, R: Wait>(
     rt: &R,
     alloc: Global,
     shared: &Shared<S>,
-    post: &mut Post<'_, '_, S>,
+    post: &mut Post<'_, '_, '_, S>,
     workers: usize,
 ) -> Option<Ended> {
     if let Some(ended) = offered_greedy(rt, alloc, shared, post) {

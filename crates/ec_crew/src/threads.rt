@@ -1,7 +1,8 @@
 //! The threads of the workers.
 
-ghost use Rattle.std.specs.Prelude.{◌≡◌, ◌⊎◌, ◌+◌, ◌≤◌, ◌↔◌, All, vec_len, vec_capacity};
+ghost use Rattle.std.specs.Prelude.{◌≡◌, ◌⊎◌, ◌+◌, ◌≤◌, ◌↔◌, All, vec_len, vec_capacity, length};
 ghost use Rattle.ec_seats.specs.Seats.{IsOf};
+ghost use Rattle.ec_tickets.specs.Lowest.{IsNewReader};
 ghost use Rattle.ec_crew.specs.declared.ended.Ended.TheVariants.{Done, Refused};
 
 use crate::ended::Ended;
@@ -9,31 +10,50 @@ use crate::gate::Gate;
 use crate::post::Post;
 use crate::work::work;
 use ec_seats::{Search, Seat, Shared};
+use ec_tickets::{Bound, Reader, Tickets};
 use std::alloc::Global;
 use std::sync::{Mutex, Wait};
 use std::thread;
 use std::thread::{JoinHandle, Threads};
 
-/// Puts each seat in a slot of its own, for which there is room.
-pub(crate) fn into_slots<'u, 'o, S: Search>(
+/// Puts each seat in a slot of its own, for which there is room, with a reader of the bound and tickets.
+pub(crate) fn into_slots<'u, 'o, 'b, S: Search>(
     seats: Vec<Seat<'u, 'o, S>>,
-    slots: Vec<Mutex<Post<'u, 'o, S>>>,
-) -> Vec<Mutex<Post<'u, 'o, S>>>
+    bound: &'b Bound,
+    readers: Vec<Reader>,
+    tickets: Vec<Tickets>,
+    slots: Vec<Mutex<Post<'u, 'o, 'b, S>>>,
+) -> Vec<Mutex<Post<'u, 'o, 'b, S>>>
     requires ours { All (λ s. IsOf S.loads S.slots S.order s) seats.items }
+    requires readers { (vec_len readers ≡ vec_len seats) × All (IsNewReader bound.now) readers.items }
+    requires tickets { vec_len tickets ≡ vec_len seats }
     requires empty { vec_len slots ≡ 0 }
     requires room { vec_len seats ≤ vec_capacity slots }
     ensures { vec_len result ≡ vec_len seats.entry }
 {
     let mut slots = slots;
+    let mut all_readers = readers.into_iter();
+    let mut all_tickets = tickets.into_iter();
     for seat in seats {
-        slots.push_reserved(Mutex::new(Post { seat }));
+        let Some(reader) = all_readers.next() else {
+            unreachable!()
+        };
+        let Some(tickets) = all_tickets.next() else {
+            unreachable!()
+        };
+        slots.push_reserved(Mutex::new(Post {
+            seat,
+            bound,
+            reader,
+            tickets,
+        }));
     }
     slots
 }
 
 /// Takes the seats out of their slots again; there is room for them.
 pub(crate) fn out_of_slots<'u, 'o, S: Search>(
-    slots: Vec<Mutex<Post<'u, 'o, S>>>,
+    slots: Vec<Mutex<Post<'u, 'o, '_, S>>>,
     seats: Vec<Seat<'u, 'o, S>>,
 ) -> Vec<Seat<'u, 'o, S>>
     requires empty { vec_len seats ≡ 0 }
@@ -48,26 +68,57 @@ pub(crate) fn out_of_slots<'u, 'o, S: Search>(
     seats
 }
 
-/// Lets each worker work in a thread of its own, of which the handles are given once all have ended. A worker whose
-/// thread can't be started is left out.
+/// Makes tickets of these pieces, from the first one up to, not including, `end`, in turn for the worker of each slot.
+pub(crate) fn deal<S: Search, R: Wait>(
+    rt: &R,
+    slots: &[Mutex<Post<'_, '_, '_, S>>],
+    first: u64,
+    end: u64,
+)
+    requires { 1 ≤ length slots.now }
+{
+    let mut next = 0;
+    for piece in first..end {
+        slots[next].lock(rt).push(piece);
+        next = if next + 1 < slots.len() { next + 1 } else { 0 };
+    }
+}
+
+/// Lets each worker work in a thread of its own, of which the handles are given once all have ended; there is room for
+/// them. A worker whose thread can't be started is left out.
 pub(crate) fn work_all<S: Search + Send + Sync, R: Threads + Wait + Sync, G: Gate + Sync>(
     rt: &R,
     alloc: Global,
     shared: &Shared<S>,
-    slots: &[Mutex<Post<'_, '_, S>>],
+    slots: &[Mutex<Post<'_, '_, '_, S>>],
     gate: &G,
     handles: Vec<JoinHandle<Ended>>,
-) -> Vec<JoinHandle<Ended>> {
-    thread::scope(thread::scope_env(), rt, |scope| {
-        let mut handles = handles;
-        for slot in slots {
-            let started = scope.spawn(move || work(rt, alloc, shared, &mut *slot.lock(rt), gate));
-            if let Ok(handle) = started {
-                let _ = handles.push(handle);
+) -> Vec<JoinHandle<Ended>>
+    requires empty { vec_len handles ≡ 0 }
+    requires room { length slots.now ≤ vec_capacity handles }
+{
+    thread::scope(
+        thread::scope_env(),
+        rt,
+        |scope|
+            requires { (vec_len handles ≡ 0) × (length slots.now ≤ vec_capacity handles) }
+        {
+            let mut handles = handles;
+            for slot in slots {
+                let started = scope.spawn(move || work(
+                    rt,
+                    alloc,
+                    shared,
+                    &mut *slot.lock(rt),
+                    gate,
+                ));
+                if let Ok(handle) = started {
+                    handles.push_reserved(handle);
+                }
             }
-        }
-        handles
-    })
+            handles
+        },
+    )
 }
 
 /// Why two workers ended: the book refused one of them, else memory was refused, else both were done.

@@ -36,7 +36,7 @@ pub(crate) enum Turn {
 fn given_back<S: Search, R: Wait>(
     rt: &R,
     shared: &Shared<S>,
-    post: &mut Post<'_, '_, S>,
+    post: &mut Post<'_, '_, '_, S>,
     piece: u64,
     why: Ended,
 ) -> Turn
@@ -57,7 +57,7 @@ fn given_back<S: Search, R: Wait>(
 fn reported<S: Search, R: Wait>(
     rt: &R,
     shared: &Shared<S>,
-    post: &mut Post<'_, '_, S>,
+    post: &mut Post<'_, '_, '_, S>,
     took: &Took,
     sub: Subtree,
     stop: Option<Ended>,
@@ -80,16 +80,17 @@ fn reported<S: Search, R: Wait>(
     }
 }
 
-/// Explores a piece at a value, with the lock free but for the plans that are offered as they are found; also says why
-/// the worker is to stop, if it is.
+/// Explores a piece at a value, with the lock free but for the plans that are offered as they are found, and where it
+/// `reads` at the published value once that is lower; also says why the worker is to stop, if it is.
 fn explored<'a, S: Search, R: Wait, G: Gate>(
     rt: &'a R,
     alloc: Global,
     shared: &'a Shared<S>,
-    post: &'a mut Post<'_, '_, S>,
+    post: &'a mut Post<'_, '_, '_, S>,
     ground: &mut Ground<S>,
     took: &Took,
     value: Option<u64>,
+    reads: bool,
     gate: &'a G,
 ) -> (Result<Subtree, AllocError>, Option<Ended>)
     requires reached { IsReachedPrefix (line_by slots_alone S.loads S.slots) S.order took.now.prefix }
@@ -106,6 +107,7 @@ fn explored<'a, S: Search, R: Wait, G: Gate>(
         gate,
         piece: took.piece,
         value,
+        reads,
         stop: None,
     };
     let Ground { loads, rest, .. } = ground;
@@ -113,22 +115,23 @@ fn explored<'a, S: Search, R: Wait, G: Gate>(
     (explored, watch.stop)
 }
 
-/// Explores a piece at a value, and reports the subtree.
+/// Explores a piece at a value, or at the published one where that is lower and it `reads`, and reports the subtree.
 pub(crate) fn take_turn<S: Search, R: Wait, G: Gate>(
     rt: &R,
     alloc: Global,
     shared: &Shared<S>,
-    post: &mut Post<'_, '_, S>,
+    post: &mut Post<'_, '_, '_, S>,
     ground: &mut Ground<S>,
     took: &Took,
     value: Option<u64>,
+    reads: bool,
     gate: &G,
 ) -> Turn
     requires reached { IsReachedPrefix (line_by slots_alone S.loads S.slots) S.order took.now.prefix }
     requires some { 1 ≤ took.now.grant }
     ensures leaves { LeavesPiece post.new.seat.receipts took.now.piece result }
 {
-    let (explored, stop) = explored(rt, alloc, shared, post, ground, took, value, gate);
+    let (explored, stop) = explored(rt, alloc, shared, post, ground, took, value, reads, gate);
     match explored {
         Ok(sub) if has_nodes(&sub.tree) => reported(rt, shared, post, took, sub, stop),
         _ => given_back(rt, shared, post, took.piece, stop.unwrap_or(Ended::Memory)),

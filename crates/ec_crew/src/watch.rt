@@ -2,6 +2,7 @@
 
 ghost use Rattle.std.specs.Option.{is_some};
 
+use crate::bounds::lesser;
 use crate::copying::copy_of;
 use crate::ended::Ended;
 use crate::gate::Gate;
@@ -14,20 +15,22 @@ use std::alloc::Global;
 use std::sync::Wait;
 
 /// What a worker watches while it explores a piece: the value, in wire bytes, that of the piece at first and then that
-/// of the last plan that it was told, or that of the book where this was lower; and why it is to stop, if it is.
+/// of the last plan that it was told, or that of the book or the published one where these were lower; whether it looks
+/// at the published one; and why it is to stop, if it is.
 #[derive(Drop)]
-pub(crate) struct CrewWatch<'a, 'u, 'o, S: Search, R: Wait, G: Gate> {
+pub(crate) struct CrewWatch<'a, 'u, 'o, 'b, S: Search, R: Wait, G: Gate> {
     pub alloc: Global,
     pub rt: &'a R,
     pub shared: &'a Shared<S>,
-    pub post: &'a mut Post<'u, 'o, S>,
+    pub post: &'a mut Post<'u, 'o, 'b, S>,
     pub gate: &'a G,
     pub piece: u64,
     pub value: Option<u64>,
+    pub reads: bool,
     pub stop: Option<Ended>,
 }
 
-impl<'a, 'u, 'o, S: Search, R: Wait, G: Gate> Guide for CrewWatch<'a, 'u, 'o, S, R, G> {
+impl<'a, 'u, 'o, 'b, S: Search, R: Wait, G: Gate> Guide for CrewWatch<'a, 'u, 'o, 'b, S, R, G> {
     ghost frame = { λ _. record { loads = S.loads; slots = S.slots; floor = 0 } };
 
     ghost halted = { λ s. is_some s.stop };
@@ -36,6 +39,9 @@ impl<'a, 'u, 'o, S: Search, R: Wait, G: Gate> Guide for CrewWatch<'a, 'u, 'o, S,
 
     fn bound(&mut self) -> Option<u64> {
         self.gate.before(self.post.worker(), self.piece);
+        if self.reads {
+            self.value = lesser(self.value, self.post.read());
+        }
         self.value
     }
 

@@ -18,12 +18,13 @@ use std::sync::Wait;
 /// The most nodes of one grant.
 const MOST_GRANT: u32 = 4096;
 
-/// Explores a piece until its subtree is reported; else why the worker ends.
+/// Explores a piece until its subtree is reported; else why the worker ends. Once a subtree was refused as ahead of the
+/// book, the piece is explored at the book's value, whatever is published.
 pub(crate) fn worked_off<S: Search, R: Wait, G: Gate>(
     rt: &R,
     alloc: Global,
     shared: &Shared<S>,
-    post: &mut Post<'_, '_, S>,
+    post: &mut Post<'_, '_, '_, S>,
     ground: &mut Ground<S>,
     took: &Took,
     gate: &G,
@@ -32,23 +33,28 @@ pub(crate) fn worked_off<S: Search, R: Wait, G: Gate>(
     requires some { 1 ≤ took.now.grant }
 {
     let mut value = took.value;
+    let mut reads = true;
     for _ in rt.forever() {
-        match take_turn(rt, alloc, shared, post, ground, took, value, gate) {
+        match take_turn(rt, alloc, shared, post, ground, took, value, reads, gate) {
             Turn::Reported => return None,
-            Turn::Again(now) => value = now,
+            Turn::Again(now) => {
+                value = now;
+                reads = false;
+            }
             Turn::Stopped(ended) => return Some(ended),
         }
     }
     unreachable!()
 }
 
-/// Takes pieces until none can be handed out any more, memory is refused or the book refuses a call; says which. While
+/// Takes pieces until none can be handed out any more, memory is refused or the book refuses a call; says which. It goes
+/// by its tickets before it asks for the lowest free piece, and makes tickets of the pieces of its own reports. While
 /// nothing can be handed out yet it asks again, ever more slowly.
 pub(crate) fn work<S: Search, R: Wait, G: Gate>(
     rt: &R,
     alloc: Global,
     shared: &Shared<S>,
-    post: &mut Post<'_, '_, S>,
+    post: &mut Post<'_, '_, '_, S>,
     gate: &G,
 ) -> Ended {
     let Ok(mut ground) = ground_of(alloc, post) else {
@@ -56,15 +62,18 @@ pub(crate) fn work<S: Search, R: Wait, G: Gate>(
     };
     let backoff = Backoff::new();
     for _ in rt.forever() {
-        match post.take(rt, shared, MOST_GRANT) {
-            Ok(Taken::Piece(took)) => {
+        match post.ask(rt, shared, MOST_GRANT) {
+            Ok(Some(Taken::Piece(took))) => {
                 backoff.reset();
-                if let Some(ended) = worked_off(rt, alloc, shared, post, &mut ground, &took, gate) {
+                let ended = worked_off(rt, alloc, shared, post, &mut ground, &took, gate);
+                post.push_opened();
+                if let Some(ended) = ended {
                     return ended;
                 }
             }
-            Ok(Taken::Later) => backoff.snooze(),
-            Ok(Taken::Done) => return Ended::Done,
+            Ok(Some(Taken::Later)) => backoff.snooze(),
+            Ok(Some(Taken::Done)) => return Ended::Done,
+            Ok(None) => {}
             Err(ended) => return ended,
         }
     }

@@ -1,0 +1,6 @@
+use Rattle.std.proofs.Common.{rules}
+use Rattle.ec_tickets.proofs.Falling.{splits}
+use Rattle.ec_tickets.proofs.bound.Bound.new.Goals as goal
+
+pub split_seat-another-requires : goal.split_seat-another-requires
+split_seat-another-requires c = (c.loop-number.invariant.0, search rules, splits _ _)
