@@ -1,10 +1,11 @@
 //! What a row's job answers, as one text.
 
-use crate::jobs::{Told, any, is_same, plain, planned};
+use crate::jobs::{Told, any, is_alike, is_same, plain, planned};
 use crate::row::{ALL, Row};
 use std::alloc::{AllocError, Global};
 use std::fmt::Write;
 use std::sync::Wait;
+use std::thread::Threads;
 
 /// Adds bytes as text.
 fn add(out: &mut String, bytes: &[u8]) -> Result<(), AllocError> {
@@ -65,8 +66,9 @@ fn add_check(
     add(out, checked.text.as_slice())
 }
 
-/// What the row's job left, and whether the other call that does it leaves the same; of a plan, text and status.
-fn told_twice(rt: &impl Wait, alloc: Global, row: &Row<'_>) -> (Told, bool) {
+/// What the row's job left, and whether the other call that does it leaves the same; of a plan, text and status, and
+/// where several workers make it, status and first line.
+fn told_twice(rt: &(impl Threads + Wait + Sync), alloc: Global, row: &Row<'_>) -> (Told, bool) {
     let other = any(rt, alloc, row);
     if row.job != "plan" {
         let told = plain(alloc, row);
@@ -75,6 +77,11 @@ fn told_twice(rt: &impl Wait, alloc: Global, row: &Row<'_>) -> (Told, bool) {
     }
     let told = planned(rt, alloc, row);
     let again = planned(rt, alloc, row);
+    if row.workers > 1 {
+        let alone = is_alike(&told, &other) || told.failed.cert;
+        let same = is_alike(&told, &again) && alone;
+        return (told, same);
+    }
     let alone = told.text.as_slice() == other.text.as_slice() && told.code == other.code;
     let same = is_same(&told, &again) && (alone || told.failed.cert);
     (told, same)
@@ -83,7 +90,7 @@ fn told_twice(rt: &impl Wait, alloc: Global, row: &Row<'_>) -> (Told, bool) {
 /// What a row's job answers: its status, its text, its certificate, the streams that failed, what is told of the
 /// certificate, and a full stop.
 pub(crate) fn answer_to(
-    rt: &impl Wait,
+    rt: &(impl Threads + Wait + Sync),
     alloc: Global,
     row: &Row<'_>,
 ) -> Result<String, AllocError> {

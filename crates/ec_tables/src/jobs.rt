@@ -11,6 +11,7 @@ use ec_wire::Io;
 use std::alloc::Global;
 use std::io;
 use std::sync::Wait;
+use std::thread::Threads;
 
 /// Which streams failed.
 #[derive(Clone, Copy, PartialEq, Eq)]
@@ -35,6 +36,18 @@ pub(crate) fn is_same(one: &Told, other: &Told) -> bool {
         && one.cert.as_slice() == other.cert.as_slice()
         && one.code == other.code
         && one.failed == other.failed
+}
+
+/// The first line of a text.
+fn first_line(text: &[u8]) -> Option<&[u8]> {
+    text.split(|byte| *byte == b'\n').next()
+}
+
+/// Whether two runs of several workers left the same of what doesn't hang on the order in which their pieces ended:
+/// status and first line.
+pub(crate) fn is_alike(one: &Told, other: &Told) -> bool {
+    one.code == other.code
+        && first_line(one.text.as_slice()) == first_line(other.text.as_slice())
 }
 
 /// A cost or a check, without a runtime.
@@ -65,14 +78,15 @@ pub(crate) fn plain(alloc: Global, row: &Row<'_>) -> Told {
 }
 
 /// A plan whose certificate is written.
-pub(crate) fn planned(rt: &impl Wait, alloc: Global, row: &Row<'_>) -> Told {
+pub(crate) fn planned(rt: &(impl Threads + Wait + Sync), alloc: Global, row: &Row<'_>) -> Told {
     let mut units = Io::new(FailsAt::new(row.units, row.calls.units));
     let mut held = Slow::new(alloc, row.calls.text);
     let mut kept = Slow::new(alloc, row.calls.cert);
     let mut text = Io::new(&mut held);
     let mut out = Io::new(&mut kept);
+    let workers = row.workers.clamp(1, 16);
     let nodes = row.nodes.clamp(1, 10_000_000);
-    let status = run_plan_to(rt, alloc, 1, nodes, &mut units, &mut text, &mut out);
+    let status = run_plan_to(rt, alloc, workers, nodes, &mut units, &mut text, &mut out);
     let failed = Failed {
         units: units.failed(),
         cert: out.failed(),
@@ -98,12 +112,13 @@ fn job_of(row: &Row<'_>) -> Job
     if row.job == "check" {
         return Job::Check;
     }
+    let workers = row.workers.clamp(1, 16);
     let nodes = row.nodes.clamp(1, 10_000_000);
-    Job::Plan { workers: 1, nodes }
+    Job::Plan { workers, nodes }
 }
 
 /// The job by the call that does any, and without a writer of a certificate.
-pub(crate) fn any(rt: &impl Wait, alloc: Global, row: &Row<'_>) -> Told {
+pub(crate) fn any(rt: &(impl Threads + Wait + Sync), alloc: Global, row: &Row<'_>) -> Told {
     let mut units = Io::new(FailsAt::new(row.units, row.calls.units));
     let mut cert = Io::new(FailsAt::new(row.cert, row.calls.cert));
     let mut held = Slow::new(alloc, row.calls.text);

@@ -12,9 +12,15 @@ use std::alloc::{AllocError, Global};
 use std::fmt::Write;
 use std::io;
 use std::sync::Wait;
+use std::thread::Threads;
 
 /// Tells a row that isn't answered as it says.
-fn tell(rt: &impl Wait, alloc: Global, out: &mut String, text: &str) -> Result<(), AllocError> {
+fn tell(
+    rt: &(impl Threads + Wait + Sync),
+    alloc: Global,
+    out: &mut String,
+    text: &str,
+) -> Result<(), AllocError> {
     let Some(row) = row_of(text) else {
         return write!(out, "no row: {text}\n");
     };
@@ -26,7 +32,11 @@ fn tell(rt: &impl Wait, alloc: Global, out: &mut String, text: &str) -> Result<(
 }
 
 /// What there is to tell of a table: the wrong rows, and how many rows there are.
-fn report(rt: &impl Wait, alloc: Global, table: &str) -> Result<String, AllocError> {
+fn report(
+    rt: &(impl Threads + Wait + Sync),
+    alloc: Global,
+    table: &str,
+) -> Result<String, AllocError> {
     let mut out = String::new(alloc);
     let mut count = 0u32;
     for text in table.split('~') {

@@ -1,5 +1,6 @@
 //! A row of the table: `job nodes units-calls cert-calls text-calls`, then `^`, what it answers, `^`, the units, and
-//! where it has one `^` and a certificate. Numbers that are left out are large.
+//! where it has one `^` and a certificate. Numbers that are left out are large. A plan by 16 workers is the job
+//! `plan/16`.
 
 /// How many calls each stream allows before it fails.
 #[derive(Clone, Copy)]
@@ -23,6 +24,7 @@ pub(crate) const ALL: Calls = Calls {
 #[derive(Clone, Copy)]
 pub(crate) struct Row<'a> {
     pub job: &'a str,
+    pub workers: usize,
     pub nodes: u32,
     pub calls: Calls,
     pub expected: &'a str,
@@ -38,6 +40,14 @@ fn number(word: Option<&str>) -> u32 {
     }
 }
 
+/// A job and its workers, one where none are named.
+fn job_and_workers(word: &str) -> (&str, usize) {
+    match word.split_once('/') {
+        Some((job, workers)) => (job, workers.parse::<usize>().ok().unwrap_or(1)),
+        None => (word, 1),
+    }
+}
+
 /// The row that a text is.
 pub(crate) fn row_of(text: &str) -> Option<Row<'_>> {
     let mut parts = text.split('^');
@@ -46,7 +56,7 @@ pub(crate) fn row_of(text: &str) -> Option<Row<'_>> {
     let units = parts.next()?;
     let cert = parts.next().unwrap_or("");
     let mut words = head.split_whitespace();
-    let job = words.next()?;
+    let (job, workers) = job_and_workers(words.next()?);
     let nodes = number(words.next());
     let calls = Calls {
         units: number(words.next()),
@@ -55,6 +65,7 @@ pub(crate) fn row_of(text: &str) -> Option<Row<'_>> {
     };
     Some(Row {
         job,
+        workers,
         nodes,
         calls,
         expected,

@@ -10,6 +10,7 @@ use std::io::Read;
 use std::rt::Files;
 use std::sync::Wait;
 use std::test::Fail;
+use std::thread::Threads;
 use std::{fs, io};
 
 /// The units that always meet in one of six ticks.
@@ -38,7 +39,7 @@ impl<'a> Read for Counted<'a> {
 /// What is written for these words and the units that always meet, with the status, and how often these were read.
 fn said_by<F: Files>(
     files: &F,
-    wait: &impl Wait,
+    wait: &(impl Threads + Wait + Sync),
     alloc: Global,
     words: &str,
 ) -> Result<String, Fail> {
@@ -93,7 +94,7 @@ fn a_plan_with_a_path(rt: HostRuntime) -> Result<(), Fail> {
 /// What each of these lines of words is answered with, one after the other.
 fn answers_of<F: Files>(
     files: &F,
-    wait: &impl Wait,
+    wait: &(impl Threads + Wait + Sync),
     alloc: Global,
     lines: &str,
 ) -> Result<String, Fail> {

@@ -68,6 +68,7 @@ const LINES: &str = "cost : <cost - ->|\
     check --cert=line.cert : <check line.cert ->|\
     plan : <plan 1 1000000 - ->|\
     plan --workers 1 : <plan 1 1000000 - ->|\
+    plan --workers 16 : <plan 16 1000000 - ->|\
     plan --nodes 1 : <plan 1 1 - ->|\
     plan --nodes=5 : <plan 1 5 - ->|\
     plan --nodes 10000000 : <plan 1 10000000 - ->|\
@@ -91,7 +92,7 @@ const REFUSED: &str = " : requires a subcommand|\
     check --cert p --cert p : '--cert <PATH>' cannot be used multiple times|\
     plan --cert p : unexpected argument '--cert'|\
     plan --workers 0 : invalid value '0' for '--workers <N>'|\
-    plan --workers 2 : invalid value '2' for '--workers <N>'|\
+    plan --workers 17 : invalid value '17' for '--workers <N>'|\
     plan --workers 1 --workers 1 : '--workers <N>' cannot be used multiple times|\
     plan --nodes 0 : invalid value '0' for '--nodes <N>'|\
     plan --nodes 10000001 : invalid value '10000001' for '--nodes <N>'|\
@@ -102,7 +103,7 @@ const REFUSED: &str = " : requires a subcommand|\
     plan --out : a value is required for '--out <PATH>'|\
     plan --out p --out q : '--out <PATH>' cannot be used multiple times|\
     plan 5 : unexpected argument '5'|\
-    plan --workers 2 : <error: invalid value '2' for '--workers <N>': 2 is not in 1..=1\n\nFor more information, try '--help'.\n>|\
+    plan --workers 17 : <error: invalid value '17' for '--workers <N>': 17 is not in 1..=16\n\nFor more information, try '--help'.\n>|\
     frames : <error: unrecognized subcommand 'frames'\n\nUsage: ecplan <COMMAND>\n\nFor more information, try '--help'.\n>";
 
 /// Words that ask for help, with a part of it.
@@ -114,6 +115,7 @@ const HELP: &str = "--help : Usage: ecplan <COMMAND>|\
     plan --help : Usage: ecplan plan [OPTIONS]|\
     plan --help : [default: 1000000]|\
     plan --workers 1 --help : nodes of the search tree|\
+    plan --help : How many workers search, 1 to 16|\
     check --help : Usage: ecplan check --cert <PATH>";
 
 #[test]
