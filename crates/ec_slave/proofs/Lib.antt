@@ -1,0 +1,4 @@
+pub mod RangeLemmas
+pub mod MapLemmas
+pub mod WriteLemmas
+pub mod StepLemmas
