@@ -10,6 +10,8 @@ mod laws;
 mod logical;
 mod request;
 mod slave;
+#[cfg(test)]
+mod tests;
 
 pub use fmmu::{Direction, Fmmu, Fmmus};
 pub use laws::{mapped_bytes, what_passes};

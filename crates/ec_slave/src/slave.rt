@@ -74,7 +74,7 @@ impl SlaveBox {
     pub fn peek(&self, at: u16) -> u8
         ensures { result ≡ get_or self.now at 0 }
     {
-        self.memory[usize::from(at)]
+        self.memory[at as usize]
     }
 
     /// Changes the byte of its memory at a place, and no other.
