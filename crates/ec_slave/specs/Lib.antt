@@ -4,3 +4,4 @@ pub mod Fmmus
 pub mod Logical
 pub mod Step
 pub mod Examples
+pub mod Journey

@@ -14,6 +14,6 @@ mod slave;
 mod tests;
 
 pub use fmmu::{Direction, Fmmu, Fmmus};
-pub use laws::{mapped_bytes, what_passes};
+pub use laws::{mapped_bytes, same_journey, what_passes};
 pub use request::Request;
 pub use slave::{Pass, SlaveBox};
