@@ -1,0 +1,5 @@
+pub mod RangeLemmas
+pub mod MapLemmas
+pub mod WriteLemmas
+pub mod StepLemmas
+pub mod JourneyLemmas
