@@ -33,7 +33,7 @@ pub(crate) fn add_open(
                 return Ok(());
             }
             let unit = usize::from(order[path.len()]);
-            let mut places = children_after(loads, order, path.as_slice());
+            let mut places = children_after(loads, order, path.as_slice(), false);
             for i in 0..trees.len() {
                 let Some(place) = places.next() else {
                     return Ok(());

@@ -17,15 +17,15 @@ use Rattle.ec_bounds.proofs.SetLemmas.{different-subset}
 use Rattle.ec_bounds.proofs.SubLemmas.{Sub, Sub-items, Sub-carried, Sub-groups, Sub-busy, All-Sub, sum_below-le}
 
 -- sums
-sum_below-add : (f g : ℕ → ℕ) (n : ℕ) → sum_below (λ k. f k + g k) n ≡ sum_below f n + sum_below g n
+pub sum_below-add : (f g : ℕ → ℕ) (n : ℕ) → sum_below (λ k. f k + g k) n ≡ sum_below f n + sum_below g n
 sum_below-add f g zero = refl
 sum_below-add f g (suc n) = let rest = sum_below-add f g n in omega arith
 
-sum_below-agree : (f g : ℕ → ℕ) (n : ℕ) → ((k : ℕ) → k < n → f k ≡ g k) → sum_below f n ≡ sum_below g n
+pub sum_below-agree : (f g : ℕ → ℕ) (n : ℕ) → ((k : ℕ) → k < n → f k ≡ g k) → sum_below f n ≡ sum_below g n
 sum_below-agree f g zero h = refl
 sum_below-agree f g (suc n) h = λ i. sum_below-agree f g n (λ k l. h k (omega arith)) i + h n (omega arith) i
 
-sum_below-none : (f : ℕ → ℕ) (n : ℕ) → ((k : ℕ) → k < n → f k ≡ 0) → sum_below f n ≡ 0
+pub sum_below-none : (f : ℕ → ℕ) (n : ℕ) → ((k : ℕ) → k < n → f k ≡ 0) → sum_below f n ≡ 0
 sum_below-none f zero h = refl
 sum_below-none f (suc n) h = let rest = sum_below-none f n (λ k l. h k (omega arith)) in let last = h n (omega arith) in omega arith
 
@@ -44,13 +44,13 @@ sum_below-one f (suc n) a h e =
           omega arith
     ]
 
-sum_below-split : (f : ℕ → ℕ) (a b : ℕ) → sum_below f (a + b) ≡ sum_below f a + sum_below (λ j. f (a + j)) b
+pub sum_below-split : (f : ℕ → ℕ) (a b : ℕ) → sum_below f (a + b) ≡ sum_below f a + sum_below (λ j. f (a + j)) b
 sum_below-split f a zero = rw add-zero (omega arith)
 sum_below-split f a (suc b) =
     rw add-suc (let rest = sum_below-split f a b in omega arith)
 
 -- how much one unit sends in k periods
-abbrev sends : ℕ → ℕ → ℕ → ℕ → ℕ
+abbrev pub sends : ℕ → ℕ → ℕ → ℕ → ℕ
 sends b p f t = cond (t % p == f) b 0
 
 sends-period : (b p f : ℕ) → f < p → sum_below (sends b p f) p ≡ b
@@ -113,7 +113,7 @@ bytes-cons x xs t s =
     ]
 
 -- the bytes that travel in a tick, in all slots
-abbrev moved : List Item → ℕ → ℕ
+abbrev pub moved : List Item → ℕ → ℕ
 moved [] t = 0
 moved (x ∷ xs) t = sends x.bytes x.period x.phase t + moved xs t
 
@@ -136,17 +136,17 @@ sum_bytes (x ∷ xs) n t h =
     ∙ sum_below-add (λ s. cond (is_sent t s x) x.bytes 0) (bytes xs t) n
     ∙ (λ i. one_slot n t x (All-head (λ y. y.slot < n) x xs h) i + sum_bytes xs n t (All-tail (λ y. y.slot < n) x xs h) i)
 
-heads : List Item → ℕ → ℕ → ℕ
+pub heads : List Item → ℕ → ℕ → ℕ
 heads xs n t = sum_below (head xs t) n
 
-raw_cost-parts : (xs : List Item) (n t : ℕ) → All (λ x. x.slot < n) xs → raw_cost xs n t ≡ heads xs n t + moved xs t
+pub raw_cost-parts : (xs : List Item) (n t : ℕ) → All (λ x. x.slot < n) xs → raw_cost xs n t ≡ heads xs n t + moved xs t
 unfolding raw_cost heads
 raw_cost-parts xs n t h =
     sum_below-agree (slot_raw xs t) (λ s. head xs t s + bytes xs t s) n (λ s _. slot_raw-parts xs t s)
     ∙ sum_below-add (head xs t) (bytes xs t) n
     ∙ ap (λ w. sum_below (head xs t) n + w) (sum_bytes xs n t h)
 
-heads-Sub : (xs ys : List Item) (n t : ℕ) → Sub xs ys → heads xs n t ≤ heads ys n t
+pub heads-Sub : (xs ys : List Item) (n t : ℕ) → Sub xs ys → heads xs n t ≤ heads ys n t
 unfolding heads
 heads-Sub xs ys n t r = sum_below-le (head xs t) (head ys t) n (λ s _. head-Sub xs ys t s r)
 
@@ -187,7 +187,7 @@ raw_cost-le xs n t = sum_below-le (slot_raw xs t) (slot_cost xs t) n (λ s _.
     elim (list_any (is_sent t s) xs) as (λ b. cond b (raw_of (2 + payload xs t s)) 0 ≤ cond b (wire_of (2 + payload xs t s)) 0) [ true ↦ omega arith | false ↦ omega arith ])
 
 -- below h either each value is at most w, or one is above
-above_or_all : (f : ℕ → ℕ) (h w : ℕ) → ((t : ℕ) × (w < f t)) ⊎ ((t : ℕ) → t < h → f t ≤ w)
+pub above_or_all : (f : ℕ → ℕ) (h w : ℕ) → ((t : ℕ) × (w < f t)) ⊎ ((t : ℕ) → t < h → f t ≤ w)
 above_or_all f zero w = inr (λ t l. absurd (omega arith))
 above_or_all f (suc h) w =
     elim (above_or_all f h w) [

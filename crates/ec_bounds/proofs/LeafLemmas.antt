@@ -39,7 +39,7 @@ leaf-bounds line v ps (full t s) plan within e legal h = absurd (full-bounds lin
 leaf-bounds line v ps average plan within e legal h = average_leaf-bounds line.loads line.slots v ps plan within e legal h
 
 -- a value that is at most a number is one
-below_some : (v w : Option ℕ) (b : ℕ) → v ≡ Some b → IsAtMost w v → (a : ℕ) × (w ≡ Some a) × (a ≤ b)
+pub below_some : (v w : Option ℕ) (b : ℕ) → v ≡ Some b → IsAtMost w v → (a : ℕ) × (w ≡ Some a) × (a ≤ b)
 below_some v w b is low = at w (subst (IsAtMost w) is low)
   where
     at : (w : Option ℕ) → IsAtMost w (Some b) → (a : ℕ) × (w ≡ Some a) × (a ≤ b)

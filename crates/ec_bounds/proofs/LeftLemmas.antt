@@ -48,13 +48,13 @@ demand-flags (l ∷ ls) [] h = refl
 demand-flags (l ∷ ls) (None ∷ ps) h = ap (λ w. l.bytes * (h / l.period) + w) (demand-flags ls ps h)
 demand-flags (l ∷ ls) (Some p ∷ ps) h = omega (arith, demand-flags ls ps h)
 
-some_same : {a b : ℕ} → Some a ≡ Some b → a ≡ b
+pub some_same : {a b : ℕ} → Some a ≡ Some b → a ≡ b
 some_same e = cc
 
-below_from : (a b : ℕ) → IsTrue (nat_lt a b) → a < b
+pub below_from : (a b : ℕ) → IsTrue (nat_lt a b) → a < b
 below_from a b h = grind (arith, nat_tests)
 
-below_to : (a b : ℕ) → a < b → IsTrue (nat_lt a b)
+pub below_to : (a b : ℕ) → a < b → IsTrue (nat_lt a b)
 below_to a b h = grind (arith, nat_tests)
 
 -- the test of the average

@@ -5,3 +5,4 @@ pub mod LeafLemmas
 pub mod LeftLemmas
 pub mod RestLemmas
 pub mod HeldLemmas
+pub mod WeightLemmas

@@ -3,6 +3,7 @@ use Rattle.std.specs.Prelude.{◌≡◌, ℕ, ◌+◌, ◌*◌, ◌/◌, ◌<◌
 use Rattle.ec_units.specs.declared.unit.Load.{Load}
 use Rattle.ec_loads.specs.Held.{Held}
 use Rattle.ec_loads.specs.Search.{nobody}
+use Rattle.ec_loads.specs.Weights.{least_weight}
 
 -- the loads in file order, and for each whether it has no place
 pub record Left : Type 0 where
@@ -14,6 +15,12 @@ abbrev pub demand_of : List Load → List Bool → ℕ → ℕ
 demand_of [] bs h = 0
 demand_of (l ∷ ls) [] h = 0
 demand_of (l ∷ ls) (b ∷ bs) h = (if b then l.bytes * (h / l.period) else 0) + demand_of ls bs h
+
+-- the bytes of the loads without a place, each by the least weights that it can travel in
+abbrev pub weighted_left : List Load → List Bool → List ℕ → ℕ → ℕ
+weighted_left [] bs w h = 0
+weighted_left (l ∷ ls) [] w h = 0
+weighted_left (l ∷ ls) (b ∷ bs) w h = (if b then l.bytes * least_weight w h l.period else 0) + weighted_left ls bs w h
 
 -- none has a place
 abbrev pub all_of : List Load → List Bool

@@ -50,6 +50,7 @@ impl Model for Rest {
 }
 
 impl Rest {
+    ghost use Rattle.ec_loads.specs.Held.{AreLoads};
     ghost use Rattle.ec_bounds.specs.Left.{Left, all_of};
 
     /// The units, none with a place.
@@ -114,6 +115,23 @@ impl Rest {
     {
         let _ticks = self.hyper.ticks();
         self.demand
+    }
+
+    /// The units in file order.
+    pub(crate) fn loads(&self) -> &[Load]
+        ensures value { result.now ≡ self.now.loads }
+        ensures units { AreLoads self.now.loads }
+        ensures few { length result.now ≤ 48 }
+    {
+        &self.table[..self.count]
+    }
+
+    /// For each unit in file order whether it has no place.
+    pub(crate) fn flags(&self) -> &[bool]
+        ensures value { result.now ≡ self.now.unplaced }
+        ensures each { length result.now ≡ length self.now.loads }
+    {
+        &self.unplaced[..self.count]
     }
 }
 

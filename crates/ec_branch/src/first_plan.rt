@@ -65,7 +65,7 @@ fn best_child(loads: &mut Loads, unit: usize) -> Option<Place>
         (λ p. IsBestChild loads.old.loads loads.old.slots loads.old.places unit p) }
 {
     let mut best = None;
-    let mut places = children_of(loads, unit);
+    let mut places = children_of(loads, unit, false);
     while let Some(place) = places.next() {
         loads.place(unit, place);
         best = better(best, place, fitting_cost(loads));

@@ -69,7 +69,7 @@ pub(crate) fn enter<G: Guide>(
         Some((unit, _)) => {
             let unit = usize::from(*unit);
             search.left -= 1;
-            let places = children_of(loads, unit);
+            let places = children_of(loads, unit, false);
             let trees = Vec::with_capacity(alloc, places.len())?;
             Ok(Entered::Split(Level {
                 unit,

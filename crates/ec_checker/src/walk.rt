@@ -34,7 +34,7 @@ pub(crate) fn walk(
             None => Err(CheckFault::Depth(number)),
             Some((unit, later)) => {
                 let unit = usize::from(*unit);
-                let mut places = children_of(loads, unit);
+                let mut places = children_of(loads, unit, false);
                 if trees.len() != places.len() {
                     return Err(CheckFault::Children(number, places.len(), trees.len()));
                 }

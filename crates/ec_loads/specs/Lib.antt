@@ -7,3 +7,4 @@ pub mod Line
 pub mod Search
 pub mod Shape
 pub mod Table
+pub mod Weights

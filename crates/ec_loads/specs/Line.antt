@@ -1,11 +1,17 @@
 -- A line of units, and by which rules its trees are made.
-use Rattle.std.specs.Prelude.{ℕ, List}
+use Rattle.std.specs.Prelude.{ℕ, Bool, true, false, List}
 use Rattle.ec_units.specs.declared.unit.Load.{Load}
 use Rattle.ec_loads.specs.Held.{Held}
 
--- by which rules the children of a prefix are made: slots by their first use, and each phase
+-- by which rules the children of a prefix are made: slots by their first use and each phase; or the same, but of the empty prefix phase 0 alone
 pub data Rules : Type 0 where
   slots_alone : Rules
+  turned_time : Rules
+
+-- the rules where time is turned, and where it isn't
+abbrev pub rules_if : Bool → Rules
+rules_if false = slots_alone
+rules_if true = turned_time
 
 -- the units in file order, the slot count, and the rules
 pub record Line : Type 0 where

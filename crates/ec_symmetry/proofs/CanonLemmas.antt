@@ -101,7 +101,7 @@ step_next ps plan u d e within low =
     ]
 
 -- a place of a plan is within its ranges
-phase_at : (loads : List Load) (plan : List Place) (u : ℕ) → u < length loads → length plan ≡ length loads → All (λ x. x.phase < x.period) (plan_items loads plan) → (get_or plan u nowhere).phase < (get_or loads u nobody).period
+pub phase_at : (loads : List Load) (plan : List Place) (u : ℕ) → u < length loads → length plan ≡ length loads → All (λ x. x.phase < x.period) (plan_items loads plan) → (get_or plan u nowhere).phase < (get_or loads u nobody).period
 phase_at [] plan u h e all = absurd (omega arith)
 phase_at (l ∷ ls) [] u h e all = absurd (omega arith)
 phase_at (l ∷ ls) (p ∷ ps) zero h e all = All-head (λ x. x.phase < x.period) _ (plan_items ls ps) all

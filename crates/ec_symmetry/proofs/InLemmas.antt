@@ -1,11 +1,11 @@
 -- Which places are children.
-use Rattle.std.proofs.Common.{◌≡◌, ℕ, zero, suc, ◌+◌, ◌<◌, ◌≤◌, ◌⊎◌, min, List, [], ◌∷◌, ◌++◌, map, get_or, refl, sym, ap, subst, arith, inl, inr}
+use Rattle.std.proofs.Common.{◌≡◌, ℕ, zero, suc, ◌+◌, ◌<◌, ◌≤◌, ◌⊎◌, min, true, false, if◌then◌else◌, List, [], ◌∷◌, ◌++◌, map, get_or, refl, sym, ap, subst, arith, inl, inr}
 use Rattle.std.specs.List.{flat_map, range_with_len}
 use Rattle.std.proofs.lemmas.Bool.{cases_eq}
 use Rattle.ec_units.specs.declared.slave.Place.{Place}
 use Rattle.ec_units.specs.declared.unit.Load.{Load}
-use Rattle.ec_loads.specs.Line.{Rules, slots_alone, Line, line_by}
-use Rattle.ec_loads.specs.Search.{Prefix, used, nobody, places_for, children_by, children}
+use Rattle.ec_loads.specs.Line.{Rules, slots_alone, turned_time, Line, line_by}
+use Rattle.ec_loads.specs.Search.{Prefix, used, nobody, places_for, has_no_place, phases_by, children}
 use Rattle.ec_symmetry.specs.Reached.{In, here, there}
 
 pub In-cases : {A : Type 0} {x y : A} {xs : List A} → In x (y ∷ xs) → (x ≡ y) ⊎ In x xs
@@ -36,13 +36,17 @@ In-flat_map : {A B : Type 0} (f : A → List B) {x : A} {y : B} {xs : List A} �
 In-flat_map f (here {x} {xs}) m = In-left (flat_map f xs) m
 In-flat_map f (there {x} {y = z} {xs} k) m = In-right (f z) (In-flat_map f k m)
 
--- which places are children, by the rules of slots alone
-pub In-children : (loads : List Load) (n : ℕ) (ps : Prefix) (u : ℕ) (p : Place) → p.phase < (get_or loads u nobody).period → p.slot ≤ used ps → p.slot < n → In p (children (line_by slots_alone loads n) ps u)
+-- which places are children
+pub In-places : (rules : Rules) (loads : List Load) (n : ℕ) (ps : Prefix) (u : ℕ) (p : Place) → p.phase < phases_by rules (get_or loads u nobody).period ps → p.slot ≤ used ps → p.slot < n → In p (children (line_by rules loads n) ps u)
 unfolding children
-In-children loads n ps u p phase low slot =
+In-places rules loads n ps u p phase low slot =
     let row : ℕ → List Place = λ f. map (λ s. record { phase = f; slot = s }) (range_with_len 0 (min (suc (used ps)) n)) in
-    In-flat_map row (In-range p.phase 0 (get_or loads u nobody).period (omega arith) (omega arith))
+    In-flat_map row (In-range p.phase 0 (phases_by rules (get_or loads u nobody).period ps) (omega arith) (omega arith))
     (In-map (λ s. record { phase = p.phase; slot = s }) (In-range p.slot 0 (min (suc (used ps)) n) (omega arith) (omega arith)))
+
+-- by the rules of slots alone
+pub In-children : (loads : List Load) (n : ℕ) (ps : Prefix) (u : ℕ) (p : Place) → p.phase < (get_or loads u nobody).period → p.slot ≤ used ps → p.slot < n → In p (children (line_by slots_alone loads n) ps u)
+In-children loads n ps u p phase low slot = In-places slots_alone loads n ps u p phase low slot
 
 range-In : (x a n : ℕ) → In x (range_with_len a n) → (a ≤ x) × (x < a + n)
 range-In x a zero m = elim m [ ]
@@ -79,26 +83,44 @@ flat_map-In f y (x ∷ xs) m =
       | inr right ↦ let r = flat_map-In f y xs right in (r.0, there r.1, r.2)
     ]
 
-places_for-In : (loads : List Load) (n : ℕ) (ps : Prefix) (u : ℕ) (p : Place) → In p (children_by slots_alone loads n ps u) → (p.phase < (get_or loads u nobody).period) × (p.slot ≤ used ps) × (p.slot < n)
-places_for-In loads n ps u p m =
-    let row : ℕ → List Place = λ f. map (λ s. record { phase = f; slot = s }) (range_with_len 0 (min (suc (used ps)) n)) in
-    let f = flat_map-In row p (range_with_len 0 (get_or loads u nobody).period) m in
-    let s = map-In (λ s. let q : Place = record { phase = f.0; slot = s } in q) p (range_with_len 0 (min (suc (used ps)) n)) f.2 in
+places_for-In : (phases n k : ℕ) (p : Place) → In p (places_for phases n k) → (p.phase < phases) × (p.slot ≤ k) × (p.slot < n)
+places_for-In phases n k p m =
+    let row : ℕ → List Place = λ f. map (λ s. record { phase = f; slot = s }) (range_with_len 0 (min (suc k) n)) in
+    let f = flat_map-In row p (range_with_len 0 phases) m in
+    let s = map-In (λ s. let q : Place = record { phase = f.0; slot = s } in q) p (range_with_len 0 (min (suc k) n)) f.2 in
     let phase : p.phase ≡ f.0 = ap (λ (w : Place). w.phase) s.2 in
     let slot : p.slot ≡ s.0 = ap (λ (w : Place). w.slot) s.2 in
-    let low = range-In f.0 0 (get_or loads u nobody).period f.1 in
-    let high = range-In s.0 0 (min (suc (used ps)) n) s.1 in
+    let low = range-In f.0 0 phases f.1 in
+    let high = range-In s.0 0 (min (suc k) n) s.1 in
     (omega (arith, low.1, phase), omega (arith, high.1, slot), omega (arith, high.1, slot))
 
-by_rules-In : (rules : Rules) (loads : List Load) (n : ℕ) (ps : Prefix) (u : ℕ) (p : Place) → In p (children_by rules loads n ps u) → (p.phase < (get_or loads u nobody).period) × (p.slot ≤ used ps) × (p.slot < n)
-by_rules-In slots_alone loads n ps u p m = places_for-In loads n ps u p m
+-- no unit tries more phases than its period has, and each at least one
+pub phases_by-most : (rules : Rules) (period : ℕ) (ps : Prefix) → phases_by rules period ps ≤ period
+phases_by-most slots_alone period ps = omega arith
+phases_by-most turned_time period ps =
+    elim (has_no_place ps) as (λ b. (if b then min 1 period else period) ≤ period) [
+      | true ↦ omega arith
+      | false ↦ omega arith
+    ]
+
+pub phases_by-least : (rules : Rules) (period : ℕ) (ps : Prefix) → 1 ≤ period → 1 ≤ phases_by rules period ps
+phases_by-least slots_alone period ps some = some
+phases_by-least turned_time period ps some =
+    elim (has_no_place ps) as (λ b. 1 ≤ (if b then min 1 period else period)) [
+      | true ↦ omega arith
+      | false ↦ some
+    ]
 
 -- by any rules they are within these limits
 pub children-In : (line : Line) (ps : Prefix) (u : ℕ) (p : Place) → In p (children line ps u) → (p.phase < (get_or line.loads u nobody).period) × (p.slot ≤ used ps) × (p.slot < line.slots)
 unfolding children
-children-In line ps u p m = by_rules-In line.rules line.loads line.slots ps u p m
+children-In line ps u p m =
+    let period = (get_or line.loads u nobody).period in
+    let r = places_for-In (phases_by line.rules period ps) line.slots (used ps) p m in
+    let most = phases_by-most line.rules period ps in
+    (omega (arith, most, r.0), r.1, r.2)
 
--- the children by the rules of slots alone
-pub children-is : (loads : List Load) (n : ℕ) (ps : Prefix) (u : ℕ) → children (line_by slots_alone loads n) ps u ≡ places_for (get_or loads u nobody).period n (used ps)
+-- the children by any rules
+pub children-is : (rules : Rules) (loads : List Load) (n : ℕ) (ps : Prefix) (u : ℕ) → children (line_by rules loads n) ps u ≡ places_for (phases_by rules (get_or loads u nobody).period ps) n (used ps)
 unfolding children
-children-is loads n ps u = refl
+children-is rules loads n ps u = refl

@@ -10,3 +10,6 @@ pub mod ReachLemmas
 pub mod FreeLemmas
 pub mod RuleLemmas
 pub mod PrefixLemmas
+pub mod ShiftLemmas
+pub mod TurnLemmas
+pub mod SendLemmas

@@ -1,17 +1,17 @@
 -- Prefixes that places make along an order, and their children.
-use Rattle.std.proofs.Common.{◌≡◌, ℕ, ◌≤◌, ◌==◌, false, List, [], ◌∷◌, ◌++◌, length, set, get_or, Some, refl, ap, sym, subst, ◌∙◌, arith}
+use Rattle.std.proofs.Common.{◌≡◌, ℕ, ◌≤◌, ◌==◌, ◌&&◌, Bool, false, if◌then◌else◌, List, [], ◌∷◌, ◌++◌, length, set, get_or, Some, refl, ap, sym, subst, arith}
 use Rattle.std.specs.List.{list_any}
 use Rattle.std.proofs.lemmas.Bool.{or_parts}
 use Rattle.ec_units.specs.declared.slave.Place.{Place}
 use Rattle.ec_units.specs.declared.unit.Load.{Load}
 use Rattle.ec_loads.specs.Held.{no_places}
-use Rattle.ec_loads.specs.Line.{slots_alone, line_by}
+use Rattle.ec_loads.specs.Line.{rules_if, line_by}
 use Rattle.ec_loads.specs.Search.{Prefix, nobody, places_for, different_numbers, children}
 use Rattle.ec_symmetry.specs.Orders.{has_repeat, IsOrder, with_places, prefix_of}
 use Rattle.ec_symmetry.proofs.FreeLemmas.{AreFree, AreFree-set, AreFree-none}
-use Rattle.ec_symmetry.proofs.InLemmas.{children-is}
 use Rattle.ec_symmetry.proofs.ReachLemmas.{SameSlots, SameSlots-none, SameSlots-more, used-same}
 use Rattle.ec_symmetry.proofs.SlotLemmas.{slots_of}
+use Rattle.ec_symmetry.proofs.TurnLemmas.{children-by}
 
 -- the places of a prefix are in the slots of the prefix
 slots-along : (ps : Prefix) (us : List ℕ) (before q : List Place) → has_repeat us ≡ false → AreFree ps us → length q ≤ length us → SameSlots ps before → SameSlots (with_places ps us q) (before ++ q)
@@ -33,9 +33,9 @@ slots-along ps (u ∷ us) before (p ∷ q) once free short same =
 slots-prefix : (loads : List Load) (order : List ℕ) (q : List Place) → IsOrder (length loads) order → length q ≤ length order → SameSlots (prefix_of loads order q) q
 slots-prefix loads order q is short = slots-along (no_places loads) order [] q is.once (AreFree-none loads order is.below) short (SameSlots-none loads)
 
--- by the rules of slots alone, the places after those of a path are the children of its prefix
-pub children-after : (loads : List Load) (n : ℕ) (order : List ℕ) (u : ℕ) (q : List Place) → IsOrder (length loads) order → length q ≤ length order
-    → places_for (get_or loads u nobody).period n (different_numbers (slots_of q)) ≡ children (line_by slots_alone loads n) (prefix_of loads order q) u
-children-after loads n order u q is short =
-    ap (places_for (get_or loads u nobody).period n) (sym (used-same (prefix_of loads order q) q (slots-prefix loads order q is short)))
-    ∙ sym (children-is loads n (prefix_of loads order q) u)
+-- the places after those of a path are the children of its prefix
+pub children-after : (turned : Bool) (loads : List Load) (n : ℕ) (order : List ℕ) (u : ℕ) (q : List Place) → 1 ≤ (get_or loads u nobody).period → IsOrder (length loads) order → length q ≤ length order
+    → places_for (if turned && (different_numbers (slots_of q) == 0) then 1 else (get_or loads u nobody).period) n (different_numbers (slots_of q)) ≡ children (line_by (rules_if turned) loads n) (prefix_of loads order q) u
+children-after turned loads n order u q some is short =
+    children-by turned loads n (prefix_of loads order q) u (different_numbers (slots_of q)) some
+    (sym (used-same (prefix_of loads order q) q (slots-prefix loads order q is short)))

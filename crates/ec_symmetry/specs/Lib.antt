@@ -2,3 +2,4 @@ pub mod Choices
 pub mod Orders
 pub mod Reached
 pub mod Renamed
+pub mod Turned

@@ -1,8 +1,8 @@
 //! The places that a unit can take after a prefix.
 
-ghost use Rattle.std.specs.Prelude.{◌≡◌, ℕ, ◌<◌, ◌≤◌, if◌then◌else◌, length, get_or};
+ghost use Rattle.std.specs.Prelude.{◌≡◌, ℕ, ◌<◌, ◌≤◌, ◌==◌, ◌&&◌, if◌then◌else◌, length, get_or};
 ghost use Rattle.std.specs.Iterator.{YieldsFirst, item_count};
-ghost use Rattle.ec_loads.specs.Line.{slots_alone, line_of};
+ghost use Rattle.ec_loads.specs.Line.{rules_if, line_of};
 ghost use Rattle.ec_loads.specs.Search.{places_for, children};
 ghost use Rattle.ec_symmetry.specs.Orders.{IsOrder, prefix_of};
 
@@ -51,35 +51,44 @@ pub fn choices(period: u16, slots: u8, used: u8, turned: bool) -> Children
     }
 }
 
-/// The places that the next unit of an order can take after these places of the units before it, by the rules of
-/// slots alone, in child order. What the loads hold doesn't count. Takes no memory.
-pub fn children_after(loads: &Loads, order: &[u8], before: &[Place]) -> Children
+/// The places of a unit with this period in ticks after units in so many different slots; where time is turned and
+/// no slot is in use, those of phase 0 alone.
+fn places_after(period: u16, slots: u8, used: u8, turned: bool) -> Children
+    ensures { result ≡ places_for (if turned && (used == 0) then 1 else period) slots used }
+{
+    choices(period, slots, used, turned && used == 0)
+}
+
+/// The places that the next unit of an order can take after these places of the units before it, in child order: by
+/// slots alone, or where time is turned, which leaves the first unit of the order phase 0 alone. What the loads hold
+/// doesn't count. Takes no memory.
+pub fn children_after(loads: &Loads, order: &[u8], before: &[Place], turned: bool) -> Children
     requires order { IsOrder (length loads.now.loads) order.now }
     requires few { length before.now < length order.now }
-    ensures { result ≡ children (line_of slots_alone loads.now) (prefix_of loads.now.loads order.now before.now) (get_or order.now (length before.now) 0) }
+    ensures { result ≡ children (line_of (rules_if turned) loads.now) (prefix_of loads.now.loads order.now before.now) (get_or order.now (length before.now) 0) }
 {
     let unit = usize::from(order[before.len()]);
-    choices(
+    places_after(
         loads.loads()[unit].period,
         loads.slots(),
         used_slots(before),
-        false,
+        turned,
     )
 }
 
-/// The places that a unit can take after the places so far, by the rules of slots alone, in child order. Takes no
-/// memory.
-pub fn children_of(loads: &Loads, unit: usize) -> Children
+/// The places that a unit can take after the places so far, in child order: by slots alone, or where time is turned,
+/// which leaves phase 0 alone as long as no unit has a place. Takes no memory.
+pub fn children_of(loads: &Loads, unit: usize, turned: bool) -> Children
     requires { unit < length loads.now.places }
-    ensures { result ≡ children (line_of slots_alone loads.now) loads.now.places unit }
+    ensures { result ≡ children (line_of (rules_if turned) loads.now) loads.now.places unit }
 {
     let mut table = NO_PLACES;
     let count = gather(loads.places(), &mut table);
-    choices(
+    places_after(
         loads.loads()[unit].period,
         loads.slots(),
         used_slots(&table[..count]),
-        false,
+        turned,
     )
 }
 

@@ -5,6 +5,7 @@ mod child;
 mod law;
 mod rename;
 mod slots;
+mod turn;
 
 pub use child::{Children, children_after, children_of, choices};
 pub use law::{every_plan_is_reached, every_plan_is_reached_by, slots_have_no_gap};

@@ -1,14 +1,16 @@
-//! Plans whose slots are renamed by their first use.
+//! Plans that the children reach: slots renamed by their first use, and time turned.
 
-ghost use Rattle.std.specs.Prelude.{◌≡◌, ℕ, ◌<◌, length, All, IfOk, false};
+ghost use Rattle.std.specs.Prelude.{◌≡◌, ℕ, ◌<◌, length, All, IfOk};
 ghost use Rattle.ec_units.specs.Load.{loads_of};
 ghost use Rattle.ec_loads.specs.Legal.{IsLegal};
-ghost use Rattle.ec_loads.specs.Line.{slots_alone, line_by};
-ghost use Rattle.ec_symmetry.specs.Reached.{IsInRange, IsReached, CostsAlike};
+ghost use Rattle.ec_loads.specs.Line.{rules_if, line_by};
+ghost use Rattle.ec_symmetry.specs.Reached.{IsInRange, IsReached};
 ghost use Rattle.ec_symmetry.specs.Renamed.{swap_place as swapped_place, swap_slots as swapped_slots, renamed, IsRenamed};
+ghost use Rattle.ec_symmetry.specs.Turned.{turned_plan, CostsAsPlan};
 
+use crate::turn::{first_phase, send_earlier};
 use ec_loads::{Places, Plan};
-use ec_units::{Place, Units};
+use ec_units::{Place, Unit, Units};
 use std::alloc::{AllocError, Global};
 
 /// The place where two slots are exchanged.
@@ -59,8 +61,23 @@ fn rename(places: &mut [Place], order: &[u8])
     }
 }
 
-/// A plan of equal cost in every tick that the children by slots alone reach, unit by unit in this order: the plan
-/// with its slots renamed by their first use in the order. It is legal where the plan is. Units are numbered in file order.
+/// Sends the places earlier where time is turned, and renames their slots.
+fn make_canonical(places: &mut [Place], units: &[Unit], order: &[u8], turned: bool)
+    requires whole { length places.old ≡ length units.now }
+    requires order { All (λ u. u < length places.old) order.now }
+    ensures { places.new ≡ renamed 0 order.now (turned_plan turned (loads_of units.now) order.now places.old) }
+{
+    if turned {
+        let ticks = first_phase(places, order);
+        send_earlier(places, units, ticks);
+    }
+    rename(places, order);
+}
+
+/// A plan that the children reach, unit by unit in this order: the plan with its slots renamed by their first use in
+/// the order, and where time is turned sent earlier by the phase of the order's first unit, which so gets phase 0. It
+/// costs in every tick what the plan costs, or where time is turned in some later tick, and the busiest tick costs the
+/// same. It is legal where the plan is. Units are numbered in file order.
 pub fn canonical(
     alloc: Global,
     plan: &Plan,
@@ -70,15 +87,14 @@ pub fn canonical(
 ) -> Result<Plan, AllocError>
     requires range { IsInRange (loads_of units.now.units) units.now.slots plan.now.places }
     requires order { All (λ u. u < length units.now.units) order.now }
-    requires turned { turned ≡ false }
-    ensures reached { IfOk result (λ r. IsReached (line_by slots_alone (loads_of units.now.units) units.now.slots) order.now r.places) }
-    ensures costs { IfOk result (λ r. CostsAlike (loads_of units.now.units) units.now.slots r.places plan.now.places) }
+    ensures reached { IfOk result (λ r. IsReached (line_by (rules_if turned) (loads_of units.now.units) units.now.slots) order.now r.places) }
+    ensures costs { IfOk result (λ r. CostsAsPlan turned (loads_of units.now.units) units.now.slots r.places plan.now.places) }
     ensures legal { IfOk result (λ r. IsLegal (loads_of units.now.units) units.now.slots plan.now.places → IsLegal (loads_of units.now.units) units.now.slots r.places) }
     ensures range { IfOk result (λ r. IsInRange (loads_of units.now.units) units.now.slots r.places) }
-    ensures names { IfOk result (λ r. IsRenamed plan.now.places r.places) }
+    ensures names { IfOk result (λ r. IsRenamed (turned_plan turned (loads_of units.now.units) order.now plan.now.places) r.places) }
 {
     let mut places = plan.places.as_slice().to_vec(alloc)?;
-    rename(places.as_mut_slice(), order);
+    make_canonical(places.as_mut_slice(), units.units.as_slice(), order, turned);
     Ok(Plan {
         places: Places::new(places),
     })
