@@ -30,7 +30,7 @@ impl From<AllocError> for TextFault {
 
 /// Adds the line of a frame.
 fn push_frame(text: &mut String, tick: u32, slot: u8, frame: &[u8]) -> Result<(), AllocError>
-    requires { (16 ≤ length frame.now) × (length frame.now ≤ 1514) }
+    requires { (60 ≤ length frame.now) × (length frame.now ≤ 1514) }
     ensures { OnOk result (string_bytes text.new ≡ string_bytes text.old ++ frame_line tick slot frame.now) }
 {
     let wire = frame_wire(frame.len() as u32 - 14);
