@@ -68,7 +68,7 @@ range-more a (suc n) =
     let e : a + 1 + n ≡ a + suc n = omega arith in
     ap (λ w. a ∷ w) (range-more (a + 1) n ∙ ap (λ m. range_with_len (a + 1) n ++ m ∷ []) e)
 
-range-one : (n : ℕ) → range_with_len 0 (n + 1) ≡ range_with_len 0 n ++ n ∷ []
+pub range-one : (n : ℕ) → range_with_len 0 (n + 1) ≡ range_with_len 0 n ++ n ∷ []
 range-one n = rw add-one (range-more 0 n ∙ ap (λ m. range_with_len 0 n ++ m ∷ []) (zero-add n))
 
 sum-range : (h : ℕ → ℕ) (n : ℕ) → sum_by h (range_with_len 0 n) ≡ sum_below h n
@@ -109,6 +109,13 @@ filter-no p (x ∷ xs) y h =
           ∙ filter-no p xs y h
           ∙ sym (cond-false (p x) (x ∷ filter p xs) (filter p xs) b)
     ]
+
+-- the slots that pass a test so far, and one more
+pub busy-yes : (p : ℕ → Bool) (xs : List ℕ) (n : ℕ) → p n ≡ true → xs ≡ filter p (range_with_len 0 n) → xs ++ n ∷ [] ≡ filter p (range_with_len 0 (n + 1))
+busy-yes p xs n h had = (λ i. had i ++ n ∷ []) ∙ sym (filter-yes p (range_with_len 0 n) n h) ∙ ap (filter p) (sym (range-one n))
+
+pub busy-no : (p : ℕ → Bool) (xs : List ℕ) (n : ℕ) → p n ≡ false → xs ≡ filter p (range_with_len 0 n) → xs ≡ filter p (range_with_len 0 (n + 1))
+busy-no p xs n h had = had ∙ sym (filter-no p (range_with_len 0 n) n h) ∙ ap (filter p) (sym (range-one n))
 
 map-push : {X Y : Type 0} (f : X → Y) (xs : List X) (y : X) → map f (xs ++ y ∷ []) ≡ map f xs ++ f y ∷ []
 map-push f [] y = refl

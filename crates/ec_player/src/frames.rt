@@ -135,6 +135,43 @@ fn slot_frames(
     Ok(frames)
 }
 
+/// Whether a slot carries something in this tick.
+fn is_carrying(groups: &[Group], tick: u32, slot: u8) -> bool
+    requires { All (λ g. 1 ≤ g.period) groups.now }
+    ensures { result ≡ carries groups.now tick slot }
+{
+    for group in groups {
+        if is_going(group, tick, slot) {
+            return true;
+        }
+    }
+    false
+}
+
+/// The slots that carry something in a tick, in order: those of the frames of the tick.
+///
+/// # Errors
+///
+/// `AllocError` where memory ran out.
+pub fn busy_slots(
+    alloc: Global,
+    units: &Units,
+    mapping: &Mapping,
+    tick: u32,
+) -> Result<Vec<u8>, AllocError>
+    requires { HasLayout units.now mapping.now }
+    ensures { IfOk result (λ v. v.items ≡ filter (carries mapping.now.groups tick) (range_with_len 0 units.now.slots)) }
+{
+    let groups = mapping.groups.as_slice();
+    let mut slots = Vec::new(alloc);
+    for slot in 0..units.slots {
+        if is_carrying(groups, tick, slot) {
+            slots.push(slot)?;
+        }
+    }
+    Ok(slots)
+}
+
 /// The frames of a tick (ETG.1000.4, clauses 5.3 and 5.4), by slot: one for each slot that carries something, with a
 /// logical read-write datagram for each group that travels, by period and phase. Outputs are those of the image, whose
 /// first byte is at the logical address 0x00010000; inputs are sent as 0. On the wire the frames take 24 bytes more each

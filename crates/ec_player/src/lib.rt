@@ -4,4 +4,4 @@
 mod frames;
 mod image;
 
-pub use frames::tick_frames;
+pub use frames::{busy_slots, tick_frames};

@@ -1,0 +1,13 @@
+//! What is told of the frames of a plan: the lines of the FMMU records and of each tick's frames, and the same frames as
+//! a capture file.
+#![tactic(auto)]
+
+mod capture;
+mod hex;
+mod lines;
+mod stations;
+mod ticks;
+
+pub use capture::capture_of;
+pub use lines::frames_text;
+pub use ticks::TextFault;
