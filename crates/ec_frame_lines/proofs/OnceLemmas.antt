@@ -95,12 +95,12 @@ heads_same g h gs hs p q there back =
     elim (or_cases (is_same (group_numbers h) (group_numbers g)) (found (group_numbers g) hs) there) [
       | inl a ↦ sym (same_is (group_numbers h) (group_numbers g) a)
       | inr b ↦ elim (or_cases (is_same (group_numbers g) (group_numbers h)) (found (group_numbers h) gs) back) [
-          | inl a ↦ same_is (group_numbers g) (group_numbers h) a
-          | inr d ↦
-              let one = found_behind h (group_numbers g) hs q b in
-              let other = before_back (group_numbers g) (group_numbers h) (found_behind g (group_numbers h) gs p d) in
-              absurd (true≢false (sym one ∙ other))
-        ]
+        | inl a ↦ same_is (group_numbers g) (group_numbers h) a
+        | inr d ↦
+            let one = found_behind h (group_numbers g) hs q b in
+            let other = before_back (group_numbers g) (group_numbers h) (found_behind g (group_numbers h) gs p d) in
+            absurd (true≢false (sym one ∙ other))
+      ]
     ]
 
 tails_same : (g h : Group) (gs hs : List Group) (k : List ℕ) → group_numbers g ≡ group_numbers h → All (Before g) gs → (found k (g ∷ gs) ≡ true → found k (h ∷ hs) ≡ true) → found k gs ≡ true → found k hs ≡ true

@@ -64,43 +64,157 @@ const BOTH: [u8; 32] = [
 #[test]
 fn by_position(rt: HostRuntime) -> Result<(), Fail> {
     // position 65535: it rises to 0, and nothing is written
-    assert!(rt; comes_back(rt.alloc(), (0, &[]), &[2, 0, 255, 255, 0, 0x10, 1, 0, 0, 0, 1, 0, 0], &[2, 0, 0, 0, 0, 0x10, 1, 0, 0, 0, 1, 0, 0], (0x1000, &[0]))?);
+    assert!(rt;
+        comes_back(
+            rt.alloc(),
+            (0, &[]),
+            &[2, 0, 255, 255, 0, 0x10, 1, 0, 0, 0, 1, 0, 0],
+            &[2, 0, 0, 0, 0, 0x10, 1, 0, 0, 0, 1, 0, 0],
+            (0x1000, &[0])
+        )?
+    );
     // position 0
-    assert!(rt; comes_back(rt.alloc(), (0, &[]), &[2, 0, 0, 0, 0, 0x10, 1, 0, 0, 0, 1, 0, 0], &[2, 0, 1, 0, 0, 0x10, 1, 0, 0, 0, 1, 1, 0], (0x1000, &[1]))?);
+    assert!(rt;
+        comes_back(
+            rt.alloc(),
+            (0, &[]),
+            &[2, 0, 0, 0, 0, 0x10, 1, 0, 0, 0, 1, 0, 0],
+            &[2, 0, 1, 0, 0, 0x10, 1, 0, 0, 0, 1, 1, 0],
+            (0x1000, &[1])
+        )?
+    );
     // a broadcast past the end of the memory
-    assert!(rt; comes_back(rt.alloc(), (0xFFFF, &[3]), &[7, 0, 0, 0, 255, 255, 2, 0, 0, 0, 8, 9, 0, 0], &[7, 0, 1, 0, 255, 255, 2, 0, 0, 0, 8, 9, 0, 0], (0xFFFF, &[3]))?);
+    assert!(rt;
+        comes_back(
+            rt.alloc(),
+            (0xFFFF, &[3]),
+            &[7, 0, 0, 0, 255, 255, 2, 0, 0, 0, 8, 9, 0, 0],
+            &[7, 0, 1, 0, 255, 255, 2, 0, 0, 0, 8, 9, 0, 0],
+            (0xFFFF, &[3])
+        )?
+    );
     // a broadcast of the last byte joins it with what came
-    assert!(rt; comes_back(rt.alloc(), (0xFFFF, &[3]), &[7, 0, 255, 255, 255, 255, 1, 0, 0, 0, 8, 255, 255], &[7, 0, 0, 0, 255, 255, 1, 0, 0, 0, 11, 0, 0], (0xFFFF, &[3]))?);
+    assert!(rt;
+        comes_back(
+            rt.alloc(),
+            (0xFFFF, &[3]),
+            &[7, 0, 255, 255, 255, 255, 1, 0, 0, 0, 8, 255, 255],
+            &[7, 0, 0, 0, 255, 255, 1, 0, 0, 0, 11, 0, 0],
+            (0xFFFF, &[3])
+        )?
+    );
     Ok(())
 }
 
 #[test]
 fn by_station(rt: HostRuntime) -> Result<(), Fail> {
     // station 0 gives what was there, and the counter rises by 3
-    assert!(rt; comes_back(rt.alloc(), (0, &[]), &[6, 0, 0, 0, 0, 0x10, 1, 0, 0, 0, 7, 0, 0], &[6, 0, 0, 0, 0, 0x10, 1, 0, 0, 0, 0, 3, 0], (0x1000, &[7]))?);
+    assert!(rt;
+        comes_back(
+            rt.alloc(),
+            (0, &[]),
+            &[6, 0, 0, 0, 0, 0x10, 1, 0, 0, 0, 7, 0, 0],
+            &[6, 0, 0, 0, 0, 0x10, 1, 0, 0, 0, 0, 3, 0],
+            (0x1000, &[7])
+        )?
+    );
     // the first of two datagrams gives the slave its station, by which the second one reads it
-    assert!(rt; comes_back(rt.alloc(), (0, &[]), &[5, 0, 0, 0, 16, 0, 2, 0x80, 0, 0, 5, 1, 0, 0, 4, 1, 5, 1, 16, 0, 2, 0, 0, 0, 0, 0, 0, 0], &[5, 0, 0, 0, 16, 0, 2, 0x80, 0, 0, 5, 1, 1, 0, 4, 1, 5, 1, 16, 0, 2, 0, 0, 0, 5, 1, 1, 0], (16, &[5, 1]))?);
+    assert!(rt;
+        comes_back(
+            rt.alloc(),
+            (0, &[]),
+            &[
+                5, 0, 0, 0, 16, 0, 2, 0x80, 0, 0, 5, 1, 0, 0, 4, 1, 5, 1, 16, 0, 2, 0, 0, 0, 0, 0,
+                0, 0
+            ],
+            &[
+                5, 0, 0, 0, 16, 0, 2, 0x80, 0, 0, 5, 1, 1, 0, 4, 1, 5, 1, 16, 0, 2, 0, 0, 0, 5, 1,
+                1, 0
+            ],
+            (16, &[5, 1])
+        )?
+    );
     Ok(())
 }
 
 #[test]
 fn left_alone(rt: HostRuntime) -> Result<(), Fail> {
     // BRW, ARMW and FRMW
-    assert!(rt; comes_back(rt.alloc(), (0, &[]), &[9, 0, 0, 0, 0, 16, 1, 0, 0, 0, 7, 0, 0], &[9, 0, 0, 0, 0, 16, 1, 0, 0, 0, 7, 0, 0], (0x1000, &[0]))?);
-    assert!(rt; comes_back(rt.alloc(), (0, &[]), &[13, 0, 0, 0, 0, 16, 1, 0, 0, 0, 7, 0, 0], &[13, 0, 0, 0, 0, 16, 1, 0, 0, 0, 7, 0, 0], (0x1000, &[0]))?);
-    assert!(rt; comes_back(rt.alloc(), (0, &[]), &[14, 0, 0, 0, 0, 16, 1, 0, 0, 0, 7, 0, 0], &[14, 0, 0, 0, 0, 16, 1, 0, 0, 0, 7, 0, 0], (0x1000, &[0]))?);
+    assert!(rt;
+        comes_back(
+            rt.alloc(),
+            (0, &[]),
+            &[9, 0, 0, 0, 0, 16, 1, 0, 0, 0, 7, 0, 0],
+            &[9, 0, 0, 0, 0, 16, 1, 0, 0, 0, 7, 0, 0],
+            (0x1000, &[0])
+        )?
+    );
+    assert!(rt;
+        comes_back(
+            rt.alloc(),
+            (0, &[]),
+            &[13, 0, 0, 0, 0, 16, 1, 0, 0, 0, 7, 0, 0],
+            &[13, 0, 0, 0, 0, 16, 1, 0, 0, 0, 7, 0, 0],
+            (0x1000, &[0])
+        )?
+    );
+    assert!(rt;
+        comes_back(
+            rt.alloc(),
+            (0, &[]),
+            &[14, 0, 0, 0, 0, 16, 1, 0, 0, 0, 7, 0, 0],
+            &[14, 0, 0, 0, 0, 16, 1, 0, 0, 0, 7, 0, 0],
+            (0x1000, &[0])
+        )?
+    );
     // the counter of the second datagram lacks a byte, so the first isn't done either
-    assert!(rt; comes_back(rt.alloc(), (0, &[]), &[2, 0, 0, 0, 0, 16, 1, 0x80, 0, 0, 7, 0, 0, 0, 0, 0, 0, 0, 0, 0, 0, 0, 0, 0], &[2, 0, 0, 0, 0, 16, 1, 0x80, 0, 0, 7, 0, 0, 0, 0, 0, 0, 0, 0, 0, 0, 0, 0, 0], (0x1000, &[0]))?);
+    assert!(rt;
+        comes_back(
+            rt.alloc(),
+            (0, &[]),
+            &[
+                2, 0, 0, 0, 0, 16, 1, 0x80, 0, 0, 7, 0, 0, 0, 0, 0, 0, 0, 0, 0, 0, 0, 0, 0
+            ],
+            &[
+                2, 0, 0, 0, 0, 16, 1, 0x80, 0, 0, 7, 0, 0, 0, 0, 0, 0, 0, 0, 0, 0, 0, 0, 0
+            ],
+            (0x1000, &[0])
+        )?
+    );
     Ok(())
 }
 
 #[test]
 fn by_logical_address(rt: HostRuntime) -> Result<(), Fail> {
     // two bytes at the end of the logical addresses
-    assert!(rt; comes_back(rt.alloc(), (0x0610, &TOP), &[10, 0, 0xFE, 255, 255, 255, 2, 0, 0, 0, 5, 5, 0, 0], &[10, 0, 0xFE, 255, 255, 255, 2, 0, 0, 0, 0, 0, 1, 0], (0, &[0, 0]))?);
+    assert!(rt;
+        comes_back(
+            rt.alloc(),
+            (0x0610, &TOP),
+            &[10, 0, 0xFE, 255, 255, 255, 2, 0, 0, 0, 5, 5, 0, 0],
+            &[10, 0, 0xFE, 255, 255, 255, 2, 0, 0, 0, 0, 0, 1, 0],
+            (0, &[0, 0])
+        )?
+    );
     // four bytes, of which the last two have no place in the memory
-    assert!(rt; comes_back(rt.alloc(), (0x0600, &LAST), &[11, 0, 0, 0, 1, 0, 4, 0, 0, 0, 1, 2, 3, 4, 0, 0], &[11, 0, 0, 0, 1, 0, 4, 0, 0, 0, 1, 2, 3, 4, 1, 0], (0xFFFE, &[1, 2, 0, 0]))?);
+    assert!(rt;
+        comes_back(
+            rt.alloc(),
+            (0x0600, &LAST),
+            &[11, 0, 0, 0, 1, 0, 4, 0, 0, 0, 1, 2, 3, 4, 0, 0],
+            &[11, 0, 0, 0, 1, 0, 4, 0, 0, 0, 1, 2, 3, 4, 1, 0],
+            (0xFFFE, &[1, 2, 0, 0])
+        )?
+    );
     // outputs and inputs in one datagram
-    assert!(rt; comes_back(rt.alloc(), (0x0600, &BOTH), &[12, 0, 0, 0, 1, 0, 6, 0, 0, 0, 0xAA, 0xBB, 9, 9, 9, 9, 0, 0], &[12, 0, 0, 0, 1, 0, 6, 0, 0, 0, 0xAA, 0xBB, 0, 0, 1, 0, 3, 0], (0x1000, &[0xAA, 0xBB, 0]))?);
+    assert!(rt;
+        comes_back(
+            rt.alloc(),
+            (0x0600, &BOTH),
+            &[12, 0, 0, 0, 1, 0, 6, 0, 0, 0, 0xAA, 0xBB, 9, 9, 9, 9, 0, 0],
+            &[12, 0, 0, 0, 1, 0, 6, 0, 0, 0, 0xAA, 0xBB, 0, 0, 1, 0, 3, 0],
+            (0x1000, &[0xAA, 0xBB, 0])
+        )?
+    );
     Ok(())
 }

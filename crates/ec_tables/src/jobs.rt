@@ -46,8 +46,7 @@ fn first_line(text: &[u8]) -> Option<&[u8]> {
 /// Whether two runs of several workers left the same of what doesn't hang on the order in which their pieces ended:
 /// status and first line.
 pub(crate) fn is_alike(one: &Told, other: &Told) -> bool {
-    one.code == other.code
-        && first_line(one.text.as_slice()) == first_line(other.text.as_slice())
+    one.code == other.code && first_line(one.text.as_slice()) == first_line(other.text.as_slice())
 }
 
 /// A cost or a check, without a runtime.

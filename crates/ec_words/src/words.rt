@@ -34,7 +34,9 @@ fn plan_command<'a>(alloc: Global) -> Result<Command<'a>, AllocError> {
         .value_name("N")
         .value_parser(value_parser!(usize).range(1..=16))
         .default_value("1")
-        .help("How many workers search, 1 to 16; with 1 the plan and the certificate are the same every time");
+        .help(
+            "How many workers search, 1 to 16; with 1 the plan and the certificate are the same every time",
+        );
     let nodes = Arg::new(alloc, "nodes")
         .long("nodes")
         .value_name("N")
