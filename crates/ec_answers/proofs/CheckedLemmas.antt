@@ -23,7 +23,7 @@ use Rattle.ec_lines.specs.Refusals.{out_of_memory, IsMemory}
 pub checked_yes : (us : Units) (c : CertView) (a : Answer) (v : Verdict) → IsCertified us.units us.slots c → v ≡ verdict_of c.best → shown a ≡ verdict_output v → IsCheckedOutput (units_view us) c (shown a)
 checked_yes us c a v is said told = (us, refl, inl (is, told ∙ ap verdict_output said))
 
-memory_or : (f : CheckFault) → (f ≡ check.OutOfMemory) ⊎ (f ≢ check.OutOfMemory)
+pub memory_or : (f : CheckFault) → (f ≡ check.OutOfMemory) ⊎ (f ≢ check.OutOfMemory)
 memory_or check.OutOfMemory = inl refl
 memory_or check.OtherUnits = inr (λ e. absurd cc)
 memory_or check.Order = inr (λ e. absurd cc)

@@ -1,2 +1,3 @@
 pub mod CheckedLemmas
+pub mod FramedLemmas
 pub mod PlanLemmas

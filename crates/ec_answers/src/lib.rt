@@ -3,9 +3,11 @@
 
 mod check;
 mod cost;
+mod frames;
 mod input;
 mod plan;
 
 pub use check::whole_answer;
 pub use cost::cost_answer;
+pub use frames::{frames_answer, planned_frames};
 pub use plan::{certified_answer, plan_answer};

@@ -1,23 +1,30 @@
 -- The bytes that are read have one output.
-use Rattle.std.proofs.Common.{◌≡◌, ℕ, ◌≤◌, List, Option, Some, None, Result, Ok, Err, sym, ap, ◌∙◌, inl, inr, arith}
+use Rattle.std.proofs.Common.{◌≡◌, ℕ, ◌≤◌, List, Option, Some, None, Result, Ok, Err, refl, sym, ap, ◌∙◌, subst, inl, inr, arith}
 use Rattle.std.specs.Prelude.{MatchOption, MatchResult}
 use Rattle.ec_units.specs.declared.slave.Place.{Place}
 use Rattle.ec_unit_text.specs.declared.fault.UnitFault.{UnitFault}
 use Rattle.ec_unit_text.specs.Reading.{reading}
-use Rattle.ec_units.specs.Views.{UnitsView, view_loads}
+use Rattle.ec_units.specs.declared.units.Units.{Units}
+use Rattle.ec_units.specs.Views.{UnitsView, units_view, view_loads}
 use Rattle.ec_loads.specs.declared.item.Item.{Item}
 use Rattle.ec_loads.specs.declared.plan.Illegal.{Illegal}
 use Rattle.ec_loads.specs.Cost.{tick_cost, IsFirstBusiest}
 use Rattle.ec_cert_text.specs.declared.fault.CertFault.{CertFault}
 use Rattle.ec_cert_text.specs.Reading.{reading as cert_reading}
+use Rattle.ec_cert.specs.declared.cert.Best.{Best}
 use Rattle.ec_cert.specs.Shapes.{CertView}
+use Rattle.ec_checker.specs.Certified.{verdict_of}
+use Rattle.ec_frame_lines.proofs.OnceLemmas.{frames_once}
+use Rattle.ec_lines.specs.declared.refusal.Refusal.{Refusal}
 use Rattle.ec_lines.specs.declared.refusal.Refusal.TheVariants as refusal
 use Rattle.ec_lines.specs.declared.job.Job.{Job}
 use Rattle.ec_lines.specs.declared.job.Job.TheVariants as job
 use Rattle.ec_lines.specs.Lines.{cost_lines}
-use Rattle.ec_lines.specs.Output.{Written, IsOutput, IsUnitsOutput, IsCheckedOutput, IsPlacedOutput, IsCostText, refused, first_unplaced, places_of}
+use Rattle.ec_lines.specs.Output.{Written, IsOutput, IsUnitsOutput, IsCheckedOutput, IsPlacedOutput, IsPlacedFrames, IsPlanFrames, IsCertFramesOf, IsCertFrames, IsCostText, refused, verdict_output, first_unplaced, places_of}
+use Rattle.ec_lines.specs.Refusals.{refusal_code}
 use Rattle.ec_jobs.proofs.OneCheck.{checked_once}
 use Rattle.ec_jobs.proofs.OneIllegal.{neither_less, illegal_once, legal_none}
+use Rattle.ec_jobs.proofs.SoundLemmas.{code_above}
 
 -- there is one first busiest tick
 top_once : (xs : List Item) (n b c t u : ℕ) → IsFirstBusiest xs n b t → IsFirstBusiest xs n c u → (b ≡ c) × (t ≡ u)
@@ -51,12 +58,58 @@ cert_once : (v : UnitsView) (r : Result CertView CertFault) (a b : Written) → 
 cert_once v (Ok c) a b p q = checked_once v c a b p q
 cert_once v (Err f) a b p q = p ∙ sym q
 
+frames_placed : (v : UnitsView) (ps : List Place) (a b : Written) → IsPlacedFrames v ps a → IsPlacedFrames v ps b → a ≡ b
+frames_placed v ps a b (inl p) (inl q) =
+    p.2 ∙ ap (λ (f : Illegal). refused (refusal.Illegal f)) (illegal_once (view_loads v.units) v.slots ps p.0 q.0 p.1 q.1) ∙ sym q.2
+frames_placed v ps a b (inl p) (inr q) = absurd (legal_none (view_loads v.units) v.slots ps p.0 q.0 p.1)
+frames_placed v ps a b (inr p) (inl q) = absurd (legal_none (view_loads v.units) v.slots ps q.0 p.0 q.1)
+frames_placed v ps a b (inr p) (inr q) =
+    let text : a.text ≡ b.text = frames_once v ps a.text b.text p.1 q.1 in
+    let code : a.code ≡ b.code = p.2 ∙ sym q.2 in
+    (λ i. record { text = text i; code = code i })
+
+-- the frames of a certificate's plan
+frames_planned : (v : UnitsView) (best : Option Best) (a b : Written) → IsPlanFrames v best a → IsPlanFrames v best b → a ≡ b
+frames_planned v None a b p q = p ∙ sym q
+frames_planned v (Some best) a b p q =
+    let text : a.text ≡ b.text = frames_once v best.plan.places a.text b.text p.0 q.0 in
+    let code : a.code ≡ b.code = p.1 ∙ sym q.1 in
+    (λ i. record { text = text i; code = code i })
+
+verdict_code : (best : Option Best) → (verdict_output (verdict_of best)).code ≤ 1
+verdict_code None = omega arith
+verdict_code (Some b) = omega arith
+
+yes_or_no : {A : Type 0} (best : Option Best) (r : Refusal) → verdict_output (verdict_of best) ≡ refused r → A
+yes_or_no best r e =
+    let code : (verdict_output (verdict_of best)).code ≡ refusal_code r = ap (λ (w : Written). w.code) e in
+    absurd (omega (arith, code, verdict_code best, code_above r))
+
+certified_of : (v : UnitsView) (c : CertView) (a b : Written) (us vs : Units) → units_view us ≡ v → units_view vs ≡ v → IsCertFramesOf us c a → IsCertFramesOf vs c b → a ≡ b
+certified_of v c a b us vs p q (inl h) (inl k) =
+    frames_planned v c.best a b (subst (λ (x : UnitsView). IsPlanFrames x c.best a) p h.1) (subst (λ (x : UnitsView). IsPlanFrames x c.best b) q k.1)
+certified_of v c a b us vs p q (inl h) (inr k) =
+    yes_or_no c.best (refusal.Check k.0) (checked_once v c (verdict_output (verdict_of c.best)) (refused (refusal.Check k.0)) (us, p, inl (h.0, refl)) (vs, q, inr (k.0, k.1, k.2, refl)))
+certified_of v c a b us vs p q (inr h) (inl k) =
+    yes_or_no c.best (refusal.Check h.0) (checked_once v c (verdict_output (verdict_of c.best)) (refused (refusal.Check h.0)) (vs, q, inl (k.0, refl)) (us, p, inr (h.0, h.1, h.2, refl)))
+certified_of v c a b us vs p q (inr h) (inr k) = checked_once v c a b (us, p, inr h) (vs, q, inr k)
+
+certified_frames : (v : UnitsView) (c : CertView) (a b : Written) → IsCertFrames v c a → IsCertFrames v c b → a ≡ b
+certified_frames v c a b p q = certified_of v c a b p.0 q.0 p.1 q.1 p.2 q.2
+
+cert_frames : (v : UnitsView) (r : Result CertView CertFault) (a b : Written) → MatchResult r (λ c. IsCertFrames v c a) (λ f. a ≡ refused (refusal.Cert f)) → MatchResult r (λ c. IsCertFrames v c b) (λ f. b ≡ refused (refusal.Cert f)) → a ≡ b
+cert_frames v (Ok c) a b p q = certified_frames v c a b p q
+cert_frames v (Err f) a b p q = p ∙ sym q
+
 units_once : (j : Job) (cert : Option (List ℕ)) (v : UnitsView) (a b : Written) → IsUnitsOutput j cert v a → IsUnitsOutput j cert v b → a ≡ b
 units_once job.Cost cert v a b p q =
     option_once (first_unplaced v.units) (IsPlacedOutput v (places_of v.units)) (λ n. refused (refusal.NoPlace n)) (placed_once v (places_of v.units)) a b p q
 units_once (job.Plan workers nodes) cert v a b p q = absurd p
 units_once job.Check None v a b p q = absurd p
 units_once job.Check (Some text) v a b p q = cert_once v (cert_reading text) a b p q
+units_once job.Frames None v a b p q =
+    option_once (first_unplaced v.units) (IsPlacedFrames v (places_of v.units)) (λ n. refused (refusal.NoPlace n)) (frames_placed v (places_of v.units)) a b p q
+units_once job.Frames (Some text) v a b p q = cert_frames v (cert_reading text) a b p q
 
 result_once : (j : Job) (cert : Option (List ℕ)) (r : Result UnitsView UnitFault) (a b : Written) → MatchResult r (λ v. IsUnitsOutput j cert v a) (λ f. a ≡ refused (refusal.Unit f)) → MatchResult r (λ v. IsUnitsOutput j cert v b) (λ f. b ≡ refused (refusal.Unit f)) → a ≡ b
 result_once j cert (Ok v) a b p q = units_once j cert v a b p q

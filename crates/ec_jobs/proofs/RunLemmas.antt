@@ -12,7 +12,7 @@ use Rattle.ec_wire.specs.declared.io.Io.{Io}
 use Rattle.ec_answers.specs.Input.{AreUnits, ConsumesAtMost}
 use Rattle.ec_lines.specs.Output.{Written, Answers, IsOutput, IsNoMemory, refused, written_of}
 use Rattle.ec_answers.specs.Planned.{AnswersPlan, GetsCertFront, IsPlanWritten, Any, Gets, GetsFront}
-use Rattle.ec_jobs.specs.Runs.{Use, used, Lent, either, Reads, Tells, IsFor, Refuses, Costs, Checks, Plans, PlansTo, PlansAway, Does, DoesAlone, DoesAway, IsSound, HasFailed, IsKept, before, after}
+use Rattle.ec_jobs.specs.Runs.{Use, used, Lent, either, Reads, Tells, IsFor, Refuses, ForUnits, ForCert, Costs, Checks, Plans, PlansTo, PlansAway, Does, DoesAlone, DoesAway, IsSound, HasFailed, IsKept, before, after}
 use Rattle.ec_jobs.proofs.TellLemmas.{said_by}
 use Rattle.ec_workers.specs.Answers.{Asked, asked_for}
 
@@ -37,29 +37,29 @@ refuses answer r w h is = h ∙ ap written_of is
 pub reads : {X : Type 0} (s : Use X) (most : ℕ) (answer : Result Answer Refusal) (w : Written) → IsFor answer w → ConsumesAtMost (before s) (after s) most → taken s.new ≤ taken s.old + most → (HasFailed s → answer ≡ Err refusal.Read) → Reads s most w
 reads s most answer w is known any read = record { known = known; any = any; failed = λ failed. refuses answer refusal.Read w is (read failed) }
 
--- a cost
-cost_said : (left : Option (List ℕ)) (answer : Result Answer Refusal) (w : Written) → IsFor answer w → IfSome left (λ bytes. Answers job.Cost answer (IsOutput job.Cost bytes None)) → IfSome left (λ bytes. IsOutput job.Cost bytes None w ⊎ IsNoMemory job.Cost w)
-cost_said None answer w is h = tt
-cost_said (Some bytes) answer w is h = said_by job.Cost bytes None answer w h is
+-- a job for the units alone
+units_said : (j : Job) (left : Option (List ℕ)) (answer : Result Answer Refusal) (w : Written) → IsFor answer w → IfSome left (λ bytes. Answers j answer (IsOutput j bytes None)) → IfSome left (λ bytes. IsOutput j bytes None w ⊎ IsNoMemory j w)
+units_said j None answer w is h = tt
+units_said j (Some bytes) answer w is h = said_by j bytes None answer w h is
 
-pub costs : {R : Type 0} (u : Use R) (answer : Result Answer Refusal) → (IsSound u → IfSome (before u) (λ bytes. Answers job.Cost answer (IsOutput job.Cost bytes None))) → ConsumesAtMost (before u) (after u) 1048577 → taken u.new ≤ taken u.old + 1048577 → (HasFailed u → answer ≡ Err refusal.Read)
-    → (w : Written) → IsFor answer w → Costs u w
-costs u answer told known any read w is = record { read = reads u 1048577 answer w is known any read; honest = λ sound. cost_said (before u) answer w is (told sound) }
+pub for_units : {R : Type 0} (j : Job) (u : Use R) (answer : Result Answer Refusal) → (IsSound u → IfSome (before u) (λ bytes. Answers j answer (IsOutput j bytes None))) → ConsumesAtMost (before u) (after u) 1048577 → taken u.new ≤ taken u.old + 1048577 → (HasFailed u → answer ≡ Err refusal.Read)
+    → (w : Written) → IsFor answer w → ForUnits j u w
+for_units j u answer told known any read w is = record { read = reads u 1048577 answer w is known any read; honest = λ sound. units_said j (before u) answer w is (told sound) }
 
--- a check
-check_said : (left cert : Option (List ℕ)) (answer : Result Answer Refusal) (w : Written) → IsFor answer w → IfSome left (λ bytes. IfSome cert (λ text. Answers job.Check answer (IsOutput job.Check bytes (Some text))))
-    → IfSome left (λ bytes. IfSome cert (λ text. IsOutput job.Check bytes (Some text) w ⊎ IsNoMemory job.Check w))
-check_said None cert answer w is h = tt
-check_said (Some bytes) None answer w is h = tt
-check_said (Some bytes) (Some text) answer w is h = said_by job.Check bytes (Some text) answer w h is
+-- a job for the units and a certificate
+cert_said : (j : Job) (left cert : Option (List ℕ)) (answer : Result Answer Refusal) (w : Written) → IsFor answer w → IfSome left (λ bytes. IfSome cert (λ text. Answers j answer (IsOutput j bytes (Some text))))
+    → IfSome left (λ bytes. IfSome cert (λ text. IsOutput j bytes (Some text) w ⊎ IsNoMemory j w))
+cert_said j None cert answer w is h = tt
+cert_said j (Some bytes) None answer w is h = tt
+cert_said j (Some bytes) (Some text) answer w is h = said_by j bytes (Some text) answer w h is
 
-pub checks : {R C : Type 0} (u : Use R) (c : Use C) (answer : Result Answer Refusal) → (IsSound u → IsSound c → IfSome (before u) (λ bytes. IfSome (before c) (λ text. Answers job.Check answer (IsOutput job.Check bytes (Some text)))))
+pub for_cert : {R C : Type 0} (j : Job) (u : Use R) (c : Use C) (answer : Result Answer Refusal) → (IsSound u → IsSound c → IfSome (before u) (λ bytes. IfSome (before c) (λ text. Answers j answer (IsOutput j bytes (Some text)))))
     → ConsumesAtMost (before u) (after u) 1048577 → taken u.new ≤ taken u.old + 1048577 → (HasFailed u → answer ≡ Err refusal.Read) → ConsumesAtMost (before c) (after c) 67108865 → taken c.new ≤ taken c.old + 67108865 → (HasFailed c → answer ≡ Err refusal.Read) → (HasFailed u → IsKept c) → IfSome (before u) (λ bytes. ¬ (AreUnits bytes) → IsKept c)
-    → (w : Written) → IsFor answer w → Checks u c w
-checks u c answer told known any read cert_known cert_any cert_read kept first w is = record {
+    → (w : Written) → IsFor answer w → ForCert j u c w
+for_cert j u c answer told known any read cert_known cert_any cert_read kept first w is = record {
   read = reads u 1048577 answer w is known any read;
   cert_read = reads c 67108865 answer w is cert_known cert_any cert_read;
-  honest = λ units cert. check_said (before u) (before c) answer w is (told units cert);
+  honest = λ units cert. cert_said j (before u) (before c) answer w is (told units cert);
   kept = kept;
   first = first;
 }
@@ -130,6 +130,7 @@ pub does_alone : {R C O : Type 0} (j : Job) (units : Use R) (cert : Lent C) (out
 does_alone job.Cost units cert out none no_out w h = h.0
 does_alone (job.Plan workers nodes) units cert out none no_out w h = either_none out.old out.new _ _ no_out h.0
 does_alone job.Check units cert out none no_out w h = absurd (either_none cert.old cert.new _ _ none h.0)
+does_alone job.Frames units cert out none no_out w h = either_none cert.old cert.new _ _ none h.0
 
 -- and with one, of which nothing is known
 away : {R O : Type 0} (asked : Asked) (units : Use R) (out : Use O) (w : Written) → PlansTo asked units out w → PlansAway asked units w
@@ -142,3 +143,4 @@ pub does_away : {R C O : Type 0} (j : Job) (units : Use R) (cert : Lent C) (out 
 does_away job.Cost units cert out o none there w h = h.0
 does_away (job.Plan workers nodes) units cert out o none there w h = let to = either_some out.old out.new _ _ o there h.0 in away (asked_for workers nodes) units (used out.tells o to.0) w to.1
 does_away job.Check units cert out o none there w h = absurd (either_none cert.old cert.new _ _ none h.0)
+does_away job.Frames units cert out o none there w h = either_none cert.old cert.new _ _ none h.0

@@ -41,6 +41,8 @@ code_above (refusal.Check check_fault.OutOfMemory) = omega arith
 code_above (refusal.Check f) = omega arith
 code_above (refusal.Solve f) = omega arith
 code_above refusal.Write = omega arith
+code_above refusal.CertHasNoPlan = omega arith
+code_above refusal.FrameMemory = omega arith
 
 -- what is told of units, by what is claimed of their loads
 record Told (loads : List Load) (n : ℕ) (w : Written) : Type 0 where

@@ -100,18 +100,25 @@ pub record Reads {X : Type 0} (s : Use X) (most : ℕ) (w : Written) : Type 0 wh
 
 -- ---- the jobs
 
--- a cost is written for the units
-pub record Costs {R : Type 0} (units : Use R) (w : Written) : Type 0 where
+-- what a job answers is written for the units alone
+pub record ForUnits {R : Type 0} (j : Job) (units : Use R) (w : Written) : Type 0 where
   pub read : Reads units 1048577 w
-  pub honest : IsSound units → IfSome (before units) (λ bytes. IsOutput job.Cost bytes None w ⊎ IsNoMemory job.Cost w)
+  pub honest : IsSound units → IfSome (before units) (λ bytes. IsOutput j bytes None w ⊎ IsNoMemory j w)
 
--- a check is written for the units and the certificate, which isn't read before the units are right
-pub record Checks {R C : Type 0} (units : Use R) (cert : Use C) (w : Written) : Type 0 where
+-- and for the units and the certificate, which isn't read before the units are right
+pub record ForCert {R C : Type 0} (j : Job) (units : Use R) (cert : Use C) (w : Written) : Type 0 where
   pub read : Reads units 1048577 w
   pub cert_read : Reads cert 67108865 w
-  pub honest : IsSound units → IsSound cert → IfSome (before units) (λ bytes. IfSome (before cert) (λ text. IsOutput job.Check bytes (Some text) w ⊎ IsNoMemory job.Check w))
+  pub honest : IsSound units → IsSound cert → IfSome (before units) (λ bytes. IfSome (before cert) (λ text. IsOutput j bytes (Some text) w ⊎ IsNoMemory j w))
   pub kept : HasFailed units → IsKept cert
   pub first : IfSome (before units) (λ bytes. ¬ (AreUnits bytes) → IsKept cert)
+
+-- a cost is written for the units, a check for the units and the certificate
+abbrev pub Costs : {R : Type 0} → Use R → Written → Type 0
+Costs units w = ForUnits job.Cost units w
+
+abbrev pub Checks : {R C : Type 0} → Use R → Use C → Written → Type 0
+Checks units cert w = ForCert job.Check units cert w
 
 -- a plan is written for the units
 pub record Plans {R : Type 0} (asked : Asked) (units : Use R) (w : Written) : Type 0 where
@@ -130,6 +137,7 @@ pub record PlansTo {R O : Type 0} (asked : Asked) (units : Use R) (out : Use O) 
 abbrev pub Does : {R C O : Type 0} → Job → Use R → Lent C → Lent O → Written → Type 0
 Does job.Cost units cert out w = Costs units w × IsLeft cert × IsLeft out
 Does job.Check units cert out w = IfLent cert ⊥ (λ c. Checks units c w) × IsLeft out
+Does job.Frames units cert out w = IfLent cert (ForUnits job.Frames units w) (λ c. ForCert job.Frames units c w) × IsLeft out
 Does (job.Plan workers nodes) units cert out w = IfLent out (Plans (asked_for workers nodes) units w) (λ o. PlansTo (asked_for workers nodes) units o w) × IsLeft cert
 
 -- a run does its job, and tells what is to be written for it
@@ -148,17 +156,25 @@ abbrev pub DoesAlone : {R : Type 0} → Job → Use R → Written → Type 0
 DoesAlone job.Cost units w = Costs units w
 DoesAlone (job.Plan workers nodes) units w = Plans (asked_for workers nodes) units w
 DoesAlone job.Check units w = Reads units 1048577 w
+DoesAlone job.Frames units w = ForUnits job.Frames units w
 
 -- and with one
 abbrev pub DoesAway : {R : Type 0} → Job → Use R → Written → Type 0
 DoesAway job.Cost units w = Costs units w
 DoesAway (job.Plan workers nodes) units w = PlansAway (asked_for workers nodes) units w
 DoesAway job.Check units w = Reads units 1048577 w
+DoesAway job.Frames units w = ForUnits job.Frames units w
 
--- what a command line does with the units, and what is to be written for it
-abbrev pub DoesLine : {R : Type 0} → Job → Option (String Global) → Use R → Written → Type 0
-DoesLine j None units w = DoesAlone j units w
-DoesLine j (Some path) units w = DoesAway j units w
+-- frames; of those of a certificate, which isn't known, only what they read
+abbrev pub FramesAt : {R : Type 0} → Option (String Global) → Use R → Written → Type 0
+FramesAt None units w = ForUnits job.Frames units w
+FramesAt (Some path) units w = Reads units 1048577 w
+
+-- what a command line does with the units, and what is to be written for it: the job, the path of a certificate to read, and of one to write
+abbrev pub DoesLine : {R : Type 0} → Job → Option (String Global) → Option (String Global) → Use R → Written → Type 0
+DoesLine job.Frames cert out units w = FramesAt cert units w
+DoesLine j cert None units w = DoesAlone j units w
+DoesLine j cert (Some path) units w = DoesAway j units w
 
 -- ---- words that are no command line
 
@@ -168,12 +184,14 @@ usage text = record { text = text; code = 5 }
 
 -- ---- what a caller brings
 
--- a check has a reader of a certificate, which has not failed
+-- a check has a reader of a certificate, which has not failed, and frames may have one
 abbrev pub HasCert : {C : Type 0} → Job → Option (Io C) → Type 0
 HasCert job.Cost cert = Unit {0}
 HasCert (job.Plan workers nodes) cert = Unit {0}
 HasCert job.Check None = ⊥
 HasCert job.Check (Some cert) = has_failed cert ≡ false
+HasCert job.Frames None = Unit {0}
+HasCert job.Frames (Some cert) = has_failed cert ≡ false
 
 -- if there is a reader, it has not failed
 abbrev pub NoneFailed : {C : Type 0} → Option (Io C) → Type 0

@@ -3,7 +3,7 @@
 ghost use Rattle.std.specs.Prelude.{◌≡◌, None, false};
 ghost use Rattle.ec_wire.specs.Stream.{has_failed};
 ghost use Rattle.ec_jobs.specs.Runs.{used, Tells, Reads, Costs, DoesAlone, DoesAway, DoesLine};
-ghost use Rattle.ec_lines.specs.Words.{HasPath, JobFits};
+ghost use Rattle.ec_lines.specs.Words.{HasPath, IsPlain, JobFits};
 
 use crate::job::{Status, refuse};
 use crate::late::Late;
@@ -48,6 +48,45 @@ fn check_at<R: Read, W: Write, F: Files>(
     let nowhere: Option<&mut Io<io::Sink>> = None;
     let from = Some(&mut cert);
     run_plain(alloc, &Job::Check, units, from, text, nowhere)
+}
+
+/// Does a job that searches for nothing without a certificate.
+fn plain_alone<R: Read, W: Write>(
+    alloc: Global,
+    job: &Job,
+    units: &mut Io<R>,
+    text: &mut Io<W>,
+) -> Status
+    requires plain { IsPlain job.now }
+    requires path { HasPath job.now None }
+    requires units { has_failed units.old ≡ false }
+    requires text { has_failed text.old ≡ false }
+    ensures { Tells (DoesAlone job.now (used R.remaining units.old units.new)) (used W.contents text.old text.new) result.code }
+{
+    let none: Option<&mut Io<io::Empty>> = None;
+    let nowhere: Option<&mut Io<io::Sink>> = None;
+    run_plain(alloc, job, units, none, text, nowhere)
+}
+
+/// Tells the frames of the plan of the certificate at this path, which is opened before the units are read.
+fn frames_at<R: Read, W: Write, F: Files>(
+    files: &F,
+    alloc: Global,
+    path: &str,
+    units: &mut Io<R>,
+    text: &mut Io<W>,
+) -> Status
+    requires units { has_failed units.old ≡ false }
+    requires text { has_failed text.old ≡ false }
+    ensures { Tells (Reads (used R.remaining units.old units.new) 1048577) (used W.contents text.old text.new) result.code }
+{
+    let Ok(file) = fs::open(files, path) else {
+        return refuse(Refusal::Read, text);
+    };
+    let mut cert = Io::new(file);
+    let nowhere: Option<&mut Io<io::Sink>> = None;
+    let from = Some(&mut cert);
+    run_plain(alloc, &Job::Frames, units, from, text, nowhere)
 }
 
 /// Does a plan without writing its certificate.
@@ -104,7 +143,7 @@ pub fn do_line<R: Read, W: Write, F: Files, T: Threads + Wait + Sync>(
     requires path { HasPath line.now.job line.now.cert }
     requires units { has_failed units.old ≡ false }
     requires text { has_failed text.old ≡ false }
-    ensures { Tells (DoesLine line.now.job line.now.out (used R.remaining units.old units.new)) (used W.contents text.old text.new) result.code }
+    ensures { Tells (DoesLine line.now.job line.now.cert line.now.out (used R.remaining units.old units.new)) (used W.contents text.old text.new) result.code }
 {
     match line.job {
         Job::Cost => cost_alone(alloc, units, text),
@@ -115,6 +154,10 @@ pub fn do_line<R: Read, W: Write, F: Files, T: Threads + Wait + Sync>(
         Job::Check => match &line.cert {
             Some(path) => check_at(files, alloc, path.as_str(), units, text),
             None => unreachable!(),
+        },
+        Job::Frames => match &line.cert {
+            Some(path) => frames_at(files, alloc, path.as_str(), units, text),
+            None => plain_alone(alloc, &line.job, units, text),
         },
     }
 }

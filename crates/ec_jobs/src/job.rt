@@ -45,7 +45,7 @@ pub(crate) fn refuse<W: Write>(refusal: Refusal, text: &mut Io<W>) -> Status
 }
 
 /// Writes the text or the refusal whole, and says with which status the run ends.
-fn finish<W: Write>(answer: Result<Answer, Refusal>, text: &mut Io<W>) -> Status
+pub(crate) fn finish<W: Write>(answer: Result<Answer, Refusal>, text: &mut Io<W>) -> Status
     requires { has_failed text.old ≡ false }
     ensures { Tells (IsFor answer) (used W.contents text.old text.new) result.code }
 {

@@ -2,6 +2,7 @@
 #![tactic(auto)]
 
 mod doing;
+mod framing;
 mod job;
 mod late;
 mod law;

@@ -5,14 +5,15 @@ ghost use Rattle.ec_wire.specs.Stream.{has_failed};
 ghost use Rattle.ec_jobs.specs.Runs.{used, lent, HasCert, IsRun};
 ghost use Rattle.ec_lines.specs.Words.{IsPlain};
 
+use crate::framing::{run_frames, run_planned};
 use crate::job::{Status, run_check, run_cost};
 use ec_lines::Job;
 use ec_wire::Io;
 use std::alloc::Global;
 use std::io::{Read, Write};
 
-/// Does a job that searches for nothing, without a runtime: reads the units, and for a check then the certificate,
-/// makes its whole answer, and then writes it to `text`. It reads at most 1,048,577 bytes of units and 67,108,865 of a
+/// Does a job that searches for nothing, without a runtime: reads the units, and for a check, or frames with a
+/// certificate, then the certificate, makes its whole answer, and then writes it to `text`. It reads at most 1,048,577 bytes of units and 67,108,865 of a
 /// certificate, so it ends on readers that never do. A cost leaves `cert` unread, and so does a check of units that are
 /// refused. Nothing is written to `out`.
 pub fn run_plain<R: Read, C: Read, W: Write, O: Write>(
@@ -35,6 +36,10 @@ pub fn run_plain<R: Read, C: Read, W: Write, O: Write>(
         Job::Check => match cert {
             Some(cert) => run_check(alloc, units, cert, text),
             None => unreachable!(),
+        },
+        Job::Frames => match cert {
+            Some(plan) => run_planned(alloc, units, plan, text),
+            None => run_frames(alloc, units, text),
         },
     }
 }

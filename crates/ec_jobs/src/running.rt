@@ -5,6 +5,7 @@ ghost use Rattle.ec_wire.specs.Stream.{has_failed};
 ghost use Rattle.ec_jobs.specs.Runs.{used, lent, HasCert, IsRun, NoneFailed};
 ghost use Rattle.ec_lines.specs.Words.{JobFits};
 
+use crate::framing::{run_frames, run_planned};
 use crate::job::{Status, run_check, run_cost, run_plan, run_plan_to};
 use ec_lines::Job;
 use ec_wire::Io;
@@ -13,7 +14,7 @@ use std::io::{Read, Write};
 use std::sync::Wait;
 use std::thread::Threads;
 
-/// Does a job: reads the units, and for a check then the certificate, makes its whole answer, and then writes it to
+/// Does a job: reads the units, and for a check, or frames with a certificate, then the certificate, makes its whole answer, and then writes it to
 /// `text`; what there is for jobs that search for nothing is as in `run_plain`. A plan searches with one worker in the
 /// calling thread or with 2 to 16 in threads of their own, and where it is optimal or there is none, its certificate is
 /// written to `out`, if `out` is there, before the text. It reads at most 1,048,577 bytes of units and 67,108,865 of a certificate. A cost and a plan leave
@@ -43,6 +44,10 @@ pub fn run<R: Read, C: Read, W: Write, O: Write, T: Threads + Wait + Sync>(
         Job::Check => match cert {
             Some(cert) => run_check(alloc, units, cert, text),
             None => unreachable!(),
+        },
+        Job::Frames => match cert {
+            Some(plan) => run_planned(alloc, units, plan, text),
+            None => run_frames(alloc, units, text),
         },
     }
 }

@@ -1,3 +1,4 @@
+pub mod FramesLemmas
 pub mod KeyLemmas
 pub mod LineLemmas
 pub mod OutputLemmas

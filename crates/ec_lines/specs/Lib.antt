@@ -1,4 +1,5 @@
 pub mod Lines
+pub mod Memory
 pub mod Outcomes
 pub mod Output
 pub mod Refusals

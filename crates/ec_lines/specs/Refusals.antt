@@ -87,6 +87,8 @@ reason_text (refusal.Cert f) = cert_text f
 reason_text (refusal.Check f) = check_text f
 reason_text (refusal.Solve f) = solve_text f
 reason_text refusal.Write = codes "E4 Write"
+reason_text refusal.CertHasNoPlan = codes "E5 CertHasNoPlan"
+reason_text refusal.FrameMemory = codes "P1 OutOfMemory"
 
 -- the line that refuses
 abbrev pub refusal_line : Refusal → List ℕ
@@ -106,6 +108,8 @@ refusal_code (refusal.Check check.OutOfMemory) = 4
 refusal_code (refusal.Check f) = 3
 refusal_code (refusal.Solve f) = 4
 refusal_code refusal.Write = 4
+refusal_code refusal.CertHasNoPlan = 3
+refusal_code refusal.FrameMemory = 4
 
 abbrev pub out_of_memory : Refusal
 out_of_memory = refusal.Unit fault.OutOfMemory
@@ -114,11 +118,12 @@ out_of_memory = refusal.Unit fault.OutOfMemory
 abbrev pub IsPlanMemory : Refusal → Type 0
 IsPlanMemory r = (r ≡ out_of_memory) ⊎ (r ≡ refusal.Solve solve.OutOfMemory)
 
--- want of memory, which may be answered in place of anything else; a plan and a check say who met it
+-- want of memory, which may be answered in place of anything else; a plan, a check and the frames say who met it
 abbrev pub IsMemory : Job → Refusal → Type 0
 IsMemory job.Cost r = r ≡ out_of_memory
 IsMemory (job.Plan workers nodes) r = IsPlanMemory r
 IsMemory job.Check r = (r ≡ out_of_memory) ⊎ ((r ≡ refusal.Cert cert.OutOfMemory) ⊎ (r ≡ refusal.Check check.OutOfMemory))
+IsMemory job.Frames r = (r ≡ out_of_memory) ⊎ ((r ≡ refusal.Cert cert.OutOfMemory) ⊎ ((r ≡ refusal.Check check.OutOfMemory) ⊎ (r ≡ refusal.FrameMemory)))
 
 -- what can be wrong with reading: memory, a read that failed, or too many bytes
 abbrev pub IsReadFault : Refusal → Type 0

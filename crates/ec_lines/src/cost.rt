@@ -21,7 +21,7 @@ use std::alloc::{AllocError, Global};
 use std::fmt::Write;
 
 /// The plan that the places of the units make.
-fn plan_of(alloc: Global, units: &Units) -> Result<Plan, Refusal>
+pub(crate) fn plan_of(alloc: Global, units: &Units) -> Result<Plan, Refusal>
     ensures ok { IfOk result (λ plan. (first_unplaced (map unit_view units.now.units) ≡ None) × (plan.places ≡ places_of (map unit_view units.now.units)) × (length plan.places ≡ length units.now.units)) }
     ensures err { IfErr result (λ r. (r ≡ out_of_memory) ⊎ ((n : ℕ) × (r ≡ NoPlace n) × (first_unplaced (map unit_view units.now.units) ≡ Some n))) }
 {

@@ -9,6 +9,8 @@ pub enum Job {
     Plan { workers: usize, nodes: u32 },
     /// Checks a certificate for the units.
     Check,
+    /// Tells the FMMU records and the frames of a certificate's plan, or of the placed units.
+    Frames,
 }
 
 /// A command line: the job, the path of a certificate to read and the path of one to write.

@@ -1,9 +1,10 @@
-//! What the program writes: the lines of a cost, of a plan and of a certificate, and the line that refuses; and the
-//! jobs and command lines for which it does.
+//! What the program writes: the lines of a cost, of a plan, of a certificate and of frames, and the line that refuses;
+//! and the jobs and command lines for which it does.
 #![tactic(auto)]
 
 mod answer;
 mod cost;
+mod frames;
 mod job;
 mod outcome;
 mod reason;
@@ -12,6 +13,7 @@ mod verdict;
 
 pub use answer::Answer;
 pub use cost::cost_of;
+pub use frames::{frames_of, plan_frames};
 pub use job::{Job, Line};
 pub use outcome::outcome_answer;
 pub use reason::refusal_line;

@@ -204,6 +204,8 @@ fn push_reason(line: &mut LineText, refusal: Refusal)
         Refusal::Check(fault) => push_check(line, fault),
         Refusal::Solve(fault) => push_solve(line, fault),
         Refusal::Write => push_bytes(line, b"E4 Write"),
+        Refusal::CertHasNoPlan => push_bytes(line, b"E5 CertHasNoPlan"),
+        Refusal::FrameMemory => push_bytes(line, b"P1 OutOfMemory"),
     }
 }
 

@@ -33,6 +33,10 @@ pub enum Refusal {
     Solve(SolveFault),
     /// Writing a certificate failed.
     Write,
+    /// The certificate is right, and says that there is no plan.
+    CertHasNoPlan,
+    /// Memory ran out over the layout of a plan or its frames.
+    FrameMemory,
 }
 
 impl Refusal {
@@ -46,13 +50,15 @@ impl Refusal {
             | Refusal::Check(CheckFault::OutOfMemory)
             | Refusal::Solve(_)
             | Refusal::Read
-            | Refusal::Write => 4,
+            | Refusal::Write
+            | Refusal::FrameMemory => 4,
             Refusal::Unit(_)
             | Refusal::Illegal(_)
             | Refusal::TooLarge
             | Refusal::NoPlace(_)
             | Refusal::Cert(_)
-            | Refusal::Check(_) => 3,
+            | Refusal::Check(_)
+            | Refusal::CertHasNoPlan => 3,
         }
     }
 }

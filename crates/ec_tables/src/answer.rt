@@ -1,5 +1,6 @@
 //! What a row's job answers, as one text.
 
+use crate::alone::{frames_any, frames_plain};
 use crate::jobs::{Told, any, is_alike, is_same, plain, planned};
 use crate::row::{ALL, Row};
 use std::alloc::{AllocError, Global};
@@ -69,6 +70,12 @@ fn add_check(
 /// What the row's job left, and whether the other call that does it leaves the same; of a plan, text and status, and
 /// where several workers make it, status and first line.
 fn told_twice(rt: &(impl Threads + Wait + Sync), alloc: Global, row: &Row<'_>) -> (Told, bool) {
+    if row.job == "frames" {
+        let told = frames_plain(alloc, row);
+        let other = frames_any(rt, alloc, row);
+        let same = is_same(&told, &other);
+        return (told, same);
+    }
     let other = any(rt, alloc, row);
     if row.job != "plan" {
         let told = plain(alloc, row);

@@ -49,18 +49,25 @@ pub(crate) fn is_alike(one: &Told, other: &Told) -> bool {
     one.code == other.code && first_line(one.text.as_slice()) == first_line(other.text.as_slice())
 }
 
-/// A cost or a check, without a runtime.
+/// The job of a row that searches for nothing.
+fn plain_job(row: &Row<'_>) -> Job
+    ensures { IsPlain result }
+{
+    match row.job {
+        "cost" => Job::Cost,
+        "framed" => Job::Frames,
+        _ => Job::Check,
+    }
+}
+
+/// A cost, a check or the frames of a certificate's plan, without a runtime.
 pub(crate) fn plain(alloc: Global, row: &Row<'_>) -> Told {
     let mut units = Io::new(FailsAt::new(row.units, row.calls.units));
     let mut cert = Io::new(FailsAt::new(row.cert, row.calls.cert));
     let mut held = Slow::new(alloc, row.calls.text);
     let mut text = Io::new(&mut held);
     let nowhere: Option<&mut Io<io::Sink>> = None;
-    let job = if row.job == "cost" {
-        Job::Cost
-    } else {
-        Job::Check
-    };
+    let job = plain_job(row);
     let status = run_plain(alloc, &job, &mut units, Some(&mut cert), &mut text, nowhere);
     let failed = Failed {
         units: units.failed(),
@@ -110,6 +117,9 @@ fn job_of(row: &Row<'_>) -> Job
     }
     if row.job == "check" {
         return Job::Check;
+    }
+    if row.job == "framed" {
+        return Job::Frames;
     }
     let workers = row.workers.clamp(1, 16);
     let nodes = row.nodes.clamp(1, 10_000_000);

@@ -1,6 +1,7 @@
 //! Does the jobs of a table on standard input, and tells each that answers otherwise than its row says.
 #![tactic(auto)]
 
+mod alone;
 mod answer;
 mod jobs;
 mod row;

@@ -68,6 +68,18 @@ fn check_command<'a>(alloc: Global) -> Result<Command<'a>, AllocError> {
         .arg(cert)
 }
 
+/// The command `frames`.
+fn frames_command<'a>(alloc: Global) -> Result<Command<'a>, AllocError> {
+    let cert = Arg::new(alloc, "cert")
+        .long("cert")
+        .value_name("PATH")
+        .action(ArgAction::Set)
+        .help("The certificate whose plan is sent; without it the places in the units are");
+    Command::new(alloc, "frames")
+        .about("Tells the FMMU records of the slaves and the frames of each tick")
+        .arg(cert)
+}
+
 /// All commands.
 fn all_commands<'a>(alloc: Global) -> Result<Command<'a>, AllocError> {
     let cost = Command::new(alloc, "cost").about(
@@ -80,7 +92,8 @@ fn all_commands<'a>(alloc: Global) -> Result<Command<'a>, AllocError> {
         .subcommand_required(true)
         .subcommand(cost)?
         .subcommand(plan_command(alloc)?)?
-        .subcommand(check_command(alloc)?)
+        .subcommand(check_command(alloc)?)?
+        .subcommand(frames_command(alloc)?)
 }
 
 /// A refusal with this text, unless memory ran out.
@@ -152,7 +165,24 @@ fn check_line(alloc: Global, matches: &ArgMatches<'_>) -> Result<Line, LineFault
     })
 }
 
-/// Reads the words after the program's name: `cost`, `plan` or `check`, with its options.
+/// The line of frames with these options.
+fn frames_line(alloc: Global, matches: &ArgMatches<'_>) -> Result<Line, LineFault>
+    ensures within { IfOk result (λ line. JobFits line.job) }
+    ensures paths { IfOk result (λ line. HasPath line.job line.cert) }
+    ensures out { IfOk result (λ line. MayHaveOut line.job line.out) }
+{
+    let cert = match matches.get_str("cert") {
+        Some(path) => Some(String::from_str(alloc, path)?),
+        None => None,
+    };
+    Ok(Line {
+        job: Job::Frames,
+        cert,
+        out: None,
+    })
+}
+
+/// Reads the words after the program's name: `cost`, `plan`, `check` or `frames`, with its options.
 pub fn read_words(alloc: Global, words: &[String]) -> Result<Line, LineFault>
     ensures within { IfOk result (λ line. JobFits line.job) }
     ensures paths { IfOk result (λ line. HasPath line.job line.cert) }
@@ -170,6 +200,7 @@ pub fn read_words(alloc: Global, words: &[String]) -> Result<Line, LineFault>
         }),
         Some(("plan", options)) => plan_line(alloc, options),
         Some(("check", options)) => check_line(alloc, options),
+        Some(("frames", options)) => frames_line(alloc, options),
         _ => Err(refused(alloc, "error: no command\n")),
     }
 }

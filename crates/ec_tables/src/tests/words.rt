@@ -35,6 +35,7 @@ fn line_text(alloc: Global, line: &Line) -> Result<String, AllocError> {
             format!(in alloc; "<plan {workers} {nodes} {cert} {out}>")
         }
         Job::Check => format!(in alloc; "<check {cert} {out}>"),
+        Job::Frames => format!(in alloc; "<frames {cert} {out}>"),
     }
 }
 
@@ -66,6 +67,8 @@ fn wrong_rows(alloc: Global, rows: &str) -> Result<String, AllocError> {
 const LINES: &str = "cost : <cost - ->|\
     check --cert line.cert : <check line.cert ->|\
     check --cert=line.cert : <check line.cert ->|\
+    frames : <frames - ->|\
+    frames --cert line.cert : <frames line.cert ->|\
     plan : <plan 1 1000000 - ->|\
     plan --workers 1 : <plan 1 1000000 - ->|\
     plan --workers 16 : <plan 16 1000000 - ->|\
@@ -80,7 +83,10 @@ const LINES: &str = "cost : <cost - ->|\
 /// Words that are no command, with a part of what is told; of two the whole text.
 const REFUSED: &str = " : requires a subcommand|\
     costs : unrecognized subcommand 'costs'|\
-    frames : unrecognized subcommand 'frames'|\
+    resume : unrecognized subcommand 'resume'|\
+    frames --cert : a value is required for '--cert <PATH>'|\
+    frames --out p : unexpected argument '--out'|\
+    frames p : unexpected argument 'p'|\
     cost cost : unexpected argument 'cost'|\
     cost --out p : unexpected argument '--out'|\
     cost --cert p : unexpected argument '--cert'|\
@@ -104,7 +110,7 @@ const REFUSED: &str = " : requires a subcommand|\
     plan --out p --out q : '--out <PATH>' cannot be used multiple times|\
     plan 5 : unexpected argument '5'|\
     plan --workers 17 : <error: invalid value '17' for '--workers <N>': 17 is not in 1..=16\n\nFor more information, try '--help'.\n>|\
-    frames : <error: unrecognized subcommand 'frames'\n\nUsage: ecplan <COMMAND>\n\nFor more information, try '--help'.\n>";
+    resume : <error: unrecognized subcommand 'resume'\n\nUsage: ecplan <COMMAND>\n\nFor more information, try '--help'.\n>";
 
 /// Words that ask for help, with a part of it.
 const HELP: &str = "--help : Usage: ecplan <COMMAND>|\
@@ -116,7 +122,8 @@ const HELP: &str = "--help : Usage: ecplan <COMMAND>|\
     plan --help : [default: 1000000]|\
     plan --workers 1 --help : nodes of the search tree|\
     plan --help : How many workers search, 1 to 16|\
-    check --help : Usage: ecplan check --cert <PATH>";
+    check --help : Usage: ecplan check --cert <PATH>|\
+    frames --help : Usage: ecplan frames [OPTIONS]";
 
 #[test]
 fn words_and_their_answers(rt: HostRuntime) -> Result<(), AllocError> {

@@ -1,7 +1,8 @@
-use Rattle.ec_jobs.proofs.RunLemmas.{costs, tells_more}
+use Rattle.ec_lines.specs.declared.job.Job.TheVariants as job
+use Rattle.ec_jobs.proofs.RunLemmas.{for_units, tells_more}
 use Rattle.ec_jobs.proofs.job.run_cost.Goals as goal
 
 pub returns : goal.returns
 returns g c =
     let a = c.cost_answer-answer.ensures in
-    tells_more (costs _ c.cost_answer-answer.result a.told a.consumed a.taken a.read) c.finish.ensures
+    tells_more (for_units job.Cost _ c.cost_answer-answer.result a.told a.consumed a.taken a.read) c.finish.ensures

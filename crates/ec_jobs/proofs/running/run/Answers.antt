@@ -27,3 +27,15 @@ returns-in-Some-cert g c = tells_more (λ w h. rw (c.in-Check.is, c.in-Some-cert
   h,
   elim (option_cases c.args.out) [ inl e ↦ rw e refl | inr p ↦ rw p.1 refl ],
 )) c.run_check.ensures
+
+pub returns-in-Some-cert-2 : goal.returns-in-Some-cert-2
+returns-in-Some-cert-2 g c = tells_more (λ w h. rw (c.in-Frames.is, c.in-Some-cert-2.is) (
+  h,
+  elim (option_cases c.args.out) [ inl e ↦ rw e refl | inr p ↦ rw p.1 refl ],
+)) c.run_planned.ensures
+
+pub returns-in-None-cert-2 : goal.returns-in-None-cert-2
+returns-in-None-cert-2 g c = tells_more (λ w h. rw (c.in-Frames.is, c.in-None-cert-2.is) (
+  h,
+  elim (option_cases c.args.out) [ inl e ↦ rw e refl | inr p ↦ rw p.1 refl ],
+)) c.run_frames.ensures

@@ -1,0 +1,96 @@
+//! What the command `frames` answers.
+
+ghost use Rattle.std.specs.Prelude.{◌≡◌, ◌+◌, ◌≤◌, true, false, None, Some, IfSome};
+ghost use Rattle.ec_wire.specs.Stream.{stream, has_failed, taken};
+ghost use Rattle.ec_answers.specs.Input.{ConsumesAtMost, AreUnits};
+ghost use Rattle.ec_cert.specs.Shapes.{cert_view};
+ghost use Rattle.ec_units.specs.Load.{loads_of};
+ghost use Rattle.ec_loads.specs.Held.{no_places};
+ghost use Rattle.ec_units.specs.Views.{units_view};
+ghost use Rattle.ec_lines.specs.Output.{Answers, IsCertFrames, IsCertFramesOutput, IsOutput};
+ghost use Rattle.ec_lines.specs.declared.job.Job.TheVariants.{Frames};
+
+use crate::input::{cert_text, units_of};
+use ec_cert::Cert;
+use ec_cert_text::read_cert;
+use ec_checker::{CheckFault, check_in};
+use ec_lines::{Answer, Refusal, frames_of, plan_frames};
+use ec_loads::Loads;
+use ec_units::Units;
+use ec_wire::Io;
+use std::alloc::Global;
+use std::io::Read;
+
+/// What is answered for units and a certificate: the frames of its plan where the checker says yes, or why there are
+/// none. The loads are those of the units, with no place.
+fn certified_frames(
+    alloc: Global,
+    loads: &mut Loads,
+    units: &Units,
+    cert: &Cert,
+) -> Result<Answer, Refusal>
+    requires { loads.old ≡ record { loads = loads_of units.now.units; slots = units.now.slots; places = no_places (loads_of units.now.units) } }
+    ensures { Answers Frames result (IsCertFrames (units_view units.now) (cert_view cert.now)) }
+{
+    match check_in(loads, units, cert) {
+        Ok(_) => match &cert.best {
+            Some(best) => plan_frames(alloc, units, &best.plan),
+            None => Err(Refusal::CertHasNoPlan),
+        },
+        Err(fault) => Err(Refusal::Check(fault)),
+    }
+}
+
+/// What is answered for units and a certificate's text.
+fn text_frames(
+    alloc: Global,
+    loads: &mut Loads,
+    units: &Units,
+    text: &[u8],
+) -> Result<Answer, Refusal>
+    requires { loads.old ≡ record { loads = loads_of units.now.units; slots = units.now.slots; places = no_places (loads_of units.now.units) } }
+    ensures { Answers Frames result (IsCertFramesOutput (units_view units.now) text.now) }
+{
+    let cert = read_cert(alloc, text)?;
+    certified_frames(alloc, loads, units, &cert)
+}
+
+/// What `frames` answers of the units that the reader has: the frames of their own places.
+pub fn frames_answer<R: Read>(alloc: Global, units: &mut Io<R>) -> Result<Answer, Refusal>
+    requires { has_failed units.old ≡ false }
+    ensures told { has_failed units.new ≡ false → IfSome (R.remaining (stream units.old)) (λ bytes. Answers Frames result (IsOutput Frames bytes None)) }
+    ensures read { has_failed units.new ≡ true → result ≡ Err Refusal.Read }
+    ensures consumed { ConsumesAtMost (R.remaining (stream units.old)) (R.remaining (stream units.new)) 1048577 }
+    ensures taken { taken units.new ≤ taken units.old + 1048577 }
+{
+    let line = units_of(alloc, units)?;
+    frames_of(alloc, &line)
+}
+
+/// What `frames` answers of the units and the certificate that the readers have: the frames of the certificate's plan. The
+/// certificate isn't read before the units are right and the room to check it is there.
+pub fn planned_frames<R: Read, C: Read>(
+    alloc: Global,
+    units: &mut Io<R>,
+    cert: &mut Io<C>,
+) -> Result<Answer, Refusal>
+    requires units { has_failed units.old ≡ false }
+    requires cert { has_failed cert.old ≡ false }
+    ensures told { has_failed units.new ≡ false → has_failed cert.new ≡ false → IfSome (R.remaining (stream units.old)) (λ bytes.
+        IfSome (C.remaining (stream cert.old)) (λ text. Answers Frames result (IsOutput Frames bytes (Some text)))) }
+    ensures read { has_failed units.new ≡ true → result ≡ Err Refusal.Read }
+    ensures cert_read { has_failed cert.new ≡ true → result ≡ Err Refusal.Read }
+    ensures kept { has_failed units.new ≡ true → cert.new ≡ cert.old }
+    ensures first { IfSome (R.remaining (stream units.old)) (λ bytes. ¬ (AreUnits bytes) → cert.new ≡ cert.old) }
+    ensures consumed { ConsumesAtMost (R.remaining (stream units.old)) (R.remaining (stream units.new)) 1048577 }
+    ensures taken { taken units.new ≤ taken units.old + 1048577 }
+    ensures cert_consumed { ConsumesAtMost (C.remaining (stream cert.old)) (C.remaining (stream cert.new)) 67108865 }
+    ensures cert_taken { taken cert.new ≤ taken cert.old + 67108865 }
+{
+    let units = units_of(alloc, units)?;
+    let Ok(mut loads) = Loads::new(alloc, &units) else {
+        return Err(Refusal::Check(CheckFault::OutOfMemory));
+    };
+    let text = cert_text(alloc, cert)?;
+    text_frames(alloc, &mut loads, &units, &text)
+}

@@ -1,0 +1,61 @@
+//! Does the frames of a row without a certificate, by each of the ways that there are.
+
+use crate::jobs::{Failed, Told};
+use crate::row::Row;
+use crate::streams::{FailsAt, Slow};
+use ec_jobs::{run, run_plain};
+use ec_lines::Job;
+use ec_wire::Io;
+use std::alloc::Global;
+use std::io;
+use std::sync::Wait;
+use std::thread::Threads;
+
+/// What frames left, with this status.
+fn told_of(alloc: Global, held: Vec<u8>, code: u8, units: bool, text: bool) -> Told {
+    let failed = Failed {
+        units,
+        cert: false,
+        text,
+    };
+    Told {
+        text: held,
+        cert: Vec::new(alloc),
+        code,
+        failed,
+    }
+}
+
+/// Frames without a runtime.
+pub(crate) fn frames_plain(alloc: Global, row: &Row<'_>) -> Told {
+    let mut units = Io::new(FailsAt::new(row.units, row.calls.units));
+    let mut held = Slow::new(alloc, row.calls.text);
+    let mut text = Io::new(&mut held);
+    let none: Option<&mut Io<io::Empty>> = None;
+    let nowhere: Option<&mut Io<io::Sink>> = None;
+    let status = run_plain(alloc, &Job::Frames, &mut units, none, &mut text, nowhere);
+    let failed = text.failed();
+    drop(text);
+    told_of(alloc, held.held, status.code, units.failed(), failed)
+}
+
+/// Frames by the call that does any job.
+pub(crate) fn frames_any(rt: &(impl Threads + Wait + Sync), alloc: Global, row: &Row<'_>) -> Told {
+    let mut units = Io::new(FailsAt::new(row.units, row.calls.units));
+    let mut held = Slow::new(alloc, row.calls.text);
+    let mut text = Io::new(&mut held);
+    let none: Option<&mut Io<io::Empty>> = None;
+    let nowhere: Option<&mut Io<io::Sink>> = None;
+    let status = run(
+        rt,
+        alloc,
+        &Job::Frames,
+        &mut units,
+        none,
+        &mut text,
+        nowhere,
+    );
+    let failed = text.failed();
+    drop(text);
+    told_of(alloc, held.held, status.code, units.failed(), failed)
+}
