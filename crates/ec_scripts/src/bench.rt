@@ -2,7 +2,7 @@
 
 use crate::call::Call;
 use crate::steps::{Dice, agrees};
-use ec_bounds::{Rest, average_bound, full_bound, tick_bound};
+use ec_bounds::{Rest, average_bound, full_bound, tick_bound, weight_bound};
 use ec_loads::Loads;
 use ec_units::{Place, Units};
 use std::alloc::{AllocError, Global};
@@ -123,6 +123,12 @@ impl Bench {
         agreed
     }
 
+    /// Whether the weights of a call hold at its value.
+    fn weigh(&self, alloc: Global, call: &Call<'_>) -> Result<String, AllocError> {
+        let weights = call.weights(alloc, 2)?;
+        weight_bound(&self.loads, &self.rest, weights.as_slice(), call.number(1)).to_string(alloc)
+    }
+
     /// What a call of the loads or of a bound answers.
     pub(crate) fn answer(&mut self, alloc: Global, call: &Call<'_>) -> Result<String, AllocError> {
         let value = call.number(1);
@@ -142,6 +148,7 @@ impl Bench {
             b"tick_bound" => format!(in alloc; "{:?}", tick_bound(&self.loads, value)),
             b"full_bound" => format!(in alloc; "{:?}", full_bound(&self.loads)),
             b"average_bound" => average_bound(&self.loads, &self.rest, value).to_string(alloc),
+            b"weight_bound" => self.weigh(alloc, call),
             b"demand" => self.rest.demand().to_string(alloc),
             _ => String::from_str(alloc, "no call"),
         }

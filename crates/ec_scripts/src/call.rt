@@ -71,6 +71,18 @@ impl<'a> Call<'a> {
         Ok(places)
     }
 
+    /// The numbers that the words from this one on are, up to the first that is none.
+    pub(crate) fn weights(&self, alloc: Global, from: usize) -> Result<Vec<u16>, AllocError> {
+        let mut weights = Vec::new(alloc);
+        for word in self.words.as_slice().iter().skip(from) {
+            let Some(weight) = word.parse::<u16>().ok() else {
+                return Ok(weights);
+            };
+            weights.push(weight)?;
+        }
+        Ok(weights)
+    }
+
     /// The words from this one on.
     pub(crate) fn rest(&self, from: usize) -> &[&'a str] {
         let words = self.words.as_slice();

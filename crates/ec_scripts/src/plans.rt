@@ -34,15 +34,22 @@ fn counts_text(alloc: Global, children: Children) -> Result<String, AllocError> 
     format!(in alloc; "{walked} {count}")
 }
 
-/// The renamed plan, where the plan is legal and the order has units of the line alone.
-fn renamed(alloc: Global, units: &Units, plan: &Plan, order: &[u8]) -> Result<String, AllocError> {
+/// The plan that the children reach, in turned time or not, where the plan is legal and the order has units of the line
+/// alone.
+fn renamed(
+    alloc: Global,
+    units: &Units,
+    plan: &Plan,
+    order: &[u8],
+    turned: bool,
+) -> Result<String, AllocError> {
     let count = units.units.as_slice().len();
     if !order.iter().all(|unit| usize::from(*unit) < count) {
         return String::from_str(alloc, "no order");
     }
     match is_legal(units, plan) {
         Ok(()) => {
-            let other = canonical(alloc, plan, units, order, false)?;
+            let other = canonical(alloc, plan, units, order, turned)?;
             places_text(alloc, other.places.as_slice())
         }
         Err(_) => String::from_str(alloc, "not legal"),
@@ -69,12 +76,13 @@ pub(crate) fn answer(alloc: Global, units: &Units, call: &Call<'_>) -> Result<St
             Ok(()) => format!(in alloc; "{:?}", busiest(units, &plan)),
             Err(_) => String::from_str(alloc, "not legal"),
         },
-        b"canonical" => {
+        b"canonical" | b"turned" => {
             let plan = Plan {
                 places: Places::new(call.places(alloc, 2)?),
             };
             let order = order_of(alloc, call.word(1))?;
-            renamed(alloc, units, &plan, order.as_slice())
+            let turned = call.word(0) == "turned";
+            renamed(alloc, units, &plan, order.as_slice(), turned)
         }
         b"used" if plan.places.as_slice().len() <= 48 => {
             used_slots(plan.places.as_slice()).to_string(alloc)
