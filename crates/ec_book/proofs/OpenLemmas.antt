@@ -1,16 +1,16 @@
 -- The walk that collects the places of open leaves.
-use Rattle.std.proofs.Common.{◌≡◌, ℕ, ◌+◌, ◌-◌, ◌<◌, ◌≤◌, List, [], ◌∷◌, ◌++◌, length, take, drop, get_or, Vec, Global, refl, ap, sym, ◌∙◌, arith}
+use Rattle.std.proofs.Common.{◌≡◌, ℕ, ◌+◌, ◌-◌, ◌<◌, ◌≤◌, List, [], ◌∷◌, ◌++◌, length, take, drop, get_or, Vec, Global, Option, refl, ap, sym, ◌∙◌, arith}
 use Rattle.std.proofs.lemmas.List.{drop_more, drop_all}
 use Rattle.ec_units.specs.declared.slave.Place.{Place}
 use Rattle.ec_units.specs.declared.unit.Load.{Load}
 use Rattle.ec_loads.specs.Line.{Line}
 use Rattle.ec_loads.specs.Search.{children}
-use Rattle.ec_loads.specs.Shape.{split, more}
+use Rattle.ec_loads.specs.Shape.{Shape, split, more}
 use Rattle.ec_cert.specs.declared.tree.Tree.{Tree, Split}
 use Rattle.ec_cert.specs.Shapes.{shape_of, shapes_of}
 use Rattle.ec_cert.proofs.TreeLemmas.{shape_of-Split, shapes_of-drop}
 use Rattle.ec_symmetry.specs.Orders.{prefix_of}
-use Rattle.ec_book.specs.Open.{leaf_places, all_leaf_places, open_places}
+use Rattle.ec_book.specs.Open.{leaf_places, all_leaf_places, open_places, AreOpened, IsAddedTo}
 use Rattle.ec_book.proofs.OrderLemmas.{leads-more}
 
 -- what these trees leave open, for these children of the unit
@@ -78,3 +78,10 @@ path_back q longer popped p k is count back =
     let long = ap length is ∙ length-last q p in
     let less : k - 1 ≡ length q = omega (arith, long, count) in
     back ∙ (λ j. take (less j) (is j)) ∙ take-front q p
+
+-- what is added of known places are the tree's, and so many
+pub added : (line : Line) (order : List ℕ) (t : Shape) (q : List Place) (known : Option (Vec (List Place) Global)) (n : ℕ) (old new : List (List Place))
+    → AreOpened line order t q known → IsAddedTo known n old new → (n ≡ length (open_places line order t q)) × (new ≡ old ++ open_places line order t q)
+added line order t q known n old new are (v, is, count, stand) =
+    let these : v.items ≡ open_places line order t q = rw is at are in
+    (count ∙ ap length these, stand ∙ ap (λ w. old ++ w) these)

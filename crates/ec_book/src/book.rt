@@ -1,6 +1,6 @@
 //! The book.
 
-ghost use Rattle.std.specs.Prelude.{◌≡◌, ◌≢◌, ℕ, ◌==◌, IsTrue, MatchBool, ◌+◌, ◌<◌, ◌≤◌, ◌^◌, ◌++◌, ◌∷◌, [], IfOk, IfSome, IfErr, OnOk, OnErr, OnSome, IfNone, ◌↔◌, MatchOption, None, Some, length, slice_get, replicate, drop, vec_capacity, vec_len};
+ghost use Rattle.std.specs.Prelude.{◌≡◌, ◌≢◌, ℕ, ◌==◌, IsTrue, MatchBool, ◌+◌, ◌<◌, ◌≤◌, ◌^◌, ◌++◌, ◌∷◌, [], IfOk, IfSome, IfErr, OnOk, OnErr, OnSome, IsSome, IfNone, ◌↔◌, MatchOption, None, Some, length, slice_get, replicate, drop, vec_capacity, vec_len};
 ghost use Rattle.ec_units.specs.Load.{loads_of};
 ghost use Rattle.ec_loads.specs.Line.{slots_alone, line_by};
 ghost use Rattle.ec_loads.specs.Search.{IsPartialTree, node_count as node_count_of};
@@ -8,7 +8,7 @@ ghost use Rattle.ec_cert.specs.Shapes.{shape_of};
 ghost use Rattle.ec_symmetry.specs.Orders.{IsOrder, prefix_of};
 ghost use Rattle.ec_book.specs.declared.piece.Piece.TheVariants.{Free};
 ghost use Rattle.ec_book.specs.Steps.{live_one, live_count, taken_count, IsHistory};
-ghost use Rattle.ec_book.specs.Open.{open_places};
+ghost use Rattle.ec_book.specs.Open.{open_places, AreOpened, IsAddedTo};
 ghost use Rattle.ec_cert.specs.BestPlan.{value_of, IsBestPlan};
 ghost use Rattle.ec_loads.specs.Legal.{IsIllegalBy};
 ghost use Rattle.ec_book.specs.Views.{book_view, state_of, opening, after_back, after_better, after_report};
@@ -19,10 +19,10 @@ ghost use Rattle.ec_book.specs.Finishing.{IsFinishedOf};
 ghost use Rattle.ec_book.specs.declared.fault.BookFault.TheVariants.{OutOfMemory};
 ghost use Rattle.ec_book.specs.declared.taken.Taken.TheVariants.{Later, Done};
 
+use crate::counted::Counted;
 use crate::fault::BookFault;
 use crate::finish::{assembled, open_leaves};
 use crate::judge::{grant_of, judged};
-use crate::open::opened_by;
 use crate::piece::Piece;
 use crate::plans::{not_below, plan_cost};
 use crate::report::Report;
@@ -120,6 +120,35 @@ fn value_in(best: &Option<Best>) -> Option<u64>
         None => None,
         Some(best) => Some(best.busiest),
     }
+}
+
+/// Takes in the places that lead to new pieces, and makes room for these and for one more report; gives how many they
+/// are. Where the places aren't known or memory is refused they come back, and the lists are as before.
+fn add_opened(
+    pieces: &mut Vec<Piece>,
+    reports: &mut Vec<Report>,
+    prefixes: &mut Vec<Places>,
+    opened: Option<Vec<Places>>,
+) -> Result<usize, Option<Vec<Places>>>
+    ensures same { (pieces.new.items ≡ pieces.old.items) × (reports.new.items ≡ reports.old.items) }
+    ensures known { IfOk result (λ n. IsAddedTo opened n prefixes.old.items prefixes.new.items) }
+    ensures room { IfOk result (λ n. (vec_len pieces.new + n ≤ vec_capacity pieces.new) × (vec_len reports.new + 1 ≤ vec_capacity reports.new)) }
+    ensures kept { OnErr result (prefixes.new.items ≡ prefixes.old.items) }
+{
+    let Some(mut opened) = opened else {
+        return Err(None);
+    };
+    let count = opened.len();
+    let Ok(()) = pieces.reserve(count) else {
+        return Err(Some(opened));
+    };
+    let Ok(()) = reports.reserve(1) else {
+        return Err(Some(opened));
+    };
+    let Ok(()) = prefixes.append(&mut opened) else {
+        return Err(Some(opened));
+    };
+    Ok(count)
 }
 
 /// New pieces, for which there is room.
@@ -353,39 +382,55 @@ impl Book {
         ensures err { IfErr result (λ e. IsReportFault self.old.pieces self.old.prefixes (value_of self.old.best) worker piece prefix.now sub.threshold (node_count_of (shape_of sub.tree)) e.0
             × (e.1 ≡ sub) × (self.new ≡ self.old)) }
     {
-        let value = value_in(&self.best);
-        let (grant, spent) = match judged(
-            self.pieces.as_slice(),
-            self.prefixes.as_slice(),
-            value,
-            worker,
-            piece,
-            prefix,
-            &sub,
-        ) {
-            Ok(found) => found,
-            Err(fault) => return Err((fault, sub)),
-        };
         let alloc = *self.log.allocator();
-        let Ok(mut opened) = opened_by(alloc, &self.loads, self.order.as_slice(), prefix, &sub.tree)
-        else {
-            return Err((BookFault::OutOfMemory, sub));
+        let counted = Counted::of(alloc, &self.loads, self.order.as_slice(), prefix, sub);
+        match self.report_counted(worker, piece, prefix, counted) {
+            Ok(()) => Ok(()),
+            Err((fault, counted)) => Err((fault, counted.into_sub())),
+        }
+    }
+
+    /// Reports a subtree that was counted before. Nothing in it takes time in proportion to the nodes of the subtree; the
+    /// pieces that it opens are added, and where the lists of pieces, of their prefixes and of reports are full, these
+    /// grow. Where the open leaves aren't known it is refused for want of memory, unless for another reason.
+    pub fn report_counted(
+        &mut self,
+        worker: usize,
+        piece: u64,
+        prefix: &[Place],
+        counted: Counted,
+    ) -> Result<(), (BookFault, Counted)>
+        requires tree { IsPartialTree (line_by slots_alone self.old.loads self.old.slots) counted.sub.threshold (shape_of counted.sub.tree) (prefix_of self.old.loads self.old.order prefix.now) (drop (length prefix.now) self.old.order) }
+        requires some { 0 < node_count_of (shape_of counted.sub.tree) }
+        requires opened { AreOpened (line_by slots_alone self.old.loads self.old.slots) self.old.order (shape_of counted.sub.tree) prefix.now counted.opened }
+        ensures known { OnOk result (IsSome counted.opened) }
+        ensures welcome { OnOk result ((g : ℕ) × IsWelcome self.old.pieces self.old.prefixes (value_of self.old.best) worker piece prefix.now counted.sub.threshold (node_count_of (shape_of counted.sub.tree)) g) }
+        ensures ok { OnOk result (self.new ≡ after_report self.old worker piece (node_count_of (shape_of counted.sub.tree)) (open_places (line_by slots_alone self.old.loads self.old.slots) self.old.order (shape_of counted.sub.tree) prefix.now)) }
+        ensures err { IfErr result (λ e. IsReportFault self.old.pieces self.old.prefixes (value_of self.old.best) worker piece prefix.now counted.sub.threshold (node_count_of (shape_of counted.sub.tree)) e.0
+            × (e.1.sub ≡ counted.sub) × (self.new ≡ self.old)) }
+    {
+        let value = value_in(&self.best);
+        let pieces = self.pieces.as_slice();
+        let prefixes = self.prefixes.as_slice();
+        let grant = match judged(pieces, prefixes, value, worker, piece, prefix, &counted) {
+            Ok(grant) => grant,
+            Err(fault) => return Err((fault, counted)),
         };
-        let count = opened.len();
+        let Counted { sub, nodes, opened } = counted;
         let first = self.pieces.len();
-        let Ok(()) = self.pieces.reserve(count) else {
-            return Err((BookFault::OutOfMemory, sub));
-        };
-        let Ok(()) = self.reports.reserve(1) else {
-            return Err((BookFault::OutOfMemory, sub));
-        };
-        let Ok(()) = self.prefixes.append(&mut opened) else {
-            return Err((BookFault::OutOfMemory, sub));
+        let count = match add_opened(
+            &mut self.pieces,
+            &mut self.reports,
+            &mut self.prefixes,
+            opened,
+        ) {
+            Ok(count) => count,
+            Err(opened) => return Err((BookFault::OutOfMemory, Counted { sub, nodes, opened })),
         };
         self.log.push_reserved(Step::Reported {
             worker,
             piece,
-            spent,
+            spent: nodes,
             first: first as u64,
             count: count as u64,
         });
@@ -399,7 +444,7 @@ impl Book {
         });
         self.held -= u64::from(grant);
         self.taken -= 1;
-        self.spent += spent;
+        self.spent += nodes;
         Ok(())
     }
 
@@ -409,32 +454,6 @@ impl Book {
         ensures err { IfErr result (IsHoldFault self.now.pieces worker piece) }
     {
         grant_of(self.pieces.as_slice(), worker, piece)
-    }
-
-    /// Why a report would be refused, memory aside. Nothing is changed.
-    pub fn judge(
-        &self,
-        worker: usize,
-        piece: u64,
-        prefix: &[Place],
-        sub: &Subtree,
-    ) -> Result<(), BookFault>
-        ensures ok { OnOk result ((g : ℕ) × IsWelcome self.now.pieces self.now.prefixes (value_of self.now.best) worker piece prefix.now sub.now.threshold (node_count_of (shape_of sub.now.tree)) g) }
-        ensures err { IfErr result (IsReportFault self.now.pieces self.now.prefixes (value_of self.now.best) worker piece prefix.now sub.now.threshold (node_count_of (shape_of sub.now.tree))) }
-    {
-        let value = value_in(&self.best);
-        match judged(
-            self.pieces.as_slice(),
-            self.prefixes.as_slice(),
-            value,
-            worker,
-            piece,
-            prefix,
-            sub,
-        ) {
-            Ok(_) => Ok(()),
-            Err(fault) => Err(fault),
-        }
     }
 
     /// What the busiest tick of the best plan costs, in wire bytes; none, as long as no plan is known.

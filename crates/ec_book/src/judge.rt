@@ -1,13 +1,14 @@
 //! Whether a reported subtree is welcome.
 
-ghost use Rattle.std.specs.Prelude.{◌≡◌, ◌≢◌, ℕ, ◌+◌, ◌<◌, ◌≤◌, ◌^◌, min, length, slice_get, Some, IfOk, IfErr, IsTrue, ◌↔◌};
+ghost use Rattle.std.specs.Prelude.{◌≡◌, ◌≢◌, ℕ, ◌+◌, ◌<◌, ◌≤◌, ◌^◌, min, length, slice_get, Some, IfOk, IfErr, OnOk, IsTrue, ◌↔◌};
 ghost use Rattle.ec_loads.specs.Search.{IsAtMost, node_count as node_count_of};
 ghost use Rattle.ec_cert.specs.Shapes.{shape_of};
 ghost use Rattle.ec_book.specs.Faults.{IsTakenBy, IsHoldFault, IsWelcome, IsReportFault};
 
+use crate::counted::Counted;
 use crate::fault::BookFault;
 use crate::piece::Piece;
-use ec_cert::{Subtree, Tree};
+use ec_cert::Tree;
 use ec_loads::Places;
 use ec_units::Place;
 
@@ -76,7 +77,7 @@ pub(crate) fn grant_of(pieces: &[Piece], worker: usize, piece: u64) -> Result<u3
     Ok(grant)
 }
 
-/// The grant of the piece and the nodes of the subtree, where it is welcome.
+/// The grant of the piece, where the subtree is welcome.
 pub(crate) fn judged(
     pieces: &[Piece],
     prefixes: &[Places],
@@ -84,12 +85,12 @@ pub(crate) fn judged(
     worker: usize,
     piece: u64,
     prefix: &[Place],
-    sub: &Subtree,
-) -> Result<(u32, u64), BookFault>
+    counted: &Counted,
+) -> Result<u32, BookFault>
     requires each { length prefixes.now ≡ length pieces.now }
-    ensures ok { IfOk result (λ r. IsWelcome pieces.now prefixes.now value worker piece prefix.now sub.now.threshold (node_count_of (shape_of sub.now.tree)) r.0) }
-    ensures nodes { IfOk result (λ r. r.1 ≡ node_count_of (shape_of sub.now.tree)) }
-    ensures err { IfErr result (IsReportFault pieces.now prefixes.now value worker piece prefix.now sub.now.threshold (node_count_of (shape_of sub.now.tree))) }
+    ensures ok { IfOk result (IsWelcome pieces.now prefixes.now value worker piece prefix.now counted.now.sub.threshold (node_count_of (shape_of counted.now.sub.tree))) }
+    ensures nodes { OnOk result (counted.now.nodes ≡ node_count_of (shape_of counted.now.sub.tree)) }
+    ensures err { IfErr result (IsReportFault pieces.now prefixes.now value worker piece prefix.now counted.now.sub.threshold (node_count_of (shape_of counted.now.sub.tree))) }
 {
     let grant = match grant_of(pieces, worker, piece) {
         Ok(grant) => grant,
@@ -98,12 +99,12 @@ pub(crate) fn judged(
     if !are_same(prefixes[piece as usize].as_slice(), prefix) {
         return Err(BookFault::Stranger);
     }
-    if !is_at_most(value, sub.threshold) {
+    if !is_at_most(value, counted.sub.threshold) {
         return Err(BookFault::AheadOfBook(value));
     }
-    let nodes = node_count(&sub.tree);
+    let nodes = counted.nodes;
     if nodes > u64::from(grant) {
         return Err(BookFault::OverGrant);
     }
-    Ok((grant, nodes))
+    Ok(grant)
 }

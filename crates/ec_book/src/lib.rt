@@ -2,6 +2,7 @@
 #![tactic(auto)]
 
 mod book;
+mod counted;
 mod fault;
 mod finish;
 mod judge;
@@ -15,6 +16,7 @@ mod taken;
 mod tree;
 
 pub use book::{Book, Finished};
+pub use counted::Counted;
 pub use fault::BookFault;
 pub use law::{done_is_spent, empty_logs_spend_nothing, histories_replay, trees_fall};
 pub use piece::Piece;

@@ -58,6 +58,30 @@ fn counted<S: Search>(locked: Locked<S>, seats: Vec<Seat<'_, '_, S>>) -> Book
     book
 }
 
+/// Ends the book of these seats: the receipts are compared with the log, and the book is finished.
+fn ended<S: Search>(
+    alloc: Global,
+    locked: Locked<S>,
+    seats: Vec<Seat<'_, '_, S>>,
+) -> Result<Finished, CloseFault>
+    requires count { vec_len seats ≡ S.parts }
+    requires ours { All (λ s. IsOf S.loads S.slots S.order s) seats.items }
+    ensures ok { IfOk result (λ f. IsClosed S.loads S.slots S.order seats.entry.items f × IsJournal seats.entry.items f.log) }
+    ensures err { IfErr result (IsCloseFault S.loads S.slots S.order seats.entry.items) }
+{
+    let Ok(is_right) = is_journal(alloc, seats.as_slice(), locked.book.log()) else {
+        return Err(CloseFault::OutOfMemory);
+    };
+    let Ok(finished) = counted(locked, seats).finish() else {
+        return Err(CloseFault::OutOfMemory);
+    };
+    if is_right {
+        Ok(finished)
+    } else {
+        Err(CloseFault::Journal(finished))
+    }
+}
+
 impl<S: Search> Shared<S> {
     /// Ends the book, when all of its seats are back: other units are answered before the journal. It takes time and
     /// memory in proportion to the whole.
@@ -66,26 +90,11 @@ impl<S: Search> Shared<S> {
         ensures ok { IfOk result (λ f. IsClosed S.loads S.slots S.order seats.entry.items f × IsJournal seats.entry.items f.log) }
         ensures err { IfErr result (IsCloseFault S.loads S.slots S.order seats.entry.items) }
     {
-        let Shared {
-            lock,
-            loads,
-            slots,
-            order,
-        } = self;
-        if !are_all_of(seats.as_slice(), loads.as_slice(), slots, order.as_slice()) {
+        let Shared { lock, loads, order } = self;
+        let slots = loads.slots();
+        if !are_all_of(seats.as_slice(), loads.loads(), slots, order.as_slice()) {
             return Err(CloseFault::OtherUnits);
         }
-        let locked = lock.into_inner();
-        let Ok(is_right) = is_journal(alloc, seats.as_slice(), locked.book.log()) else {
-            return Err(CloseFault::OutOfMemory);
-        };
-        let Ok(finished) = counted(locked, seats).finish() else {
-            return Err(CloseFault::OutOfMemory);
-        };
-        if is_right {
-            Ok(finished)
-        } else {
-            Err(CloseFault::Journal(finished))
-        }
+        ended(alloc, lock.into_inner(), seats)
     }
 }

@@ -1,6 +1,6 @@
 //! What lies under the lock.
 
-ghost use Rattle.std.specs.Prelude.{◌≡◌, ℕ, ◌+◌, ◌<◌, ◌≤◌, ◌++◌, ◌∷◌, [], List, IfOk, IfErr, OnOk, OnErr, Some, length, drop, true};
+ghost use Rattle.std.specs.Prelude.{◌≡◌, ℕ, ◌+◌, ◌<◌, ◌≤◌, ◌++◌, ◌∷◌, [], List, IfOk, IfErr, OnOk, OnErr, IsSome, Some, length, drop, true};
 ghost use Rattle.ec_loads.specs.Line.{slots_alone, line_by};
 ghost use Rattle.ec_loads.specs.Search.{IsPartialTree, node_count as node_count_of};
 ghost use Rattle.ec_cert.specs.BestPlan.{value_of};
@@ -10,14 +10,14 @@ ghost use Rattle.ec_book.specs.declared.fault.BookFault.TheVariants.{OutOfMemory
 ghost use Rattle.ec_book.specs.declared.step.Step.{Step as StepSpec};
 ghost use Rattle.ec_book.specs.declared.step.Step.TheVariants.{Reported};
 ghost use Rattle.ec_book.specs.Steps.{IsBelow};
-ghost use Rattle.ec_book.specs.Open.{open_places};
+ghost use Rattle.ec_book.specs.Open.{open_places, AreOpened};
 ghost use Rattle.ec_book.specs.Views.{BookView, after_report, after_better, after_back};
 ghost use Rattle.ec_book.specs.Faults.{IsHandedOut, IsPieceHandedOut, IsPieceFault, IsPlanOf, IsOfferFault, IsTakenBy, IsWelcome, IsReportFault};
 ghost use Rattle.ec_seats.specs.Seats.{HasBook, IsBackFault};
 
 use crate::search::Search;
-use ec_book::{Book, BookFault, Step, Taken};
-use ec_cert::{Best, Subtree};
+use ec_book::{Book, BookFault, Counted, Step, Taken};
+use ec_cert::Best;
 use ec_units::Place;
 use std::sync::ledger;
 use std::sync::ledger::Share;
@@ -151,45 +151,38 @@ impl<S: Search> Locked<S> {
         }
     }
 
-    /// Reports a subtree, and gives the step that this is; its nodes go into the share. Without `room` only says why it
-    /// isn't taken.
+    /// Reports a subtree that was counted before, and gives the step that this is; its nodes go into the share.
     pub(crate) fn report(
         &mut self,
         worker: usize,
         share: &mut Share<S>,
         piece: u64,
         prefix: &[Place],
-        sub: Subtree,
-        room: bool,
-    ) -> Result<Step, (BookFault, Subtree)>
+        counted: Counted,
+    ) -> Result<Step, (BookFault, Counted)>
         requires part { 0 < share.old.parts }
-        requires tree { IsPartialTree (line_by slots_alone S.loads S.slots) sub.threshold (shape_of sub.tree) (prefix_of S.loads S.order prefix.now) (drop (length prefix.now) S.order) }
-        requires some { 0 < node_count_of (shape_of sub.tree) }
-        ensures book { OnOk result (self.new.book ≡ after_report self.old.book worker piece (node_count_of (shape_of sub.tree)) (open_places (line_by slots_alone S.loads S.slots) S.order (shape_of sub.tree) prefix.now)) }
+        requires tree { IsPartialTree (line_by slots_alone S.loads S.slots) counted.sub.threshold (shape_of counted.sub.tree) (prefix_of S.loads S.order prefix.now) (drop (length prefix.now) S.order) }
+        requires some { 0 < node_count_of (shape_of counted.sub.tree) }
+        requires opened { AreOpened (line_by slots_alone S.loads S.slots) S.order (shape_of counted.sub.tree) prefix.now counted.opened }
+        ensures book { OnOk result (self.new.book ≡ after_report self.old.book worker piece (node_count_of (shape_of counted.sub.tree)) (open_places (line_by slots_alone S.loads S.slots) S.order (shape_of counted.sub.tree) prefix.now)) }
         ensures left { OnErr result (self.new.book ≡ self.old.book) }
-        ensures room { OnOk result (room ≡ true) }
-        ensures step { IfOk result (λ e. (first : ℕ) × (e ≡ Reported worker piece (node_count_of (shape_of sub.tree)) first (length (open_places (line_by slots_alone S.loads S.slots) S.order (shape_of sub.tree) prefix.now)))) }
-        ensures welcome { OnOk result (HasBook S.loads S.slots S.order (λ b. (g : ℕ) × IsWelcome b.pieces b.prefixes (value_of b.best) worker piece prefix.now sub.threshold (node_count_of (shape_of sub.tree)) g)) }
-        ensures amount { OnOk result (share.new.amount ≡ share.old.amount + node_count_of (shape_of sub.tree)) }
+        ensures known { OnOk result (IsSome counted.opened) }
+        ensures step { IfOk result (λ e. (first : ℕ) × (e ≡ Reported worker piece (node_count_of (shape_of counted.sub.tree)) first (length (open_places (line_by slots_alone S.loads S.slots) S.order (shape_of counted.sub.tree) prefix.now)))) }
+        ensures welcome { OnOk result (HasBook S.loads S.slots S.order (λ b. (g : ℕ) × IsWelcome b.pieces b.prefixes (value_of b.best) worker piece prefix.now counted.sub.threshold (node_count_of (shape_of counted.sub.tree)) g)) }
+        ensures amount { OnOk result (share.new.amount ≡ share.old.amount + node_count_of (shape_of counted.sub.tree)) }
         ensures kept { OnErr result (share.new.amount ≡ share.old.amount) }
         ensures parts { share.new.parts ≡ share.old.parts }
-        ensures err { IfErr result (λ e. (e.1 ≡ sub) × HasBook S.loads S.slots S.order (λ b. IsReportFault b.pieces b.prefixes (value_of b.best) worker piece prefix.now sub.threshold (node_count_of (shape_of sub.tree)) e.0)) }
+        ensures err { IfErr result (λ e. (e.1.sub ≡ counted.sub) × HasBook S.loads S.slots S.order (λ b. IsReportFault b.pieces b.prefixes (value_of b.best) worker piece prefix.now counted.sub.threshold (node_count_of (shape_of counted.sub.tree)) e.0)) }
     {
         know(self);
-        if !room {
-            return match self.book.judge(worker, piece, prefix, &sub) {
-                Ok(()) => Err((BookFault::OutOfMemory, sub)),
-                Err(fault) => Err((fault, sub)),
-            };
-        }
         let before = self.book.spent();
-        match self.book.report(worker, piece, prefix, sub) {
+        match self.book.report_counted(worker, piece, prefix, counted) {
             Ok(()) => {
                 let nodes = self.book.spent() - before;
                 self.total.add(share, nodes);
                 Ok(last_step(self.book.log()))
             }
-            Err((fault, sub)) => Err((fault, sub)),
+            Err(refusal) => Err(refusal),
         }
     }
 }

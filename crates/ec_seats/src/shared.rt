@@ -1,6 +1,6 @@
 //! A book under a lock.
 
-ghost use Rattle.std.specs.Prelude.{◌≡◌, ◌⊎◌, ◌↔◌, ℕ, ◌+◌, ◌<◌, ◌≤◌, IsTrue, IfOk, IfErr, OnOk, [], length, drop, vec_len};
+ghost use Rattle.std.specs.Prelude.{◌≡◌, ◌⊎◌, ◌↔◌, ℕ, ◌+◌, ◌<◌, ◌≤◌, IsTrue, IfOk, IfErr, OnOk, IsSome, true, [], length, drop, vec_len};
 ghost use Rattle.ec_units.specs.Load.{loads_of};
 ghost use Rattle.ec_loads.specs.Line.{slots_alone, line_by};
 ghost use Rattle.ec_loads.specs.Search.{IsPartialTree, node_count as node_count_of};
@@ -11,6 +11,7 @@ ghost use Rattle.ec_book.specs.Books.{IsBookOf};
 ghost use Rattle.ec_book.specs.declared.fault.BookFault.TheVariants.{OutOfMemory};
 ghost use Rattle.ec_book.specs.declared.step.Step.TheVariants.{Better, Back};
 ghost use Rattle.ec_book.specs.Steps.{IsBelow};
+ghost use Rattle.ec_book.specs.Open.{AreOpened};
 ghost use Rattle.ec_book.specs.Views.{BookView};
 ghost use Rattle.ec_book.specs.Faults.{IsHandedOut, IsPieceHandedOut, IsPieceFault, IsPlanOf, IsOfferFault, IsTakenBy, IsWelcome, IsReportFault};
 ghost use Rattle.ec_seats.specs.Receipts.{holds};
@@ -21,10 +22,10 @@ use crate::locked::Locked;
 use crate::receipts::Receipts;
 use crate::search::Search;
 use crate::seat::Seat;
-use ec_book::{Book, BookFault, Step, Taken, empty_logs_spend_nothing};
+use ec_book::{Book, BookFault, Counted, Step, Taken, empty_logs_spend_nothing};
 use ec_cert::{Best, Subtree};
-use ec_loads::{Plan, busiest, is_legal};
-use ec_units::{Load, Place, Units};
+use ec_loads::{Loads, Plan, busiest, is_legal};
+use ec_units::{Place, Units};
 use std::alloc::{AllocError, Global};
 use std::sync::ledger::Blank;
 use std::sync::{Mutex, Wait};
@@ -34,11 +35,10 @@ use std::sync::{Mutex, Wait};
 #[derive(Drop)]
 pub struct Shared<S: Search> {
     pub(crate) lock: Mutex<Locked<S>>,
-    pub(crate) loads: Vec<Load>,
-    pub(crate) slots: u8,
+    pub(crate) loads: Loads,
     pub(crate) order: Vec<u8>,
-    pub ghost loads_is: { loads.items ≡ S.loads },
-    pub ghost slots_is: { slots ≡ S.slots },
+    pub ghost loads_is: { loads.loads ≡ S.loads },
+    pub ghost slots_is: { loads.slots ≡ S.slots },
     pub ghost order_is: { order.items ≡ S.order },
 }
 
@@ -64,7 +64,7 @@ impl<S: Search> Shared<S> {
         ensures seats { IfOk result (λ r. r.1.items ≡ first_seats units.now.units units.now.slots order.now seats) }
         ensures err { IfErr result (λ e. e.0 ≡ book) }
     {
-        let loads = match Vec::from_slice(alloc, book.loads()) {
+        let loads = match Loads::new(alloc, units) {
             Ok(loads) => loads,
             Err(error) => return Err((book, error)),
         };
@@ -89,13 +89,11 @@ impl<S: Search> Shared<S> {
                 share,
             });
         }
-        let slots = book.slots();
         let lock = Mutex::new(Locked { book, total, spare });
         Ok((
             Shared {
                 lock,
                 loads,
-                slots,
                 order: copy,
             },
             all,
@@ -107,8 +105,8 @@ impl<S: Search> Shared<S> {
         ensures { IsTrue result ↔ IsOf S.loads S.slots S.order seat.now }
     {
         are_of(
-            self.loads.as_slice(),
-            self.slots,
+            self.loads.loads(),
+            self.loads.slots(),
             self.order.as_slice(),
             seat.units,
             seat.order,
@@ -134,7 +132,8 @@ impl<S: Search> Shared<S> {
         if !seat.receipts.make_room() {
             return Err(BookFault::OutOfMemory);
         }
-        match self.lock.lock(rt).take(seat.worker, most) {
+        let answer = self.lock.lock(rt).take(seat.worker, most);
+        match answer {
             Ok(taken) => {
                 seat.receipts.note_taken(seat.worker, &taken);
                 Ok(taken)
@@ -161,11 +160,11 @@ impl<S: Search> Shared<S> {
             return Err(BookFault::Stranger);
         }
         let room = seat.receipts.make_room();
-        match self
+        let answer = self
             .lock
             .lock(rt)
-            .take_piece(seat.worker, piece, most, room)
-        {
+            .take_piece(seat.worker, piece, most, room);
+        match answer {
             Ok(taken) => {
                 seat.receipts.note_taken(seat.worker, &taken);
                 Ok(taken)
@@ -219,7 +218,8 @@ impl<S: Search> Shared<S> {
         let value = best.busiest;
         let worker = seat.worker;
         let room = seat.receipts.make_room();
-        match self.lock.lock(rt).improve(worker, best, room) {
+        let answer = self.lock.lock(rt).improve(worker, best, room);
+        match answer {
             Ok(()) => {
                 seat.receipts.note(Step::Better { worker, value });
                 Ok(())
@@ -245,13 +245,28 @@ impl<S: Search> Shared<S> {
         }
         let worker = seat.worker;
         let holds = seat.receipts.holds(piece);
-        match self.lock.lock(rt).back(worker, piece, holds) {
+        let answer = self.lock.lock(rt).back(worker, piece, holds);
+        match answer {
             Ok(()) => {
                 seat.receipts.note(Step::Back { worker, piece });
                 Ok(())
             }
             Err(fault) => Err(fault),
         }
+    }
+
+    /// Counts a subtree, with the lock free; without `room` its nodes alone, so that its report is only judged.
+    fn counted(&self, prefix: &[Place], sub: Subtree, room: bool) -> Counted
+        requires { IsOrder (length S.loads) S.order }
+        ensures sub { result.sub ≡ sub }
+        ensures opened { AreOpened (line_by slots_alone S.loads S.slots) S.order (shape_of sub.tree) prefix.now result.opened }
+        ensures room { IsSome result.opened → room ≡ true }
+    {
+        if !room {
+            return Counted::unopened(sub);
+        }
+        let alloc = *self.order.allocator();
+        Counted::of(alloc, &self.loads, self.order.as_slice(), prefix, sub)
     }
 
     /// Reports the subtree of a piece that the seat's worker has taken, with the prefix that it got. Its nodes count in
@@ -276,16 +291,18 @@ impl<S: Search> Shared<S> {
         }
         let worker = seat.worker;
         let room = seat.receipts.room_to_end(piece);
-        match self
+        let counted = self.counted(prefix, sub, room);
+        let share = &mut seat.share;
+        let answer = self
             .lock
             .lock(rt)
-            .report(worker, &mut seat.share, piece, prefix, sub, room)
-        {
+            .report(worker, share, piece, prefix, counted);
+        match answer {
             Ok(step) => {
                 seat.receipts.note(step);
                 Ok(())
             }
-            Err(refusal) => Err(refusal),
+            Err((fault, counted)) => Err((fault, counted.into_sub())),
         }
     }
 }

@@ -14,8 +14,8 @@ note-requires-clause-room g c =
 pub note-requires-clause-held : goal.note-requires-clause-held
 note-requires-clause-held g c = let most = at_most c.seat.inside.receipts.held.items c.args.piece in omega (arith, most)
 
-pub returns-clause-err : goal.returns-clause-err
-returns-clause-err g c =
+pub returns-in-Err-clause-err : goal.returns-in-Err-clause-err
+returns-in-Err-clause-err g c =
     let s = c.seat.inside in
     let ours = rw (← c.seat.view_is) at (c.is_for.ensures.0 c.if-not-is_for.false) in
     let why =

@@ -1,0 +1,116 @@
+use Rattle.std.proofs.Common.{◌≡◌, ◌++◌, ◌∷◌, [], arith, refl, ◌∙◌, set, replicate, drop, ◌≤◌, ◌<◌, length}
+use Rattle.ec_loads.specs.Line.{slots_alone, line_by}
+use Rattle.ec_loads.specs.Search.{node_count, IsPartialTree}
+use Rattle.ec_cert.specs.Shapes.{shape_of}
+use Rattle.ec_book.specs.declared.piece.Piece.TheVariants.{Free, Taken, Ended}
+use Rattle.ec_symmetry.specs.Orders.{prefix_of}
+use Rattle.ec_book.specs.Open.{AreOpened}
+use Rattle.ec_cert.specs.BestPlan.{value_of}
+use Rattle.ec_book.specs.Views.{book_view}
+use Rattle.ec_book.specs.Faults.{IsWelcome, IsReportFault}
+use Rattle.ec_book.proofs.HistoryLemmas.{granted-le, taken-le}
+use Rattle.ec_book.proofs.PieceLemmas.{within}
+use Rattle.ec_book.proofs.KeepLemmas.{counted-report, grown-report}
+use Rattle.ec_book.proofs.OpenLemmas.{added}
+use Rattle.ec_book.proofs.book.Book.report_counted.Goals as goal
+
+pub returns-in-Err-clause-err : goal.returns-in-Err-clause-err
+returns-in-Err-clause-err c =
+    let b = c.self.inside in
+    let sub = c.args.counted.sub in
+    let fault : IsReportFault b.pieces.items b.prefixes.items (value_of b.best) c.args.worker c.args.piece c.args.prefix.now sub.threshold (node_count (shape_of sub.tree)) c.in-Err.fault =
+    rw (c.as_slice-pieces.ensures.value, c.as_slice-prefixes.ensures.value, c.value_in-value.ensures) at c.in-Err.ensures.err in
+    rw (← c.self.view_is) (fault, refl, refl)
+
+pub returns-in-Err-add_opened-clause-err : goal.returns-in-Err-add_opened-clause-err
+returns-in-Err-add_opened-clause-err c =
+    let b = c.self.inside in
+    let sub = c.args.counted.sub in
+    let welcome : IsWelcome b.pieces.items b.prefixes.items (value_of b.best) c.args.worker c.args.piece c.args.prefix.now sub.threshold (node_count (shape_of sub.tree)) c.in-Ok.grant =
+    rw (c.as_slice-pieces.ensures.value, c.as_slice-prefixes.ensures.value, c.value_in-value.ensures) at c.in-Ok.ensures.ok in
+    rw (← c.self.view_is) ((c.in-Ok.grant, welcome), refl, λ j. book_view b.loads.loads b.loads.slots b.order.items b.nodes (c.in-Err-add_opened.ensures.same.0 j) (c.in-Err-add_opened.ensures.kept j) b.best b.spent b.log.items)
+
+pub push_reserved-requires : goal.push_reserved-requires
+push_reserved-requires c =
+    let b = c.self.inside in
+    let inv = c.self.invariant in
+    let sub = c.args.counted.sub in
+    let welcome : IsWelcome b.pieces.items b.prefixes.items (value_of b.best) c.args.worker c.args.piece c.args.prefix.now sub.threshold (node_count (shape_of sub.tree)) c.in-Ok.grant =
+    rw (c.as_slice-pieces.ensures.value, c.as_slice-prefixes.ensures.value, c.value_in-value.ensures) at c.in-Ok.ensures.ok in
+    let one = taken-le b.pieces.items c.args.piece (Taken c.args.worker c.in-Ok.grant) welcome.held in
+    omega (arith, inv.counted.room_is, inv.counted.taken_is, one, b.log.ok.0)
+
+pub index_mut-requires : goal.index_mut-requires
+index_mut-requires c =
+    let b = c.self.inside in
+    let sub = c.args.counted.sub in
+    let welcome : IsWelcome b.pieces.items b.prefixes.items (value_of b.best) c.args.worker c.args.piece c.args.prefix.now sub.threshold (node_count (shape_of sub.tree)) c.in-Ok.grant =
+    rw (c.as_slice-pieces.ensures.value, c.as_slice-prefixes.ensures.value, c.value_in-value.ensures) at c.in-Ok.ensures.ok in
+    let here : c.args.piece < length c.add_opened.new.pieces.items = rw c.add_opened.ensures.same.0 (within b.pieces.items c.args.piece (Taken c.args.worker c.in-Ok.grant) welcome.held) in
+    omega (arith, here, c.add_opened.new.pieces.ok.0)
+
+pub overflow_sub-self : goal.overflow_sub-self
+overflow_sub-self c =
+    let b = c.self.inside in
+    let inv = c.self.invariant in
+    let sub = c.args.counted.sub in
+    let welcome : IsWelcome b.pieces.items b.prefixes.items (value_of b.best) c.args.worker c.args.piece c.args.prefix.now sub.threshold (node_count (shape_of sub.tree)) c.in-Ok.grant =
+    rw (c.as_slice-pieces.ensures.value, c.as_slice-prefixes.ensures.value, c.value_in-value.ensures) at c.in-Ok.ensures.ok in
+    omega (arith, inv.counted.held_is, granted-le b.pieces.items c.args.piece (Taken c.args.worker c.in-Ok.grant) welcome.held, c.from.ensures)
+
+pub overflow_sub-self-2 : goal.overflow_sub-self-2
+overflow_sub-self-2 c =
+    let b = c.self.inside in
+    let inv = c.self.invariant in
+    let sub = c.args.counted.sub in
+    let welcome : IsWelcome b.pieces.items b.prefixes.items (value_of b.best) c.args.worker c.args.piece c.args.prefix.now sub.threshold (node_count (shape_of sub.tree)) c.in-Ok.grant =
+    rw (c.as_slice-pieces.ensures.value, c.as_slice-prefixes.ensures.value, c.value_in-value.ensures) at c.in-Ok.ensures.ok in
+    omega (arith, inv.counted.taken_is, taken-le b.pieces.items c.args.piece (Taken c.args.worker c.in-Ok.grant) welcome.held)
+
+pub overflow_add-self : goal.overflow_add-self
+overflow_add-self c =
+    let b = c.self.inside in
+    let inv = c.self.invariant in
+    let sub = c.args.counted.sub in
+    let welcome : IsWelcome b.pieces.items b.prefixes.items (value_of b.best) c.args.worker c.args.piece c.args.prefix.now sub.threshold (node_count (shape_of sub.tree)) c.in-Ok.grant =
+    rw (c.as_slice-pieces.ensures.value, c.as_slice-prefixes.ensures.value, c.value_in-value.ensures) at c.in-Ok.ensures.ok in
+    let low = granted-le b.pieces.items c.args.piece (Taken c.args.worker c.in-Ok.grant) welcome.held in
+    omega (arith, inv.counted.held_is, inv.counted.within, low, welcome.fits, c.in-Ok.ensures.nodes, c.self.ranges)
+
+pub invariant_of-self-2 : goal.invariant_of-self-2
+invariant_of-self-2 c =
+    let b = c.self.inside in
+    let inv = c.self.invariant in
+    let sub = c.args.counted.sub in
+    let welcome : IsWelcome b.pieces.items b.prefixes.items (value_of b.best) c.args.worker c.args.piece c.args.prefix.now sub.threshold (node_count (shape_of sub.tree)) c.in-Ok.grant =
+    rw (c.as_slice-pieces.ensures.value, c.as_slice-prefixes.ensures.value, c.value_in-value.ensures) at c.in-Ok.ensures.ok in
+    let loads = b.loads.loads in
+    let slots = b.loads.slots in
+    let line = line_by slots_alone loads slots in
+    let order = b.order.items in
+    let p = c.args.piece in
+    let g = c.in-Ok.grant in
+    let k = c.args.counted.nodes in
+    let count = c.in-Ok-add_opened.count in
+    let first = c.len-first.result in
+    let shape = shape_of sub.tree in
+    let q = c.args.prefix.now in
+    let partial : IsPartialTree line sub.threshold shape (prefix_of loads order q) (drop (length q) order) = rw (← c.self.view_is) at c.requires.tree in
+    let known : AreOpened line order shape q c.args.counted.opened = rw (← c.self.view_is) at c.requires.opened in
+    let more = added line order shape q c.args.counted.opened count b.prefixes.items c.add_opened.new.prefixes.items known c.in-Ok-add_opened.ensures.known in
+    let first_is : first ≡ length b.pieces.items = omega (arith, c.len-first.ensures, b.pieces.ok.0) in
+    let pieces_are : c.add_free.new.pieces.items ≡ set b.pieces.items p Ended ++ replicate count Free =
+    c.add_free.ensures ∙ (λ j. set (c.add_opened.ensures.same.0 j) p Ended ++ replicate count Free) in
+    let reports_are : c.push_reserved-2.new.self.items ≡ b.reports.items ++ (record { piece = p; first = length b.pieces.items; tree = sub.tree }) ∷ [] =
+    c.push_reserved-2.ensures.items ∙ (λ j. c.add_opened.ensures.same.1 j ++ (record { piece = p; first = first_is j; tree = sub.tree }) ∷ []) in
+    let some : 1 ≤ k = omega (arith, c.in-Ok.ensures.nodes, c.requires.some) in
+    let few : k ≤ g = omega (arith, c.in-Ok.ensures.nodes, welcome.fits) in
+    rw (c.from.ensures, c.push_reserved.ensures.capacity) (record {
+      for = inv.for;
+      counted =
+          counted-report b.nodes b.pieces.items (value_of b.best) b.spent b.held b.taken b.low b.log.items _ inv.counted c.args.worker p g k first count
+          c.add_free.new.pieces.items c.push_reserved.new.self.items welcome.held some few first_is pieces_are c.push_reserved.ensures.items;
+      grown =
+          grown-report line order b.pieces.items b.prefixes.items b.reports.items (value_of b.best) b.spent inv.grown p c.args.worker g k count q sub.threshold sub.tree
+          c.add_free.new.pieces.items c.add_opened.new.prefixes.items c.push_reserved-2.new.self.items welcome.held welcome.place welcome.ahead partial c.in-Ok.ensures.nodes more.0 pieces_are more.1 reports_are;
+    })

@@ -1,0 +1,64 @@
+//! Subtrees that are counted before they are reported.
+
+ghost use Rattle.std.specs.Prelude.{◌≡◌, min, length, None};
+ghost use Rattle.ec_loads.specs.Line.{slots_alone, line_of};
+ghost use Rattle.ec_loads.specs.Search.{node_count as node_count_of};
+ghost use Rattle.ec_cert.specs.Shapes.{shape_of};
+ghost use Rattle.ec_symmetry.specs.Orders.{IsOrder};
+ghost use Rattle.ec_book.specs.Open.{AreOpened};
+
+use crate::judge::node_count;
+use crate::open::opened_by;
+use ec_cert::Subtree;
+use ec_loads::{Loads, Places};
+use ec_units::Place;
+use std::alloc::Global;
+
+/// A subtree with what takes time in proportion to it, worked out before its report: its nodes (or the greatest number,
+/// where that is smaller), and the places that lead to each of its open leaves, in preorder. None where these places
+/// aren't known, as where memory was refused.
+#[derive(Drop)]
+pub struct Counted {
+    pub sub: Subtree,
+    pub nodes: u64,
+    pub opened: Option<Vec<Places>>,
+    pub ghost nodes_is: { nodes ≡ min (node_count_of (shape_of sub.tree)) 18446744073709551615 },
+}
+
+impl Counted {
+    /// Counts a subtree to which `prefix` leads.
+    pub fn of(alloc: Global, loads: &Loads, order: &[u8], prefix: &[Place], sub: Subtree) -> Counted
+        requires order { IsOrder (length loads.now.loads) order.now }
+        ensures sub { result.sub ≡ sub }
+        ensures opened { AreOpened (line_of slots_alone loads.now) order.now (shape_of sub.tree) prefix.now result.opened }
+    {
+        let nodes = node_count(&sub.tree);
+        let opened = if prefix.len() <= order.len() {
+            opened_by(alloc, loads, order, prefix, &sub.tree).ok()
+        } else {
+            None
+        };
+        Counted { sub, nodes, opened }
+    }
+
+    /// Counts the nodes alone. Takes no memory; the report is judged, and then refused for want of memory.
+    pub fn unopened(sub: Subtree) -> Counted
+        ensures sub { result.sub ≡ sub }
+        ensures opened { result.opened ≡ None }
+    {
+        let nodes = node_count(&sub.tree);
+        Counted {
+            sub,
+            nodes,
+            opened: None,
+        }
+    }
+
+    /// The subtree again.
+    pub fn into_sub(self) -> Subtree
+        ensures { result ≡ self.sub }
+    {
+        let Counted { sub, .. } = self;
+        sub
+    }
+}
