@@ -172,7 +172,8 @@ impl<S: Search> Locked<S> {
         ensures amount { OnOk result (share.new.amount ≡ share.old.amount + node_count_of (shape_of counted.sub.tree)) }
         ensures kept { OnErr result (share.new.amount ≡ share.old.amount) }
         ensures parts { share.new.parts ≡ share.old.parts }
-        ensures err { IfErr result (λ e. (e.1.sub ≡ counted.sub) × HasBook S.loads S.slots S.order (λ b. IsReportFault b.pieces b.prefixes (value_of b.best) worker piece prefix.now counted.sub.threshold (node_count_of (shape_of counted.sub.tree)) e.0)) }
+        ensures some { HasBook S.loads S.slots S.order (λ b. b ≡ self.old.book) }
+        ensures err { IfErr result (λ e. (e.1.sub ≡ counted.sub) × IsReportFault self.old.book.pieces self.old.book.prefixes (value_of self.old.book.best) worker piece prefix.now counted.sub.threshold (node_count_of (shape_of counted.sub.tree)) e.0) }
     {
         know(self);
         let before = self.book.spent();
