@@ -26,7 +26,8 @@ pub struct Counted {
 }
 
 impl Counted {
-    /// Counts a subtree to which `prefix` leads.
+    /// Counts a subtree to which `prefix` leads. Its time and memory are in proportion to the subtree and what it leaves
+    /// open; where memory is refused, the places aren't known.
     pub fn of(alloc: Global, loads: &Loads, order: &[u8], prefix: &[Place], sub: Subtree) -> Counted
         requires order { IsOrder (length loads.now.loads) order.now }
         ensures sub { result.sub ≡ sub }
