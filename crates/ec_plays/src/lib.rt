@@ -1,0 +1,9 @@
+//! Plays of small lines, with slaves that behave and slaves that don't. The bytes are worked out by hand.
+#![tactic(auto)]
+
+#[cfg(test)]
+mod lines;
+#[cfg(test)]
+mod slaves;
+#[cfg(test)]
+mod tests;

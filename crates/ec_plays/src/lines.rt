@@ -1,0 +1,42 @@
+//! Lines of units, as text.
+
+ghost use Rattle.std.specs.Prelude.{◌≡◌, length, IfOk};
+ghost use Rattle.std.specs.Option.{ForSome};
+ghost use Rattle.ec_player.specs.Frames.{HasLayout};
+
+use ec_fmmu::{Mapping, layout};
+use ec_loads::{Places, Plan, is_legal};
+use ec_units::{Place, Units};
+use std::alloc::{AllocError, Global};
+
+/// One unit in each tick, whose slave has 2 bytes of outputs and 4 of inputs.
+pub(crate) const ONE: &str =
+    "tick_ns = 1000000\nslots = 1\n[[unit]]\nname = \"a\"\nperiod = 1\n[[unit.slave]]\nstation = 1001\nout_bytes = 2\nin_bytes = 4\n";
+
+/// Two units of 100 bytes every second tick.
+pub(crate) const TWO: &str =
+    "tick_ns = 1000000\nslots = 1\n[[unit]]\nname = \"a\"\nperiod = 2\n[[unit.slave]]\nstation = 1001\nout_bytes = 100\nin_bytes = 0\n[[unit]]\nname = \"b\"\nperiod = 2\n[[unit.slave]]\nstation = 1002\nout_bytes = 100\nin_bytes = 0\n";
+
+/// The layout of units at places in slot 0 with these phases, if that plan is legal.
+pub(crate) fn mapping_of(
+    alloc: Global,
+    units: &Units,
+    phases: &[u16],
+) -> Result<Option<Mapping>, AllocError>
+    ensures { IfOk result (λ found. ForSome found (HasLayout units.now)) }
+{
+    let mut places = Vec::new(alloc);
+    for phase in phases {
+        places.push(Place {
+            phase: *phase,
+            slot: 0,
+        })?;
+    }
+    let plan = Plan {
+        places: Places::new(places),
+    };
+    match is_legal(units, &plan) {
+        Ok(()) => Ok(Some(layout(alloc, units, &plan)?)),
+        Err(_) => Ok(None),
+    }
+}
