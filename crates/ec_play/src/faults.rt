@@ -11,10 +11,10 @@ pub enum Stage {
 
 /// A datagram of a frame, counted from 0, the working counter that is wanted of it, and the one with which it came back.
 #[derive(Clone, Copy, Debug, PartialEq, Eq)]
-pub(crate) struct Wrong {
-    pub(crate) datagram: usize,
-    pub(crate) want: u16,
-    pub(crate) got: u16,
+pub struct Wrong {
+    pub datagram: usize,
+    pub want: u16,
+    pub got: u16,
 }
 
 /// Why a plan isn't played to its end. Of frames, the fault is that of the first faulty one that comes back; frames are numbered

@@ -10,6 +10,6 @@ mod playing;
 mod rows;
 mod trips;
 
-pub use faults::{PlayFault, Stage};
+pub use faults::{PlayFault, Stage, Wrong};
 pub use playing::{Played, play_plain};
 pub use rows::{Counters, Rows, TickRow};
