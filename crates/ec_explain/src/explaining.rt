@@ -1,0 +1,22 @@
+//! The explanation of a line that refuses.
+
+ghost use Rattle.std.specs.Prelude.{All, IfOk, string_bytes};
+ghost use Rattle.ec_explain.specs.Plain.{IsPlain};
+
+use crate::plain::plain_text;
+use ec_remarks::{Inputs, remarks};
+use std::alloc::{AllocError, Global};
+
+/// What a line that refuses means, in a few sentences for a person, each a line: which unit, slave, key, value or line of
+/// the certificate it is, where it stands in the file, what would be right, and what was likely meant.
+///
+/// The line is `refused CODE NAME ..`; of any other the text is empty. Whatever the line and the inputs hold, the text
+/// has nothing but printable ASCII and line feeds: of another byte its number is told, as `\x1b`. A line has at most 160
+/// columns; what is longer is cut. Where the inputs aren't those of the line, or are missing, less is told. Only
+/// want of memory is an error (own profile).
+pub fn explain(alloc: Global, line: &str, inputs: &Inputs<'_>) -> Result<String, AllocError>
+    ensures { IfOk result (λ text. All IsPlain (string_bytes text)) }
+{
+    let text = remarks(alloc, line, inputs)?;
+    plain_text(alloc, text.as_str())
+}

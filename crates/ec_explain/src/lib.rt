@@ -1,0 +1,8 @@
+//! Refusals explained on standard error, in nothing but plain text.
+#![tactic(auto)]
+
+mod explaining;
+mod plain;
+
+pub use ec_remarks::{Inputs, advice};
+pub use explaining::explain;

@@ -1,0 +1,153 @@
+//! Faults of a certificate's text.
+
+use crate::due::due_at;
+use crate::inputs::Inputs;
+use crate::quoted::{add_bytes, add_quoted};
+use crate::refused::Refused;
+use crate::syntax::line_at;
+use std::alloc::AllocError;
+use std::fmt::Write;
+
+/// Adds the certificate with its path.
+pub(crate) fn add_cert(out: &mut String, inputs: &Inputs<'_>) -> Result<(), AllocError> {
+    out.push_str("The certificate")?;
+    match inputs.cert_path {
+        Some(path) => {
+            out.push(' ')?;
+            add_quoted(out, path.as_bytes())
+        }
+        None => Ok(()),
+    }
+}
+
+/// Adds a line of a certificate, from 0, as it stands.
+pub(crate) fn add_line_text(out: &mut String, cert: &[u8], line: usize) -> Result<(), AllocError> {
+    let Some(bytes) = line_at(cert, line) else {
+        return Ok(());
+    };
+    if bytes.is_empty() {
+        return out.push_str("    (an empty line, or the end of the text)\n");
+    }
+    out.push_str("    ")?;
+    add_bytes(out, bytes, 120)?;
+    out.push('\n')
+}
+
+/// Adds what is due at a line, from 0.
+fn add_due(out: &mut String, cert: &[u8], line: usize) -> Result<(), AllocError> {
+    let Ok(text) = std::str::from_utf8(cert) else {
+        return Ok(());
+    };
+    out.push_str("Due there: ")?;
+    out.push_str(due_at(text, line).as_str())?;
+    out.push_str(".\n")
+}
+
+/// Whether a byte may stand in a certificate.
+fn is_text(byte: u8) -> bool {
+    matches!(byte, b'\n' | 0x20..=0x7e)
+}
+
+/// Adds the first byte that may not stand in a certificate, with its line and column.
+fn add_stranger(out: &mut String, cert: &[u8]) -> Result<(), AllocError> {
+    let mut line = 1usize;
+    let mut column = 1usize;
+    for byte in cert {
+        if !is_text(*byte) {
+            write!(
+                out,
+                "Line {line}, column {column} has the byte {byte:02x}.\n"
+            )?;
+            return match *byte {
+                b'\r' => out.push_str(
+                    "It is a carriage return: each line ends with a line feed alone. Was the file changed by an editor?\n",
+                ),
+                b'\t' => out.push_str("It is a tabulator: words are separated by one space.\n"),
+                _ => Ok(()),
+            };
+        }
+        if *byte == b'\n' {
+            line = line.saturating_add(1);
+            column = 1;
+        } else {
+            column = column.saturating_add(1);
+        }
+    }
+    Ok(())
+}
+
+/// Tells a byte that may not stand in a certificate.
+pub(crate) fn tell_bytes(out: &mut String, inputs: &Inputs<'_>) -> Result<(), AllocError> {
+    add_cert(out, inputs)?;
+    out.push_str(" is not plain text.\n")?;
+    match inputs.cert {
+        Some(cert) => add_stranger(out, cert),
+        None => Ok(()),
+    }
+}
+
+/// Tells that a text doesn't begin as a certificate.
+pub(crate) fn tell_version(out: &mut String, inputs: &Inputs<'_>) -> Result<(), AllocError> {
+    add_cert(out, inputs)?;
+    out.push_str(" does not begin with a line ecplan 1, as each certificate of this version does")?;
+    let Some(cert) = inputs.cert else {
+        return out.push_str(".\n");
+    };
+    if cert.is_empty() {
+        return out.push_str(": it is empty.\n");
+    }
+    out.push_str(". It begins:\n")?;
+    add_line_text(out, cert, 0)
+}
+
+/// Tells that a certificate is too large.
+pub(crate) fn tell_large(out: &mut String, inputs: &Inputs<'_>) -> Result<(), AllocError> {
+    add_cert(out, inputs)?;
+    out.push_str(" is too large: at most 67108864 bytes are read.\n")
+}
+
+/// What is wrong with a line.
+fn fault_of(code: &str) -> &'static str {
+    match code {
+        "C4" => "is not of the kind that is due",
+        "C5" => "has a number that begins with 0 or is out of range",
+        "C6" => "is not whole, or ends the text too early",
+        "C7" => "stands where the certificate has to end",
+        "C8" => "has more than 48 splits above it in the tree",
+        _ => "is wrong",
+    }
+}
+
+/// Adds what a line should be, by the fault.
+fn add_wanted(out: &mut String, cert: &[u8], code: &str, line: usize) -> Result<(), AllocError> {
+    match code {
+        "C4" | "C5" => add_due(out, cert, line),
+        "C6" => {
+            add_due(out, cert, line)?;
+            out.push_str("Was the file cut off? Each line ends with a line feed, also the last.\n")
+        }
+        "C7" => out.push_str("Due there: end, and nothing after it.\n"),
+        _ => Ok(()),
+    }
+}
+
+/// Tells the line at fault, its text, and what was due.
+pub(crate) fn tell_line(
+    out: &mut String,
+    inputs: &Inputs<'_>,
+    refused: Refused<'_>,
+) -> Result<(), AllocError> {
+    let number = refused.number(3).unwrap_or(0);
+    add_cert(out, inputs)?;
+    write!(out, ": line {number} ")?;
+    out.push_str(fault_of(refused.code()))?;
+    out.push_str(".\n")?;
+    let Some(cert) = inputs.cert else {
+        return Ok(());
+    };
+    if number == 0 {
+        return Ok(());
+    }
+    add_line_text(out, cert, number - 1)?;
+    add_wanted(out, cert, refused.code(), number - 1)
+}

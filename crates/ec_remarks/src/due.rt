@@ -1,0 +1,108 @@
+//! Which line is due where in a certificate.
+
+/// What a line of a certificate has to be.
+#[derive(Clone, Copy)]
+pub(crate) enum Due {
+    Version,
+    Slots,
+    FirstUnit,
+    UnitOrOrder,
+    Value,
+    Place,
+    Tree,
+    Node,
+    End,
+}
+
+impl Due {
+    /// The form of such a line, and its ranges.
+    pub(crate) fn as_str(self) -> &'static str {
+        match self {
+            Due::Version => "ecplan 1",
+            Due::Slots => "slots S, S 1 to 8",
+            Due::FirstUnit => "unit NAME BYTES PERIOD, BYTES 1 to 1486, PERIOD 1 to 60",
+            Due::UnitOrOrder =>
+                "unit NAME BYTES PERIOD (1 to 1486, 1 to 60), or order I I .. (each unit once, from 0)",
+            Due::Value => "value V, V 84 to 12304, or value none",
+            Due::Place => "place PHASE SLOT, PHASE 0 to 59, SLOT 0 to 7",
+            Due::Tree => "tree",
+            Due::Node =>
+                "a node: S N (1 to 480), T TICK (0 to 1023), F TICK SLOT (SLOT 0 to 7), or A",
+            Due::End => "end",
+        }
+    }
+}
+
+/// A line of a certificate, from 0.
+pub(crate) fn cert_line(cert: &str, line: usize) -> Option<&str> {
+    cert.split('\n').nth(line)
+}
+
+/// How many lines in turn, from the third on, are those of units.
+pub(crate) fn unit_lines(cert: &str) -> usize {
+    let mut count = 0usize;
+    for line in cert.split('\n').skip(2) {
+        if !line.starts_with("unit ") {
+            return count;
+        }
+        count = count.saturating_add(1);
+    }
+    count
+}
+
+/// How many lines of places are due after a line of a value.
+fn places_due(value: Option<&str>, units: usize) -> usize {
+    match value {
+        Some("value none") => 0,
+        _ => units,
+    }
+}
+
+/// How many children a line of a node says that it has.
+fn children(node: &str) -> usize {
+    match node.strip_prefix("S ") {
+        Some(count) => count.parse::<usize>().ok().unwrap_or(0),
+        None => 0,
+    }
+}
+
+/// Whether the tree that begins behind a line is whole before another line, both from 0.
+fn is_whole(cert: &str, tree: usize, line: usize) -> bool {
+    let mut missing = 1usize;
+    for node in cert.split('\n').take(line).skip(tree.saturating_add(1)) {
+        missing = missing.saturating_sub(1).saturating_add(children(node));
+    }
+    missing == 0
+}
+
+/// What is due at a line, from 0, after the lines before it.
+pub(crate) fn due_at(cert: &str, line: usize) -> Due {
+    let units = unit_lines(cert);
+    let order = units.saturating_add(2);
+    let value = order.saturating_add(1);
+    let places = places_due(cert_line(cert, value), units);
+    let tree = value.saturating_add(1).saturating_add(places);
+    match line {
+        0 => Due::Version,
+        1 => Due::Slots,
+        2 => Due::FirstUnit,
+        _ if line <= order => Due::UnitOrOrder,
+        _ if line == value => Due::Value,
+        _ if line < tree => Due::Place,
+        _ if line == tree => Due::Tree,
+        _ if is_whole(cert, tree, line) => Due::End,
+        _ => Due::Node,
+    }
+}
+
+/// The line, from 0, that is the node of a certificate with this number.
+pub(crate) fn node_line(cert: &str, node: usize) -> usize {
+    let mut number = 0usize;
+    for line in cert.split('\n') {
+        number = number.saturating_add(1);
+        if line == "tree" {
+            return number.saturating_add(node);
+        }
+    }
+    number
+}

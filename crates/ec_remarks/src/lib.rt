@@ -1,0 +1,29 @@
+//! What there is to tell a person of a refusal: from the line that refuses and what was read, a few sentences.
+//!
+//! Nothing of it takes part in a job: it is made after the job, of copies of what the job read.
+#![tactic(auto)]
+
+mod advising;
+mod areas;
+mod certs;
+mod checks;
+mod due;
+mod headers;
+mod inputs;
+mod keys;
+mod label;
+mod nearest;
+mod others;
+mod paths;
+mod periods;
+mod places;
+mod quoted;
+mod ranges;
+mod refused;
+mod syntax;
+mod telling;
+mod units;
+
+pub use advising::advice;
+pub use inputs::Inputs;
+pub use telling::remarks;

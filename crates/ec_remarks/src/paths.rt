@@ -1,0 +1,60 @@
+//! Paths and streams that the system refuses, and memory.
+
+use crate::certs::add_cert;
+use crate::inputs::Inputs;
+use crate::quoted::{add_bytes, add_quoted};
+use std::alloc::AllocError;
+
+/// Adds why the system refused, if that is known.
+fn add_reason(out: &mut String, inputs: &Inputs<'_>) -> Result<(), AllocError> {
+    if let Some(reason) = inputs.reason {
+        out.push_str(": ")?;
+        add_bytes(out, reason.as_bytes(), 80)?;
+    }
+    out.push_str(".\n")
+}
+
+/// Tells what couldn't be read, and why.
+pub(crate) fn tell_read(out: &mut String, inputs: &Inputs<'_>) -> Result<(), AllocError> {
+    match inputs.cert_path {
+        Some(_) => {
+            add_cert(out, inputs)?;
+            out.push_str(" cannot be read")?;
+        }
+        None => out.push_str("The units cannot be read from standard input")?,
+    }
+    add_reason(out, inputs)
+}
+
+/// Tells which path couldn't be written, and why.
+pub(crate) fn tell_write(out: &mut String, inputs: &Inputs<'_>) -> Result<(), AllocError> {
+    out.push_str("The certificate cannot be written")?;
+    if let Some(path) = inputs.out_path {
+        out.push_str(" to ")?;
+        add_quoted(out, path.as_bytes())?;
+    }
+    add_reason(out, inputs)?;
+    out.push_str(
+        "The search had ended; give a path in a folder that is there and can be written.\n",
+    )
+}
+
+/// What is told of a code alone.
+pub(crate) fn words_of(code: &str) -> &'static str {
+    match code {
+        "U1" =>
+            "Memory ran out: nothing is said of the units. Run it with more memory, or with fewer nodes.\n",
+        "C1" =>
+            "Memory ran out over the certificate: nothing is said of it. Run it with more memory.\n",
+        "K1" =>
+            "Memory ran out over the check: nothing is said of the certificate. Run it with more memory.\n",
+        "S1" =>
+            "Memory ran out before the search began. Run it with more memory, or with fewer workers.\n",
+        "P1" => "Memory ran out over the frames. Run it with more memory.\n",
+        "S2" =>
+            "No thread could be started for a worker. Run it with --workers 1, which needs none.\n",
+        "E1" =>
+            "The unit text is too large: at most 1048576 bytes are read. Is it the right file?\n",
+        _ => "",
+    }
+}
