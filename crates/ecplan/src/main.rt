@@ -1,13 +1,24 @@
 //! ecplan: plans the cyclic frames of an EtherCAT line. The words of the command line say what to do, the
-//! units come on standard input, and the text goes to standard output.
+//! units come on standard input, and the text goes to standard output. What a refusal means is told on standard error.
 #![tactic(auto)]
 
+mod kept;
+mod remark;
+
+use crate::kept::Kept;
+use crate::remark::{Left, remark};
 use ec_jobs::{do_line, refuse_memory, refuse_words};
 use ec_wire::Io;
 use ec_words::{LineFault, read_words};
 use std::io::ErrorKind;
 use std::process::ExitCode;
 use std::{env, fs, io};
+
+/// The most bytes of the units that are kept: as many as are read.
+const MOST_UNITS: usize = 1_048_577;
+
+/// The most bytes of the text that are kept: enough for a refusal, or for the first lines of a plan.
+const MOST_TEXT: usize = 256;
 
 /// The words after the program's name.
 fn words_of(rt: &HostRuntime) -> io::Result<Vec<String>> {
@@ -44,7 +55,21 @@ fn main(rt: HostRuntime) -> ExitCode {
             return ExitCode::from(status.code);
         }
     };
-    let mut units = Io::new(rt.reader());
-    let status = do_line(&rt, &rt, rt.alloc(), &line, &mut units, &mut out);
+    let mut units = Kept::new(rt.alloc(), rt.reader(), MOST_UNITS);
+    let mut text = Kept::new(rt.alloc(), io::writer(&rt), MOST_TEXT);
+    let status = do_line(
+        &rt,
+        &rt,
+        rt.alloc(),
+        &line,
+        &mut Io::new(&mut units),
+        &mut Io::new(&mut text),
+    );
+    let left = Left {
+        units: units.front(),
+        fault: units.fault(),
+        text: text.front(),
+    };
+    remark(&rt, &line, left);
     ExitCode::from(status.code)
 }
