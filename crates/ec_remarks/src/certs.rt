@@ -126,7 +126,7 @@ fn add_wanted(out: &mut String, cert: &[u8], code: &str, line: usize) -> Result<
             add_due(out, cert, line)?;
             out.push_str("Was the file cut off? Each line ends with a line feed, also the last.\n")
         }
-        "C7" => out.push_str("Due there: end, and nothing after it.\n"),
+        "C7" => out.push_str("The last line is end, behind the tree, and nothing follows it.\n"),
         _ => Ok(()),
     }
 }

@@ -38,7 +38,7 @@ fn meaning(key: &str) -> &'static str {
         "slots" => "slots is how many slots there are, 1 to 8.",
         "unit" => "Each unit is a table of its own that begins with a line [[unit]].",
         "name" => "name is a text in quotes, as name = \"press-4\".",
-        "period" => "period is every how many ticks the unit is sent, 1 to 60.",
+        "period" => "period says after how many ticks the unit is sent again, 1 to 60.",
         "slave" => "Each slave is a table of its own that begins with a line [[unit.slave]].",
         "phase" => "phase is the tick of its period in which the unit is sent, from 0.",
         "slot" => "slot is the slot in which the unit is sent, from 0.",
