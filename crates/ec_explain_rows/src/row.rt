@@ -1,0 +1,36 @@
+//! A row of the table: its head is the line that refuses, and below it `cert PATH`, `out PATH` and `reason WORDS`
+//! where the job had them. Or it is the text of a plan that ended without a proof.
+
+use ec_explain::{Inputs, advice, explain};
+use std::alloc::{AllocError, Global};
+
+/// What stands after a word at the beginning of a line of the head.
+fn part<'a>(head: &'a str, word: &str) -> Option<&'a str> {
+    for line in head.lines() {
+        if let Some(rest) = line.strip_prefix(word) {
+            return Some(rest);
+        }
+    }
+    None
+}
+
+/// What is told of a row.
+pub(crate) fn answer_to<'x>(
+    alloc: Global,
+    head: &'x str,
+    units: &'x [u8],
+    cert: Option<&'x [u8]>,
+) -> Result<String, AllocError> {
+    let inputs = Inputs {
+        units,
+        cert,
+        cert_path: part(head, "cert "),
+        out_path: part(head, "out "),
+        reason: part(head, "reason "),
+    };
+    if head.starts_with("unproved ") {
+        return String::from_str(alloc, advice(head));
+    }
+    let line = head.lines().next().unwrap_or("");
+    explain(alloc, line, &inputs)
+}
