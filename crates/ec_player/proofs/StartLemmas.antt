@@ -1,11 +1,11 @@
 -- How many slaves a line has, and how many start frames.
-use Rattle.std.proofs.Common.{◌≡◌, ℕ, zero, suc, ◌+◌, ◌*◌, ◌<◌, ◌≤◌, List, [], ◌∷◌, ◌++◌, length, length-append, map, refl, sym, ap, ◌∙◌, arith}
+use Rattle.std.proofs.Common.{◌≡◌, ℕ, suc, ◌+◌, ◌*◌, ◌≤◌, List, [], ◌∷◌, ◌++◌, length, length-append, map, refl, sym, ap, ◌∙◌, arith}
 use Rattle.std.proofs.lemmas.List.{length-map, map-append}
 use Rattle.ec_units.specs.declared.slave.Place.{Place}
 use Rattle.ec_units.specs.declared.slave.Slave.{Slave}
 use Rattle.ec_units.specs.declared.unit.Unit.{Unit as SyncUnit}
 use Rattle.ec_units.specs.declared.units.Units.{Units}
-use Rattle.ec_units.specs.Load.{load_of, loads_of}
+use Rattle.ec_units.specs.Load.{load_of}
 use Rattle.ec_units.specs.Together.{stations_of}
 use Rattle.ec_units.specs.Views.{slave_view, unit_view, SlaveView}
 use Rattle.ec_fmmu.specs.declared.fmmu.Fmmu.{Fmmu}

@@ -1,9 +1,9 @@
 -- Worked examples, which the definitions compute by themselves: the start frames of one slave with 2 bytes of outputs and 4 of inputs.
-use Rattle.std.specs.Prelude.{◌≡◌, ℕ, List, [], ◌∷◌, ◌++◌, length, map, replicate, refl}
+use Rattle.std.specs.Prelude.{◌≡◌, ℕ, List, [], ◌∷◌, ◌++◌, map, replicate, refl}
 use Rattle.ec_fmmu.specs.declared.fmmu.Fmmu.{Fmmu}
 use Rattle.ec_fmmu.specs.Mappings.{fmmu_for}
 use Rattle.ec_frames.specs.Written.{written, datagram_bytes}
-use Rattle.ec_player.specs.Start.{StartFrame, position_of, roll_call, naming, mapping_frame, start_list, start_bytes}
+use Rattle.ec_player.specs.Start.{position_of, roll_call, naming, mapping_frame, start_list, start_bytes}
 
 abbrev records : List Fmmu
 records = fmmu_for 2 0x00010000 2 4096 ∷ fmmu_for 1 0x00010002 4 8192 ∷ []

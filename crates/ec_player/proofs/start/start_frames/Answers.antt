@@ -1,13 +1,8 @@
-use Rattle.std.proofs.Common.{◌≡◌, ℕ, ◌+◌, ◌*◌, ◌≤◌, List, [], ◌∷◌, ◌++◌, length, map, refl, sym, ap, ◌∙◌, arith}
-use Rattle.std.proofs.lemmas.List.{length-map}
+use Rattle.std.proofs.Common.{ℕ, length, map, sym, ap, ◌∙◌, arith}
 use Rattle.arrayvec.specs.ArrayVec.{ArrayVec}
-use Rattle.ec_units.specs.Load.{load_of}
 use Rattle.ec_units.specs.Together.{stations_of}
-use Rattle.ec_units.specs.Views.{unit_view}
-use Rattle.ec_fmmu.specs.Seats.{seats_of}
-use Rattle.ec_fmmu.specs.Mappings.{records_of}
 use Rattle.ec_player.specs.Start.{start_list, start_bytes}
-use Rattle.ec_player.proofs.StartLemmas.{length-seats, few-stations, frames-whole, length-frames, pairs-each}
+use Rattle.ec_player.proofs.StartLemmas.{few-stations, frames-whole, length-frames, pairs-each}
 use Rattle.ec_player.proofs.start.start_frames.Goals as goal
 
 pub push_namings-requires : goal.push_namings-requires
