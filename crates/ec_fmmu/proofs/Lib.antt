@@ -4,4 +4,5 @@ pub mod SeatLemmas
 pub mod AddressLemmas
 pub mod NextLemmas
 pub mod RecordLemmas
+pub mod RankLemmas
 pub mod LegalLemmas

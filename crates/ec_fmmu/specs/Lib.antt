@@ -4,4 +4,5 @@ pub mod Next
 pub mod Layout
 pub mod Records
 pub mod Mappings
+pub mod Addresses
 pub mod Examples

@@ -4,11 +4,13 @@
 
 mod fmmu;
 mod group;
+mod law;
 mod mapping;
 mod next;
 mod seat;
 
 pub use fmmu::{Fmmu, Fmmus, fmmu_bytes};
 pub use group::{Group, Groups};
+pub use law::addresses_in_order;
 pub use mapping::{Mapping, layout};
 pub use seat::{FIRST_ADDRESS, Key, Seat, expected};
