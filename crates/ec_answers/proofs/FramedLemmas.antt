@@ -1,63 +1,153 @@
--- From what the checker answers to the frames that are written.
-use Rattle.std.proofs.Common.{◌≡◌, ◌≢◌, ℕ, ◌<◌, List, length, Option, Some, None, Result, Ok, Err, refl, sym, ap, subst, inl, inr}
-use Rattle.std.specs.Prelude.{◌⊎◌, IfSome}
+-- From units, a certificate and what the checker answers to the frames that are written.
+use Rattle.std.proofs.Common.{◌≡◌, ℕ, List, Option, Some, None, Result, Ok, Err, refl, sym, ap, subst, inl, inr}
+use Rattle.std.specs.Prelude.{◌⊎◌, IfSome, IfOk, IfErr}
+use Rattle.ec_units.specs.declared.slave.Place.{Place}
 use Rattle.ec_units.specs.declared.units.Units.{Units}
-use Rattle.ec_units.specs.Views.{units_view}
+use Rattle.ec_units.specs.Views.{UnitsView, units_view, view_loads}
 use Rattle.ec_units.specs.Load.{loads_of}
 use Rattle.ec_loads.specs.Legal.{IsLegal}
+use Rattle.ec_loads.specs.declared.plan.Plan.{Plan}
 use Rattle.ec_cert.specs.declared.cert.Best.{Best}
 use Rattle.ec_cert.specs.BestPlan.{IsBestPlan}
 use Rattle.ec_cert.specs.Shapes.{CertView}
+use Rattle.ec_cert_text.specs.Reading.{reading as cert_reading}
 use Rattle.ec_cert_text.specs.declared.fault.CertFault.TheVariants as cert
 use Rattle.ec_checker.specs.declared.fault.CheckFault.{CheckFault}
-use Rattle.ec_checker.specs.declared.fault.CheckFault.TheVariants as check
 use Rattle.ec_checker.specs.Certified.{IsCertified, IsFaultOf}
 use Rattle.ec_frame_lines.specs.Lines.{IsFramesText}
 use Rattle.ec_lines.specs.declared.answer.Answer.{Answer}
 use Rattle.ec_lines.specs.declared.refusal.Refusal.{Refusal}
 use Rattle.ec_lines.specs.declared.refusal.Refusal.TheVariants as refusal
 use Rattle.ec_lines.specs.declared.job.Job.TheVariants as job
-use Rattle.ec_lines.specs.Output.{Written, IsPlanFrames, IsCertFrames, IsCertFramesOutput, IsOutput, Answers, refused, shown}
-use Rattle.ec_lines.specs.Refusals.{out_of_memory, IsMemory}
+use Rattle.ec_lines.specs.Framed.{IsPlacedPlan, IsBestPlanOf, IsCertPlan, IsFramedPlan}
+use Rattle.ec_lines.specs.Output.{Written, IsPlanFrames, IsFramesOutput, IsCertFrames, IsCertFramesOutput, IsFramesFor, IsOutput, Answers, refused, shown}
+use Rattle.ec_lines.specs.Refusals.{out_of_memory, IsFramesMemory}
 use Rattle.ec_answers.specs.Input.{AnswersUnits, ReadsTooMany}
+use Rattle.ec_answers.specs.Captures.{IsFramesFault, FramesFrom}
 use Rattle.ec_answers.proofs.CheckedLemmas.{memory_or, too_long}
 
--- the plan of a certificate to which the checker says yes is legal
-pub best_legal : (us : Units) (c : CertView) (b : Best) → IsCertified us.units us.slots c → c.best ≡ Some b → IsLegal (loads_of us.units) us.slots b.plan.places
-best_legal us c b is e = (subst (IsBestPlan (loads_of us.units) us.slots) e is.head.best).0
+-- ---- the plan of a certificate
 
--- its frames, or want of memory
-pub framed_yes : (us : Units) (c : CertView) (b : Best) (answer : Result Answer Refusal) → IsCertified us.units us.slots c → c.best ≡ Some b → Answers job.Frames answer (λ w. IsFramesText (units_view us) b.plan.places w.text × (w.code ≡ 0))
-    → Answers job.Frames answer (IsCertFrames (units_view us) c)
-framed_yes us c b (Ok a) is e h = (us, refl, inl (is, subst (λ (o : Option Best). IsPlanFrames (units_view us) o (shown a)) (sym e) h))
-framed_yes us c b (Err r) is e (inl memory) = inl memory
-framed_yes us c b (Err r) is e (inr h) = inr (us, refl, inl (is, subst (λ (o : Option Best). IsPlanFrames (units_view us) o (refused r)) (sym e) h))
+-- one to which the checker says yes is legal
+pub best_legal : (us : Units) (c : CertView) (places : List Place) → IsBestPlanOf us c places → IsLegal (loads_of us.units) us.slots places
+best_legal us c places h =
+    subst (λ (ps : List Place). IsLegal (loads_of us.units) us.slots ps) (sym h.plan) (subst (IsBestPlan (loads_of us.units) us.slots) h.held h.right.head.best).0
 
 -- there is none
 pub framed_none : (us : Units) (c : CertView) → IsCertified us.units us.slots c → c.best ≡ None → IsCertFrames (units_view us) c (refused refusal.CertHasNoPlan)
 framed_none us c is e = (us, refl, inl (is, subst (λ (o : Option Best). IsPlanFrames (units_view us) o (refused refusal.CertHasNoPlan)) (sym e) refl))
 
 -- a no, which may be want of memory
-pub framed_no : (us : Units) (c : CertView) (f : CheckFault) → IsFaultOf us.units us.slots c f → IsMemory job.Frames (refusal.Check f) ⊎ IsCertFrames (units_view us) c (refused (refusal.Check f))
+pub framed_no : (us : Units) (c : CertView) (f : CheckFault) → IsFaultOf us.units us.slots c f → IsFramesMemory (refusal.Check f) ⊎ IsCertFrames (units_view us) c (refused (refusal.Check f))
 framed_no us c f h = elim (memory_or f) [
   | inl e ↦ inl (inr (inr (inl (ap (λ (g : CheckFault). refusal.Check g) e))))
   | inr other ↦ inr (us, refl, inr (f, other, h, refl))
 ]
 
--- a certificate that has too many bytes, or want of memory
-pub unread_frames : (left text : Option (List ℕ)) (us : Units) (r : Refusal) (answer : Result Answer Refusal) → answer ≡ Err r → IfSome left (AnswersUnits (Ok us)) → ((r ≡ out_of_memory) ⊎ ((r ≡ refusal.Cert cert.TooLarge) × ReadsTooMany text 67108864))
-    → IfSome left (λ bytes. IfSome text (λ cert_bytes. Answers job.Frames answer (IsOutput job.Frames bytes (Some cert_bytes))))
-unread_frames None text us r answer is read why = tt
-unread_frames (Some bytes) None us r answer is read why = tt
-unread_frames (Some bytes) (Some cert_bytes) us r answer is read (inl memory) = rw is (inl (inl memory))
-unread_frames (Some bytes) (Some cert_bytes) us r answer is read (inr large) =
-    rw is (inr (inl (read.0, rw (read.1, too_long cert_bytes large.1) (ap refused large.0))))
+-- what is said of a certificate is said of the text that it was read of
+pub plan_ok : (us : Units) (text : List ℕ) (c : CertView) (r : Result Plan Refusal) → cert_reading text ≡ Ok c → IfOk r (λ p. IsBestPlanOf us c p.places) → IfOk r (λ p. IsCertPlan text (units_view us) p.places)
+plan_ok us text c (Ok p) said h = record { units = us; seen = refl; cert = c; said = said; plan = h }
+plan_ok us text c (Err r) said h = tt
 
--- what is answered for units and a text is the answer for the bytes that both were read of
-pub whole_frames : (left text : Option (List ℕ)) (us : Units) (v : List ℕ) (answer : Result Answer Refusal) → IfSome left (AnswersUnits (Ok us)) → IfSome text (λ all. v ≡ all) → Answers job.Frames answer (IsCertFramesOutput (units_view us) v)
-    → IfSome left (λ bytes. IfSome text (λ cert_bytes. Answers job.Frames answer (IsOutput job.Frames bytes (Some cert_bytes))))
-whole_frames None text us v answer read same told = tt
-whole_frames (Some bytes) None us v answer read same told = tt
-whole_frames (Some bytes) (Some cert_bytes) us v (Ok a) read same told = inl (read.0, rw (read.1, sym same) told)
-whole_frames (Some bytes) (Some cert_bytes) us v (Err r) read same (inl memory) = inl memory
-whole_frames (Some bytes) (Some cert_bytes) us v (Err r) read same (inr told) = inr (inl (read.0, rw (read.1, sym same) told))
+pub plan_legal : (us : Units) (c : CertView) (r : Result Plan Refusal) → IfOk r (λ p. IsBestPlanOf us c p.places) → IfOk r (λ p. IsLegal (loads_of us.units) us.slots p.places)
+plan_legal us c (Ok p) h = best_legal us c p.places h
+plan_legal us c (Err r) h = tt
+
+pub plan_err : (us : Units) (text : List ℕ) (c : CertView) (r : Result Plan Refusal) → cert_reading text ≡ Ok c → IfErr r (λ e. IsFramesMemory e ⊎ IsCertFrames (units_view us) c (refused e)) → IfErr r (λ e. IsFramesMemory e ⊎ IsCertFramesOutput (units_view us) text (refused e))
+plan_err us text c (Ok p) said h = tt
+plan_err us text c (Err e) said (inl memory) = inl memory
+plan_err us text c (Err e) said (inr h) = inr (rw said h)
+
+-- ---- units with a plan
+
+-- why units have none is why there are no frames
+pub units_fault : (cert : Option (List ℕ)) (bytes : List ℕ) (r : Refusal) → AnswersUnits (Err r) bytes → IsFramesFault cert bytes r
+units_fault cert bytes r (inl e) = inl (inl e)
+units_fault cert bytes r (inr (inl h)) = inr (inl (h.0, rw h.1.1 (ap refused h.1.2)))
+units_fault cert bytes r (inr (inr h)) = inr (inr (h.0, ap refused h.1))
+
+-- the places of the units that the bytes say
+pub placed_known : (left : Option (List ℕ)) (us : Units) (plan : Plan) → IfSome left (AnswersUnits (Ok us)) → IsPlacedPlan (units_view us) plan.places → IfSome left (FramesFrom None (Ok (us, plan)))
+placed_known None us plan read h = tt
+placed_known (Some bytes) us plan read h = (read.0, read.1, h)
+
+pub unplaced_known : (left : Option (List ℕ)) (us : Units) (r : Refusal) (answer : Result (Units × Plan) Refusal) → answer ≡ Err r → IfSome left (AnswersUnits (Ok us)) → (IsFramesMemory r ⊎ IsFramesOutput (units_view us) (refused r)) → IfSome left (FramesFrom None answer)
+unplaced_known None us r answer is read h = tt
+unplaced_known (Some bytes) us r answer is read (inl memory) = rw is (inl memory)
+unplaced_known (Some bytes) us r answer is read (inr h) = rw is (inr (inl (read.0, rw read.1 h)))
+
+pub unread_known : (left : Option (List ℕ)) (r : Refusal) (answer : Result (Units × Plan) Refusal) → answer ≡ Err r → IfSome left (AnswersUnits (Err r)) → IfSome left (FramesFrom None answer)
+unread_known None r answer is h = tt
+unread_known (Some bytes) r answer is h = rw is (units_fault None bytes r h)
+
+-- the plan of the text that was read, for the units that the bytes say
+pub certified_known : (left text : Option (List ℕ)) (us : Units) (plan : Plan) (v : List ℕ) → IfSome left (AnswersUnits (Ok us)) → IfSome text (λ all. v ≡ all) → IsCertPlan v (units_view us) plan.places
+    → IfSome left (λ bytes. IfSome text (λ t. FramesFrom (Some t) (Ok (us, plan)) bytes))
+certified_known None text us plan v read same h = tt
+certified_known (Some bytes) None us plan v read same h = tt
+certified_known (Some bytes) (Some t) us plan v read same h = (read.0, read.1, subst (λ (w : List ℕ). IsCertPlan w (units_view us) plan.places) same h)
+
+pub uncertified_known : (left text : Option (List ℕ)) (us : Units) (v : List ℕ) (r : Refusal) (answer : Result (Units × Plan) Refusal) → answer ≡ Err r → IfSome left (AnswersUnits (Ok us)) → IfSome text (λ all. v ≡ all)
+    → (IsFramesMemory r ⊎ IsCertFramesOutput (units_view us) v (refused r)) → IfSome left (λ bytes. IfSome text (λ t. FramesFrom (Some t) answer bytes))
+uncertified_known None text us v r answer is read same h = tt
+uncertified_known (Some bytes) None us v r answer is read same h = tt
+uncertified_known (Some bytes) (Some t) us v r answer is read same (inl memory) = rw is (inl memory)
+uncertified_known (Some bytes) (Some t) us v r answer is read same (inr h) = rw is (inr (inl (read.0, rw (read.1, sym same) h)))
+
+-- a certificate that has too many bytes, or want of memory
+pub unread_cert : (left text : Option (List ℕ)) (us : Units) (r : Refusal) (answer : Result (Units × Plan) Refusal) → answer ≡ Err r → IfSome left (AnswersUnits (Ok us)) → ((r ≡ out_of_memory) ⊎ ((r ≡ refusal.Cert cert.TooLarge) × ReadsTooMany text 67108864))
+    → IfSome left (λ bytes. IfSome text (λ t. FramesFrom (Some t) answer bytes))
+unread_cert None text us r answer is read why = tt
+unread_cert (Some bytes) None us r answer is read why = tt
+unread_cert (Some bytes) (Some t) us r answer is read (inl memory) = rw is (inl (inl memory))
+unread_cert (Some bytes) (Some t) us r answer is read (inr large) = rw is (inr (inl (read.0, rw (read.1, too_long t large.1) (ap refused large.0))))
+
+pub unread_units : (left text : Option (List ℕ)) (r : Refusal) (answer : Result (Units × Plan) Refusal) → answer ≡ Err r → IfSome left (AnswersUnits (Err r)) → IfSome left (λ bytes. IfSome text (λ t. FramesFrom (Some t) answer bytes))
+unread_units None text r answer is h = tt
+unread_units (Some bytes) None r answer is h = tt
+unread_units (Some bytes) (Some t) r answer is h = rw is (units_fault (Some t) bytes r h)
+
+-- ---- what is written for them
+
+-- the text of the frames of the plan
+framed_for : (cert : Option (List ℕ)) (v : UnitsView) (places : List Place) (w : Written) → IsFramedPlan cert v places → IsFramesText v places w.text → w.code ≡ 0 → IsFramesFor cert v w
+framed_for None v places w plan text code = rw plan.all (inr (
+  subst (λ (ps : List Place). IsLegal (view_loads v.units) v.slots ps) plan.given plan.legal,
+  subst (λ (ps : List Place). IsFramesText v ps w.text) plan.given text,
+  code,
+))
+framed_for (Some t) v places w plan text code =
+    let own : IsFramesText (units_view plan.units) plan.plan.best.plan.places w.text =
+    subst (λ (u : UnitsView). IsFramesText u plan.plan.best.plan.places w.text) (sym plan.seen) (subst (λ (ps : List Place). IsFramesText v ps w.text) plan.plan.plan text) in
+    rw plan.said (plan.units, plan.seen, inl (plan.plan.right, subst (λ (o : Option Best). IsPlanFrames (units_view plan.units) o w) (sym plan.plan.held) (own, code)))
+
+framed_output : (cert : Option (List ℕ)) (bytes : List ℕ) (us : Units) (plan : Plan) (w : Written) → FramesFrom cert (Ok (us, plan)) bytes → IsFramesText (units_view us) plan.places w.text → w.code ≡ 0 → IsOutput job.Frames bytes cert w
+framed_output cert bytes us plan w from text code = inl (from.0, rw from.1 (framed_for cert (units_view us) plan.places w from.2 text code))
+
+answered : (cert : Option (List ℕ)) (bytes : List ℕ) (us : Units) (plan : Plan) (answer : Result Answer Refusal) → FramesFrom cert (Ok (us, plan)) bytes → Answers job.Frames answer (λ w. IsFramesText (units_view us) plan.places w.text × (w.code ≡ 0)) → Answers job.Frames answer (IsOutput job.Frames bytes cert)
+answered cert bytes us plan (Ok a) from h = framed_output cert bytes us plan (shown a) from h.0 h.1
+answered cert bytes us plan (Err r) from (inl memory) = inl memory
+answered cert bytes us plan (Err r) from (inr h) = inr (framed_output cert bytes us plan (refused r) from h.0 h.1)
+
+unanswered : (cert : Option (List ℕ)) (bytes : List ℕ) (r : Refusal) (answer : Result Answer Refusal) → answer ≡ Err r → FramesFrom cert (Err r) bytes → Answers job.Frames answer (IsOutput job.Frames bytes cert)
+unanswered cert bytes r answer is h = rw is h
+
+pub frames_told : (left : Option (List ℕ)) (us : Units) (plan : Plan) (answer : Result Answer Refusal) → IfSome left (FramesFrom None (Ok (us, plan))) → Answers job.Frames answer (λ w. IsFramesText (units_view us) plan.places w.text × (w.code ≡ 0))
+    → IfSome left (λ bytes. Answers job.Frames answer (IsOutput job.Frames bytes None))
+frames_told None us plan answer from h = tt
+frames_told (Some bytes) us plan answer from h = answered None bytes us plan answer from h
+
+pub frames_untold : (left : Option (List ℕ)) (r : Refusal) (answer : Result Answer Refusal) → answer ≡ Err r → IfSome left (FramesFrom None (Err r)) → IfSome left (λ bytes. Answers job.Frames answer (IsOutput job.Frames bytes None))
+frames_untold None r answer is from = tt
+frames_untold (Some bytes) r answer is from = unanswered None bytes r answer is from
+
+pub planned_told : (left text : Option (List ℕ)) (us : Units) (plan : Plan) (answer : Result Answer Refusal) → IfSome left (λ bytes. IfSome text (λ t. FramesFrom (Some t) (Ok (us, plan)) bytes)) → Answers job.Frames answer (λ w. IsFramesText (units_view us) plan.places w.text × (w.code ≡ 0))
+    → IfSome left (λ bytes. IfSome text (λ t. Answers job.Frames answer (IsOutput job.Frames bytes (Some t))))
+planned_told None text us plan answer from h = tt
+planned_told (Some bytes) None us plan answer from h = tt
+planned_told (Some bytes) (Some t) us plan answer from h = answered (Some t) bytes us plan answer from h
+
+pub planned_untold : (left text : Option (List ℕ)) (r : Refusal) (answer : Result Answer Refusal) → answer ≡ Err r → IfSome left (λ bytes. IfSome text (λ t. FramesFrom (Some t) (Err r) bytes)) → IfSome left (λ bytes. IfSome text (λ t. Answers job.Frames answer (IsOutput job.Frames bytes (Some t))))
+planned_untold None text r answer is from = tt
+planned_untold (Some bytes) None r answer is from = tt
+planned_untold (Some bytes) (Some t) r answer is from = unanswered (Some t) bytes r answer is from

@@ -1,3 +1,4 @@
+pub mod CaptureLemmas
 pub mod CheckedLemmas
 pub mod FramedLemmas
 pub mod PlanLemmas

@@ -1,12 +1,14 @@
 //! What each job answers of the units, and the certificate, that its readers have.
 #![tactic(auto)]
 
+mod capture;
 mod check;
 mod cost;
 mod frames;
 mod input;
 mod plan;
 
+pub use capture::{captured_answer, captured_plan};
 pub use check::whole_answer;
 pub use cost::cost_answer;
 pub use frames::{frames_answer, planned_frames};

@@ -41,8 +41,9 @@ fn push_record(file: &mut Vec<u8>, ns: u64, frame: &[u8]) -> Result<(), AllocErr
 {
     push_four(file, (ns / SECOND_NS) as u32)?;
     push_four(file, (ns % SECOND_NS) as u32)?;
-    push_four(file, frame.len() as u32)?;
-    push_four(file, frame.len() as u32)?;
+    let held = frame.len() as u32;
+    push_four(file, held)?;
+    push_four(file, held)?;
     file.extend_from_slice(frame)?;
     Ok(())
 }

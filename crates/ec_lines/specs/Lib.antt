@@ -1,3 +1,4 @@
+pub mod Framed
 pub mod Lines
 pub mod Memory
 pub mod Outcomes

@@ -120,14 +120,18 @@ IsCertFrames v c w = (us : Units) × (units_view us ≡ v) × IsCertFramesOf us 
 abbrev pub IsCertFramesOutput : UnitsView → List ℕ → Written → Type 0
 IsCertFramesOutput v text w = MatchResult (cert_reading text) (λ c. IsCertFrames v c w) (λ f. w ≡ refused (refusal.Cert f))
 
+-- the text of frames, of the places of the units or of a certificate's plan
+abbrev pub IsFramesFor : Option (List ℕ) → UnitsView → Written → Type 0
+IsFramesFor None v w = IsFramesOutput v w
+IsFramesFor (Some text) v w = IsCertFramesOutput v text w
+
 -- what a job that searches for nothing writes for units, and for the bytes of a certificate where it reads one
 abbrev pub IsUnitsOutput : Job → Option (List ℕ) → UnitsView → Written → Type 0
 IsUnitsOutput job.Cost cert v w = IsCostOutput v w
 IsUnitsOutput (job.Plan workers nodes) cert v w = ⊥
 IsUnitsOutput job.Check None v w = ⊥
 IsUnitsOutput job.Check (Some text) v w = IsCheckOutput v text w
-IsUnitsOutput job.Frames None v w = IsFramesOutput v w
-IsUnitsOutput job.Frames (Some text) v w = IsCertFramesOutput v text w
+IsUnitsOutput job.Frames cert v w = IsFramesFor cert v w
 
 -- what is written for a unit text of at most 1,048,576 bytes
 abbrev pub IsTextOutput : Job → Option (List ℕ) → List ℕ → Written → Type 0

@@ -118,12 +118,16 @@ out_of_memory = refusal.Unit fault.OutOfMemory
 abbrev pub IsPlanMemory : Refusal → Type 0
 IsPlanMemory r = (r ≡ out_of_memory) ⊎ (r ≡ refusal.Solve solve.OutOfMemory)
 
+-- want of memory over frames: over the units or a text, the certificate, the check, or the layout and the frames
+abbrev pub IsFramesMemory : Refusal → Type 0
+IsFramesMemory r = (r ≡ out_of_memory) ⊎ ((r ≡ refusal.Cert cert.OutOfMemory) ⊎ ((r ≡ refusal.Check check.OutOfMemory) ⊎ (r ≡ refusal.FrameMemory)))
+
 -- want of memory, which may be answered in place of anything else; a plan, a check and the frames say who met it
 abbrev pub IsMemory : Job → Refusal → Type 0
 IsMemory job.Cost r = r ≡ out_of_memory
 IsMemory (job.Plan workers nodes) r = IsPlanMemory r
 IsMemory job.Check r = (r ≡ out_of_memory) ⊎ ((r ≡ refusal.Cert cert.OutOfMemory) ⊎ (r ≡ refusal.Check check.OutOfMemory))
-IsMemory job.Frames r = (r ≡ out_of_memory) ⊎ ((r ≡ refusal.Cert cert.OutOfMemory) ⊎ ((r ≡ refusal.Check check.OutOfMemory) ⊎ (r ≡ refusal.FrameMemory)))
+IsMemory job.Frames r = IsFramesMemory r
 
 -- what can be wrong with reading: memory, a read that failed, or too many bytes
 abbrev pub IsReadFault : Refusal → Type 0

@@ -1,11 +1,13 @@
 //! What the program refuses.
 
 ghost use Rattle.std.specs.Prelude.{◌≡◌};
+ghost use Rattle.ec_lines.specs.Memory.{text_memory};
 ghost use Rattle.ec_lines.specs.Refusals.{refusal_code, out_of_memory};
 ghost use Rattle.ec_lines.specs.declared.refusal.Refusal.TheVariants.{Unit as UnitRefusal, Illegal as IllegalRefusal, Cert as CertRefusal, Solve as SolveRefusal, Write as WriteRefusal};
 
 use ec_cert_text::CertFault;
 use ec_checker::CheckFault;
+use ec_frame_lines::TextFault;
 use ec_loads::Illegal;
 use ec_unit_text::UnitFault;
 use ec_wire::WriteFault;
@@ -116,5 +118,16 @@ impl From<Illegal> for Refusal {
 
     fn from(illegal: Illegal) -> Refusal {
         Refusal::Illegal(illegal)
+    }
+}
+
+impl From<TextFault> for Refusal {
+    ghost from_gives = { λ f r. r ≡ text_memory f };
+
+    fn from(fault: TextFault) -> Refusal {
+        match fault {
+            TextFault::Frames => Refusal::FrameMemory,
+            TextFault::Text => Refusal::Unit(UnitFault::OutOfMemory),
+        }
     }
 }
