@@ -1,7 +1,7 @@
 //! The least value that several threads have found, in one word.
 
 ghost use Rattle.std.specs.Prelude.{◌≡◌, ◌≤◌, ◌<◌, IfOk, All, vec_len, min, None, Some};
-ghost use Rattle.ec_tickets.specs.Lowest.{AtLeast, HasSeen, nothing, told, IsAtMost, IsNewReader, IsRead, IsLowered};
+ghost use Rattle.ec_tickets.specs.Lowest.{IsKnown, HasSeen, known, nothing, told, IsAtMost, IsNewReader, IsRead, IsLowered};
 
 use atomic_table::{Play, Seat, Split, Table, TableRule};
 use std::alloc::{AllocError, Global};
@@ -10,43 +10,50 @@ use std::marker::Model;
 /// The word as long as nothing was lowered to.
 const NOTHING: u64 = u64::MAX;
 
-/// The word is at most every number that a reader has read or lowered to.
+/// The least number that a seat has read or lowered to, and the least that it has lowered to. No value of it is made.
+pub struct Known {
+    pub least: u64,
+    pub lowered: u64,
+}
+
+/// The word is at most every number that a reader has read or lowered to, and at least the least that a reader has
+/// lowered to.
 struct Falls;
 
-impl TableRule<(), u64, ()> for Falls {
-    ghost holds = { λ _ s. AtLeast s };
+impl TableRule<(), Known, ()> for Falls {
+    ghost holds = { λ _ s. IsKnown s };
 
-    ghost first = { λ _. nothing };
+    ghost first = { λ _. known nothing nothing };
 }
 
 /// The number that is found is at most what the seat knew, and is what it knows from then on.
 struct Sees;
 
-impl Play<(), u64> for Sees {
-    ghost then = { λ _ v n w. HasSeen v n w n };
+impl Play<(), Known> for Sees {
+    ghost then = { λ _ v n w. HasSeen v n w (known n v.0.lowered) };
 }
 
 /// The same, where the step also lowers the word.
 struct Lowers;
 
-impl Play<(), u64> for Lowers {
-    ghost then = { λ s v n w. HasSeen v n w (min n s.first) };
+impl Play<(), Known> for Lowers {
+    ghost then = { λ s v n w. HasSeen v n w (known (min n s.first) (min v.0.lowered s.first)) };
 }
 
 /// Two seats know the same.
 struct Twice;
 
-impl Split<u64> for Twice {
+impl Split<Known> for Twice {
     ghost left = { λ v. v };
 
     ghost right = { λ v. v };
 }
 
 /// A number, in wire bytes, that only falls; none at first. It is at most every number that one of its readers has read
-/// or lowered to. A contract sees which one it is.
+/// or lowered to, and at least the least that one of them has lowered to. A contract sees which one it is.
 #[derive(Drop)]
 pub struct Bound {
-    table: Table<(), u64, (), Falls, Global>,
+    table: Table<(), Known, (), Falls, Global>,
 }
 
 impl Model for Bound {
@@ -60,13 +67,13 @@ impl Model for Bound {
     ghost invariant = { λ b. b.table.shared.table_id.words ≡ 1 };
 }
 
-/// What one thread knows of a bound: a contract sees which bound it is, and the least number that the reader has read
-/// or lowered to, none before.
+/// What one thread knows of a bound: a contract sees which bound it is, the least number that the reader has read or
+/// lowered to, none before, and the least that it has lowered to itself.
 #[derive(Drop)]
 pub struct Reader {
     /// The reader's number, from 0.
     number: u8,
-    seat: Seat<(), u64>,
+    seat: Seat<(), Known>,
 }
 
 impl Model for Reader {
@@ -74,7 +81,7 @@ impl Model for Reader {
 
     ghost Value = { ReaderView };
 
-    ghost view = { λ r. reader_view r.seat.table_id r.seat.me.0 };
+    ghost view = { λ r. reader_view r.seat.table_id r.seat.me.0.least r.seat.me.0.lowered };
 }
 
 /// The number that the word tells.
@@ -92,7 +99,7 @@ impl Bound {
         ensures each { IfOk result (λ r. All (IsNewReader r.0) r.1.items) }
     {
         let mut all = Vec::with_capacity(alloc, readers)?;
-        let (table, mut seat) = Table::<(), u64, (), Falls, Global>::of_words(
+        let (table, mut seat) = Table::<(), Known, (), Falls, Global>::of_words(
             alloc,
             &[NOTHING],
             &(),
@@ -116,8 +123,8 @@ impl Bound {
     }
 
     /// Lowers the number to this value, at most 12,304 wire bytes, where it isn't lower; the reader knows from then on that it is at
-    /// most both.
-    #[tactic(auto, using(crate::proofs::Knowing::told_falls, crate::proofs::Knowing::told_least))]
+    /// most both, and has lowered it to this value and to no other.
+    #[tactic(auto, using(crate::proofs::Knowing::told_falls, crate::proofs::Knowing::told_least, crate::proofs::Knowing::told_lowered))]
     pub fn lower(&self, reader: &mut Reader, value: u64)
         requires ours { reader.old.bound ≡ self.now }
         requires range { value ≤ 12304 }
