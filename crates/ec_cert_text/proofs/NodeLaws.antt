@@ -98,6 +98,12 @@ pub node_spelled : (d n : ℕ) (text rest : List ℕ) (h : Node) → 0 < d → B
 node_spelled zero n text rest h lt b = absurd (omega arith)
 node_spelled (suc d) n text rest h lt b = rw b.1 (node_again d n h rest b.0)
 
+-- the line of a tick's leaf is a tree
+pub tick_spelled : (d n t : ℕ) (text rest : List ℕ) → 0 < d → BeginsWithNode text (node.TickLeaf t) rest → tree_at d (record { line = n; rest = text }) ≡ Ok (leaf (tick t), record { line = n + 1; rest = rest })
+unfolding tree_at
+tick_spelled zero n t text rest lt b = absurd (omega arith)
+tick_spelled (suc d) n t text rest lt b = rw (node_spelled (suc d) n text rest (node.TickLeaf t) lt b) refl
+
 -- ---- trees
 
 HaveLevels-shapes : (d : ℕ) (ss : List Shape) → AllByRecursion (HasLevels d) ss → HaveLevels d (shapes ss)

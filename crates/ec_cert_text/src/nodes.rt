@@ -1,6 +1,7 @@
 //! The lines of a tree.
 
-ghost use Rattle.std.specs.Prelude.{◌≡◌, ℕ, ◌<◌, OnOk};
+ghost use Rattle.std.specs.Prelude.{◌≡◌, ℕ, ◌<◌, Ok, OnOk, IfSome};
+ghost use Rattle.ec_loads.specs.Shape.{leaf, tick};
 ghost use Rattle.ec_cert_text.specs.Reading.{Gives, node_in as node_in_spec, node_at, tree_at, many_from};
 ghost use Rattle.ec_cert.specs.Shapes.{shape_of};
 ghost use Rattle.ec_cert_text.specs.Views.{at_view, tree_views};
@@ -8,7 +9,7 @@ ghost use Rattle.ec_cert_text.specs.Views.{at_view, tree_views};
 use crate::fault::CertFault;
 use crate::lines::{fault_on, line_of};
 use crate::place::TextPlace;
-use crate::spelled::spelled_node;
+use crate::spelled::{spelled_node, spelled_tick};
 use crate::words::{Wrong, number, pair};
 use ec_cert::Tree;
 use std::alloc::Global;
@@ -77,6 +78,23 @@ fn node_of(levels: u8, place: TextPlace<'_>) -> Result<(Node, TextPlace<'_>), Ce
     }
 }
 
+/// The tick of a leaf on the next line, where that is written as certificates are and the tree may have so many levels from
+/// it on.
+#[inline(always)]
+fn tick_of(levels: u8, place: TextPlace<'_>) -> Option<(u32, TextPlace<'_>)>
+    ensures { IfSome result (λ x. tree_at levels (at_view place.entry) ≡ Ok (leaf (tick x.0), at_view x.1)) }
+{
+    if levels == 0 {
+        return None;
+    }
+    let (tick, rest) = spelled_tick(place.rest)?;
+    let next = TextPlace {
+        line: place.line + 1,
+        rest,
+    };
+    Some((tick, next))
+}
+
 /// A tree of so many levels at most; no recursion is deeper than they are.
 #[cycle(tree)]
 #[tactic(auto, unfolding(crate::specs::Reading::tree_at))]
@@ -111,6 +129,11 @@ fn trees_of(
     let mut trees = Vec::with_capacity(alloc, count as usize)?;
     let mut rest = place;
     'children: for _ in 0..count {
+        if let Some((tick, after)) = tick_of(levels, rest) {
+            trees.push(Tree::TickLeaf(tick))?;
+            rest = after;
+            continue;
+        }
         let (tree, after) = tree_of(alloc, levels, rest)?;
         trees.push(tree)?;
         rest = after;

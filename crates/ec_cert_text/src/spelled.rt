@@ -3,6 +3,7 @@
 ghost use Rattle.std.specs.Prelude.{◌≡◌, ◌<◌, ◌≤◌, ◌∷◌, ◌++◌, IfSome};
 ghost use Rattle.std.specs.Fmt.{decimal};
 ghost use Rattle.ec_cert_text.specs.NodeWords.{BeginsWithNode};
+ghost use Rattle.ec_cert_text.specs.declared.nodes.Node.TheVariants as node;
 
 use crate::nodes::Node;
 
@@ -32,14 +33,26 @@ fn spelled_number(end: u8, high: u32, text: &[u8]) -> Option<(u32, &[u8])>
     None
 }
 
+/// The tick of the leaf whose line a text begins with, and the bytes after that line. Of other lines nothing is said, nor
+/// of one that isn't written as certificates are.
+#[inline(always)]
+pub(crate) fn spelled_tick(text: &[u8]) -> Option<(u32, &[u8])>
+    ensures { IfSome result (λ x. BeginsWithNode text.now (node.TickLeaf x.0) x.1.now) }
+{
+    match text {
+        [b'T', b' ', rest @ ..] => spelled_number(b'\n', 1023, rest),
+        _ => None,
+    }
+}
+
 /// The node whose line a text begins with, and the bytes after that line. Of a line that isn't written as
 /// certificates are, and of one that no line feed ends, nothing is said.
 pub(crate) fn spelled_node(text: &[u8]) -> Option<(Node, &[u8])>
     ensures { IfSome result (λ x. BeginsWithNode text.now x.0 x.1.now) }
 {
     match text {
-        [b'T', b' ', rest @ ..] => {
-            let (tick, rest) = spelled_number(b'\n', 1023, rest)?;
+        [b'T', ..] => {
+            let (tick, rest) = spelled_tick(text)?;
             Some((Node::TickLeaf(tick), rest))
         }
         [b'S', b' ', rest @ ..] => {
