@@ -1,5 +1,5 @@
 -- Lines and records, one after the other.
-use Rattle.std.proofs.Common.{◌≡◌, ℕ, suc, ◌+◌, ◌-◌, ◌≤◌, ◌<◌, Bool, List, [], ◌∷◌, ◌++◌, length, map, filter, take, get_or, replicate, sum_by, All, refl, sym, ap, ◌∙◌, subst, arith, append_assoc, length-append}
+use Rattle.std.proofs.Common.{◌≡◌, ℕ, suc, ◌+◌, ◌-◌, ◌/◌, ◌%◌, ◌≤◌, ◌<◌, Bool, List, [], ◌∷◌, ◌++◌, length, map, filter, take, get_or, replicate, sum_by, All, refl, sym, ap, ◌∙◌, subst, arith, append_assoc, length-append}
 use Rattle.std.specs.List.{flat_map, range_with_len}
 use Rattle.std.proofs.lemmas.List.{flat_map_more, get_or-map, length-replicate, length-map, take_more}
 use Rattle.std.proofs.lemmas.List.FromFn.{length-map-range_with_len}
@@ -21,7 +21,7 @@ use Rattle.ec_wire.specs.Wire.{ns_of}
 use Rattle.ec_fmmu.specs.declared.fmmu.Fmmu.{Fmmu}
 use Rattle.ec_fmmu.specs.declared.mapping.Mapping.{Mapping}
 use Rattle.ec_frame_lines.specs.Lines.{stations_in, fmmu_lines, frame_line, frame_lines, wire_bytes, tick_lines, frames_text}
-use Rattle.ec_frame_lines.specs.Captures.{file_header, frame_record, stamp, tick_records, capture}
+use Rattle.ec_frame_lines.specs.Captures.{four_bytes, file_header, frame_record, stamp, tick_records, capture}
 
 -- one number more
 pub range_step : {A : Type 0} (f : ℕ → List A) (bs : List A) (n : ℕ) → bs ++ flat_map f (range_with_len 0 (n + 1)) ≡ (bs ++ flat_map f (range_with_len 0 n)) ++ f n
@@ -32,6 +32,13 @@ pub five_parts : (n0 n1 n2 n3 n4 n5 a b c d e : List ℕ) → n1 ≡ n0 ++ a →
 five_parts n0 n1 n2 n3 n4 n5 a b c d e p q r s t =
     let all : n5 ≡ (((((n0 ++ a) ++ b) ++ c) ++ d) ++ e) = cc in
     all ∙ (simp append_assoc)
+
+-- the parts of a record, whose numbers are those of its frame
+pub record_parts : (ns : ℕ) (n0 n1 n2 n3 n4 n5 frame : List ℕ) (s n held sent : ℕ) → n1 ≡ n0 ++ four_bytes s → n2 ≡ n1 ++ four_bytes n → n3 ≡ n2 ++ four_bytes held → n4 ≡ n3 ++ four_bytes sent → n5 ≡ n4 ++ frame
+    → s ≡ ns / 1000000000 → n ≡ ns % 1000000000 → held ≡ length frame → sent ≡ length frame → n5 ≡ n0 ++ frame_record ns frame
+record_parts ns n0 n1 n2 n3 n4 n5 frame s n held sent p q r t u es en eh et =
+    five_parts n0 n1 n2 n3 n4 n5 (four_bytes s) (four_bytes n) (four_bytes held) (four_bytes sent) frame p q r t u
+    ∙ (λ i. n0 ++ (four_bytes (es i) ++ (four_bytes (en i) ++ (four_bytes (eh i) ++ (four_bytes (et i) ++ frame)))))
 
 pub three_parts : (n0 n1 n2 n3 a b c : List ℕ) → n1 ≡ n0 ++ a → n2 ≡ n1 ++ b → n3 ≡ n2 ++ c → n3 ≡ n0 ++ (a ++ (b ++ c))
 three_parts n0 n1 n2 n3 a b c p q r =
@@ -93,10 +100,10 @@ tick_text items old new sl ss xs frames make t h same there e =
     h ∙ (λ i. old ++ frame_lines t (same i) ((ap (map items) there ∙ e) i)) ∙ ap (λ w. old ++ w) (made_lines t make ss)
 
 -- the whole text
-pub whole_text : (m : Mapping) (v : UnitsView) (n0 n1 n2 st : List ℕ) (fs : List (List Fmmu)) (h : ℕ) → n0 ≡ [] → st ≡ stations_in v.units → fs ≡ m.fmmus → h ≡ lcm_of (periods_of (view_loads v.units))
-    → n1 ≡ n0 ++ fmmu_lines st fs → n2 ≡ n1 ++ flat_map (tick_lines m v.slots) (range_with_len 0 h) → n2 ≡ frames_text v m
+pub whole_text : (m : Mapping) (v : UnitsView) (n0 n1 n2 st : List ℕ) (fs : List (List Fmmu)) (h : ℕ) → n0 ≡ [] → st ≡ stations_in v.units → fs ≡ m.fmmus
+    → n1 ≡ n0 ++ fmmu_lines st fs → n2 ≡ n1 ++ flat_map (tick_lines m v.slots) (range_with_len 0 h) → h ≡ lcm_of (periods_of (view_loads v.units)) → n2 ≡ frames_text v m
 unfolding frames_text
-whole_text m v n0 n1 n2 st fs h e0 e1 e2 e3 e4 e5 =
+whole_text m v n0 n1 n2 st fs h e0 e1 e2 e4 e5 e3 =
     e5
     ∙ (λ i. e4 i ++ flat_map (tick_lines m v.slots) (range_with_len 0 (e3 i)))
     ∙ (λ i. (e0 i ++ fmmu_lines (e1 i) (e2 i)) ++ flat_map (tick_lines m v.slots) (range_with_len 0 (lcm_of (periods_of (view_loads v.units)))))
@@ -112,10 +119,10 @@ sum_step items frames d i before frame l is had =
     ∙ ap (sum_by wire_bytes) (sym (take_more (map items frames) i [] within))
 
 pub records_step : {F : Type 0} (items : F → List ℕ) (frames : List F) (d : F) (start i before ns : ℕ) (init old new frame : List ℕ) → i < length frames → frame ≡ items (get_or frames i d)
-    → before ≡ sum_by wire_bytes (take i (map items frames)) → ns ≡ start + ns_of before
-    → old ≡ init ++ flat_map (λ k. frame_record (stamp start (map items frames) k) (get_or (map items frames) k [])) (range_with_len 0 i) → new ≡ old ++ frame_record ns frame
+    → before ≡ sum_by wire_bytes (take i (map items frames))
+    → old ≡ init ++ flat_map (λ k. frame_record (stamp start (map items frames) k) (get_or (map items frames) k [])) (range_with_len 0 i) → new ≡ old ++ frame_record ns frame → ns ≡ start + ns_of before
     → new ≡ init ++ flat_map (λ k. frame_record (stamp start (map items frames) k) (get_or (map items frames) k [])) (range_with_len 0 (i + 1))
-records_step items frames d start i before ns init old new frame l is had when so_far added =
+records_step items frames d start i before ns init old new frame l is had so_far added when =
     let here : frame ≡ get_or (map items frames) i [] = is ∙ sym (get_or-map items frames i d [] l) in
     let stamped : ns ≡ stamp start (map items frames) i = when ∙ ap (λ b. start + ns_of b) had in
     added

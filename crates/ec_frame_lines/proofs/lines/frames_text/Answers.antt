@@ -1,10 +1,10 @@
-use Rattle.std.proofs.Common.{◌≡◌, List, length, map, ap, sym, ◌∙◌}
+use Rattle.std.proofs.Common.{◌≡◌, List, length, map, ap, sym, ◌∙◌, arith}
 use Rattle.std.proofs.lemmas.List.{length-map}
 use Rattle.ec_hyper.specs.Lcm.{lcm_of}
 use Rattle.ec_units.specs.declared.unit.Unit.{Unit as SyncUnit}
 use Rattle.ec_units.specs.declared.unit.Load.{Load}
 use Rattle.ec_units.specs.Load.{load_of, periods_of}
-use Rattle.ec_units.specs.Views.{unit_view, units_view}
+use Rattle.ec_units.specs.Views.{unit_view, units_view, view_loads}
 use Rattle.ec_units.proofs.Viewed.{loads_of-views}
 use Rattle.ec_fmmu.specs.Seats.{seats_of}
 use Rattle.ec_fmmu.specs.Mappings.{records_of}
@@ -25,6 +25,8 @@ push_fmmus-requires c =
 
 pub returns : goal.returns
 returns c =
-    whole_text c.args.mapping.now (units_view c.args.units.now) _ _ _ c.as_slice-2.result.now c.as_slice-3.result.now c.ticks-ticks.result c.new-text.ensures.bytes
+    let ticks : c.ticks-ticks.result ≡ lcm_of (periods_of (view_loads (units_view c.args.units.now).units)) =
+    c.ticks-ticks.ensures.value ∙ c.hyper.ensures.value ∙ ap (λ (ls : List Load). lcm_of (periods_of ls)) (loads_of-views c.args.units.now.units) in
+    whole_text c.args.mapping.now (units_view c.args.units.now) _ _ _ c.as_slice-2.result.now c.as_slice-3.result.now _ c.new-text.ensures.bytes
     (c.as_slice-2.ensures.value ∙ c.in_ok-stations.ensures ∙ ap (λ (xs : List SyncUnit). stations_in (map unit_view xs)) c.as_slice.ensures) c.as_slice-3.ensures
-    (c.ticks-ticks.ensures.value ∙ c.hyper.ensures.value ∙ ap (λ (ls : List Load). lcm_of (periods_of ls)) (loads_of-views c.args.units.now.units)) c.in_ok-push_fmmus.ensures c.in_ok-push_ticks.ensures
+    c.in_ok-push_fmmus.ensures c.in_ok-push_ticks.ensures (omega (arith, ticks))
