@@ -135,7 +135,8 @@ impl Desk {
         }
     }
 
-    /// Ends the book, and begins another; tells the nodes that were spent, the tree and the best plan.
+    /// Ends the book, and begins another; tells the nodes that were spent, the tree and the best plan. The book stays where
+    /// it doesn't end.
     fn finish(&mut self, alloc: Global) -> Result<String, AllocError> {
         let fresh = Book::new(alloc, &self.units, self.order.as_slice(), self.nodes)?;
         let book = mem::replace(&mut self.book, fresh);
@@ -148,7 +149,10 @@ impl Desk {
                 let steps = done.log.as_slice().len();
                 format!(in alloc; "{} {:?} {best} {steps}", done.spent, done.tree)
             }
-            Err(_) => String::from_str(alloc, "memory"),
+            Err((book, _)) => {
+                self.book = book;
+                String::from_str(alloc, "memory")
+            }
         }
     }
 
