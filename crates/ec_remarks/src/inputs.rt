@@ -12,7 +12,7 @@ pub struct Inputs<'a> {
     pub cert: Option<&'a [u8]>,
     /// The path of the certificate that was to be read.
     pub cert_path: Option<&'a str>,
-    /// The path to which a certificate was to be written.
+    /// The path to which a certificate or a capture file was to be written.
     pub out_path: Option<&'a str>,
     /// Why the system refused the path or the stream, in its words.
     pub reason: Option<&'a str>,

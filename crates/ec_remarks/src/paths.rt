@@ -28,14 +28,14 @@ pub(crate) fn tell_read(out: &mut String, inputs: &Inputs<'_>) -> Result<(), All
 
 /// Tells which path couldn't be written, and why.
 pub(crate) fn tell_write(out: &mut String, inputs: &Inputs<'_>) -> Result<(), AllocError> {
-    out.push_str("The certificate cannot be written")?;
+    out.push_str("The file cannot be written")?;
     if let Some(path) = inputs.out_path {
         out.push_str(" to ")?;
         add_quoted(out, path.as_bytes())?;
     }
     add_reason(out, inputs)?;
     out.push_str(
-        "The search had ended; give a path in a folder that is there and can be written.\n",
+        "All else was done; give a path in a folder that is there and can be written.\n",
     )
 }
 
