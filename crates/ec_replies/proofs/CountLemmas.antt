@@ -38,7 +38,7 @@ may-not at [] k l = refl
 may-not at (d ∷ ds) k l = λ i. shut-before at d k l i || may-not (at + (length d.bytes + 12)) ds k (omega (arith, l)) i
 
 -- two bytes of 16 bits
-word-same : (p q : List ℕ) (n : ℕ) → get_or q n 0 ≡ get_or p n 0 → get_or q (n + 1) 0 ≡ get_or p (n + 1) 0 → little_number 2 (drop n q) ≡ little_number 2 (drop n p)
+pub word-same : (p q : List ℕ) (n : ℕ) → get_or q n 0 ≡ get_or p n 0 → get_or q (n + 1) 0 ≡ get_or p (n + 1) 0 → little_number 2 (drop n q) ≡ little_number 2 (drop n p)
 word-same p q n e f =
     let low = get_or-drop n q 0 0 ∙ ap (λ k. get_or q k 0) (let z : n + 0 ≡ n = omega arith in z) ∙ e ∙ ap (λ k. get_or p k 0) (let z : n ≡ n + 0 = omega arith in z) ∙ sym (get_or-drop n p 0 0) in
     let high = get_or-drop n q 1 0 ∙ f ∙ sym (get_or-drop n p 1 0) in

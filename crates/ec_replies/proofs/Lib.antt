@@ -1,3 +1,10 @@
 pub mod MeaningLemmas
 pub mod CounterLemmas
 pub mod CountLemmas
+pub mod KeptLemmas
+pub mod RightLemmas
+pub mod AskLemmas
+pub mod RunLemmas
+pub mod StartLemmas
+pub mod StartLaw
+pub mod RangeLemmas

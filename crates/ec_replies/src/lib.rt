@@ -1,14 +1,21 @@
 //! What is wrong with a frame that comes back, said as relations between its bytes and those of the frame that was sent.
 #![tactic(auto)]
 
-ghost use Rattle.std.specs.Prelude.{◌≡◌, ◌↔◌, ℕ, true, List, length, map, Some, None};
+ghost use Rattle.std.specs.Prelude.{◌≡◌, ◌<◌, ◌↔◌, ℕ, true, List, length, map, Some, None, All};
 ghost use Rattle.ec_frames.specs.Reading.{Entry, ReadsAs, HasFault};
 ghost use Rattle.ec_frames.specs.declared.reading.FrameFault.{FrameFault};
 ghost use Rattle.ec_play.specs.declared.faults.Wrong.{Wrong};
 ghost use Rattle.ec_play.specs.declared.faults.PlayFault.TheVariants as fault;
-ghost use Rattle.ec_play.specs.Sent.{Sent};
+ghost use Rattle.ec_units.specs.declared.units.Units.{Units};
+ghost use Rattle.ec_units.specs.Together.{stations_of};
+ghost use Rattle.ec_fmmu.specs.declared.mapping.Mapping.{Mapping};
+ghost use Rattle.ec_slave.specs.Step.{memory_after, frame_after};
+ghost use Rattle.ec_player.specs.Frames.{HasLayout};
+ghost use Rattle.ec_play.specs.Sent.{Sent, start_sents};
 ghost use Rattle.ec_play.specs.Faults.{entries_of, is_reply_of, first_wrong, counter_fault, fault_of};
+ghost use Rattle.ec_play.specs.Lines.{slaves_after, AreRight};
 ghost use Rattle.ec_replies.specs.Meanings.{IsReply};
+ghost use Rattle.ec_replies.specs.Started.{AreMemories, started};
 ghost use Rattle.ec_replies.specs.Counters.{IsFirstWrong, AreAlike};
 
 /// A frame that comes back is judged by what it is read as, then as a reply, then by its working counters (own profile, after
@@ -30,4 +37,14 @@ pub fn as_many_datagrams()
 pub fn wrong_counters()
     ensures wrong { (wants gots : List ℕ) (w : Wrong) → first_wrong 0 wants gots ≡ Some w → IsFirstWrong wants gots w }
     ensures alike { (wants gots : List ℕ) → first_wrong 0 wants gots ≡ None → AreAlike wants gots }
+{}
+
+/// Start frames that go through modelled slaves, one for each slave of the units in file order, come back right: they are read, they
+/// are replies, and their counters are those that are wanted. They leave each slave its station and its records (own profile, after
+/// ETG.1000.4, clauses 5.4 and 6.6). A station has 16 bits.
+pub fn start_is_right()
+    ensures right { (us : Units) (m : Mapping) (slaves : List (List ℕ)) → HasLayout us m → AreMemories slaves → length slaves ≡ length (stations_of us.units) →
+        All (λ s. s < 65536) (stations_of us.units) → AreRight frame_after memory_after slaves 0 (start_sents us m) }
+    ensures slaves { (us : Units) (m : Mapping) (slaves : List (List ℕ)) → HasLayout us m → AreMemories slaves → length slaves ≡ length (stations_of us.units) →
+        All (λ s. s < 65536) (stations_of us.units) → slaves_after frame_after memory_after slaves (start_sents us m) ≡ started (stations_of us.units) m.fmmus slaves }
 {}
