@@ -8,3 +8,8 @@ pub mod RunLemmas
 pub mod StartLemmas
 pub mod StartLaw
 pub mod RangeLemmas
+pub mod FmmuLemmas
+pub mod TickLemmas
+pub mod PlayLemmas
+pub mod PlayLaw
+pub mod DataLemmas

@@ -20,7 +20,7 @@ less-part p q h =
       | inr f ↦ let a = cond-false {A = ℕ} p 1 0 f in omega (arith, a)
     ]
 
-address-grows : (seats : List Seat) (a b : List ℕ) → is_before a b ≡ true → address_of seats a ≤ address_of seats b
+pub address-grows : (seats : List Seat) (a b : List ℕ) → is_before a b ≡ true → address_of seats a ≤ address_of seats b
 unfolding address_of
 address-grows seats a b h =
     let xs = process_bytes seats in
@@ -124,13 +124,12 @@ group-end seats x y z =
 -- ---- the bytes of a slave
 
 -- where the bytes of one side of a slave lie, beside a group: within it if the slave is in it, before it or behind it else
-pub Lies : Bool → ℕ → ℕ → ℕ → ℕ → Type 0
+abbrev pub Lies : Bool → ℕ → ℕ → ℕ → ℕ → Type 0
 Lies true start len from to = (start ≤ from) × (to ≤ start + len)
 Lies false start len from to = (to ≤ start) ⊎ (start + len ≤ from)
 
 side-lies : (seats : List Seat) (g : Group) (s : Seat) (side last : ℕ) → IsGroup seats g →
     Lies (is_same (key_numbers s.key) (group_numbers g)) g.start g.len (address_of seats (process_byte s side 0)) (address_of seats (process_byte s side last))
-unfolding Lies
 side-lies seats g s side last h =
     let n = group_numbers g in
     let k = key_numbers s.key in

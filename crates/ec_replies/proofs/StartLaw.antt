@@ -25,7 +25,7 @@ zeros-or false xs h = h
 pub length-record : (f : Fmmu) → length (record_bytes f) ≡ 16
 length-record f = zeros-or (f.len == 0) _ refl
 
-pair-length : (seats : List Seat) (s : Seat) → IsPair (records_of seats s)
+pub pair-length : (seats : List Seat) (s : Seat) → IsPair (records_of seats s)
 pair-length seats s =
     pair (records_of seats s) (omega arith)
   where

@@ -1,19 +1,21 @@
 //! What is wrong with a frame that comes back, said as relations between its bytes and those of the frame that was sent.
 #![tactic(auto)]
 
-ghost use Rattle.std.specs.Prelude.{◌≡◌, ◌<◌, ◌↔◌, ℕ, true, List, length, map, Some, None, All};
+ghost use Rattle.std.specs.Prelude.{◌≡◌, ◌<◌, ◌↔◌, ℕ, true, List, length, map, Some, None, Err, All};
 ghost use Rattle.ec_frames.specs.Reading.{Entry, ReadsAs, HasFault};
 ghost use Rattle.ec_frames.specs.declared.reading.FrameFault.{FrameFault};
 ghost use Rattle.ec_play.specs.declared.faults.Wrong.{Wrong};
+ghost use Rattle.ec_play.specs.declared.faults.PlayFault.{PlayFault};
 ghost use Rattle.ec_play.specs.declared.faults.PlayFault.TheVariants as fault;
 ghost use Rattle.ec_units.specs.declared.units.Units.{Units};
 ghost use Rattle.ec_units.specs.Together.{stations_of};
 ghost use Rattle.ec_fmmu.specs.declared.mapping.Mapping.{Mapping};
 ghost use Rattle.ec_slave.specs.Step.{memory_after, frame_after};
 ghost use Rattle.ec_player.specs.Frames.{HasLayout};
-ghost use Rattle.ec_play.specs.Sent.{Sent, start_sents};
+ghost use Rattle.ec_play.specs.Sent.{Sent, start_sents, all_sents};
 ghost use Rattle.ec_play.specs.Faults.{entries_of, is_reply_of, first_wrong, counter_fault, fault_of};
-ghost use Rattle.ec_play.specs.Lines.{slaves_after, AreRight};
+ghost use Rattle.ec_play.specs.Lines.{slaves_after, AreRight, IsMemory};
+ghost use Rattle.ec_play.specs.Plays.{IsAnswer};
 ghost use Rattle.ec_replies.specs.Meanings.{IsReply};
 ghost use Rattle.ec_replies.specs.Started.{AreMemories, started};
 ghost use Rattle.ec_replies.specs.Counters.{IsFirstWrong, AreAlike};
@@ -47,4 +49,15 @@ pub fn start_is_right()
         All (λ s. s < 65536) (stations_of us.units) → AreRight frame_after memory_after slaves 0 (start_sents us m) }
     ensures slaves { (us : Units) (m : Mapping) (slaves : List (List ℕ)) → HasLayout us m → AreMemories slaves → length slaves ≡ length (stations_of us.units) →
         All (λ s. s < 65536) (stations_of us.units) → slaves_after frame_after memory_after slaves (start_sents us m) ≡ started (stations_of us.units) m.fmmus slaves }
+{}
+
+/// A play through modelled slaves, one for each slave of the units in file order, has no faulty frame: each frame, of the start and of
+/// the ticks, comes back readable, as a reply, and with the counters that are wanted (own profile, after ETG.1000.4, clause 5.4). So a
+/// play that fails lacked what it needs. A station has 16 bits.
+pub fn play_is_right()
+    ensures right { (us : Units) (m : Mapping) (image : List ℕ) (n : ℕ) (slaves : List (List ℕ)) → HasLayout us m → length image ≡ m.total → AreMemories slaves →
+        length slaves ≡ length (stations_of us.units) → All (λ s. s < 65536) (stations_of us.units) → AreRight frame_after memory_after slaves 0 (all_sents us m image n) }
+    ensures lacks { (us : Units) (m : Mapping) (image : List ℕ) (n : ℕ) (slaves : List (List ℕ)) (f : PlayFault) → HasLayout us m → length image ≡ m.total → AreMemories slaves →
+        length slaves ≡ length (stations_of us.units) → All (λ s. s < 65536) (stations_of us.units) →
+        IsAnswer frame_after memory_after IsMemory us m image n slaves (Err f) → IsMemory f }
 {}
