@@ -1,4 +1,4 @@
-use Rattle.std.proofs.Common.{length, None}
+use Rattle.std.proofs.Common.{length, None, rules, tests}
 use Rattle.ec_loads.specs.Held.{no_places}
 use Rattle.ec_loads.specs.Line.{slots_alone, line_of}
 use Rattle.ec_cert.specs.Shapes.{shape_of}
@@ -50,3 +50,15 @@ returns-clause-least g c =
     (held_prefix h.loads h.slots order prefix h c.place_all.new.loads (λ j. record { loads = h.loads; slots = h.slots; places = c.requires.empty j }) c.place_all.ensures.placed)
     (later_units order (length prefix)) c.in_ok-tree.ensures.walked in
     walked.fair (λ x low bounds. tt)
+
+pub returns-clause-known : goal.returns-clause-known
+returns-clause-known g c = search rules
+
+pub returns-clause-upper : goal.returns-clause-upper
+returns-clause-upper g c = search rules
+
+pub returns-clause-most : goal.returns-clause-most
+returns-clause-most g c = search rules
+
+pub returns-clause-exact : goal.returns-clause-exact
+returns-clause-exact g c = search rules
