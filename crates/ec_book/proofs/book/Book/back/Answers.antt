@@ -1,4 +1,4 @@
-use Rattle.std.proofs.Common.{arith, refl}
+use Rattle.std.proofs.Common.{arith, refl, rules}
 use Rattle.ec_loads.specs.Line.{slots_alone, line_by}
 use Rattle.ec_book.specs.declared.piece.Piece.TheVariants.{Free, Taken}
 use Rattle.ec_cert.specs.BestPlan.{value_of}
@@ -45,3 +45,6 @@ invariant_of-self c =
           c.push_reserved.new.self.items at c.push_reserved.ensures.items;
       grown = grown-set (line_by slots_alone b.loads.loads b.loads.slots) b.order.items b.pieces.items b.prefixes.items b.reports.items (value_of b.best) b.spent inv.grown c.args.piece (Taken c.args.worker c.in-Ok.grant) Free at refl;
     })
+
+pub returns-clause-ok : goal.returns-clause-ok
+returns-clause-ok c = search rules

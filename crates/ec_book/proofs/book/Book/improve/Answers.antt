@@ -1,4 +1,4 @@
-use Rattle.std.proofs.Common.{arith, vec_capacity}
+use Rattle.std.proofs.Common.{arith, vec_capacity, rules}
 use Rattle.ec_loads.specs.Line.{slots_alone, line_by}
 use Rattle.ec_book.specs.Steps.{IsBelow}
 use Rattle.ec_book.specs.Faults.{IsPlanOf}
@@ -22,3 +22,9 @@ invariant_of-self-2 c =
           (omega (arith, c.in-Ok.ensures.ok, c.in-Some-checked_add.ensures.1, c.push_reserved.ensures.capacity, c.reserve.ensures.len, b.log.ok.0));
       grown = grown-better (line_by slots_alone b.loads.loads b.loads.slots) b.order.items b.pieces.items b.prefixes.items b.reports.items (value_of b.best) b.spent inv.grown v below;
     }
+
+pub returns-clause-ok : goal.returns-clause-ok
+returns-clause-ok c = search rules
+
+pub returns-in-Some-clause-err : goal.returns-in-Some-clause-err
+returns-in-Some-clause-err c = search rules
