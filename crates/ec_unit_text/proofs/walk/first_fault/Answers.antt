@@ -16,3 +16,11 @@ is_too_long-requires-clause-few c =
 pub returns : goal.returns
 unfolding Rattle.ec_unit_text.specs.UnitText.unit_faults
 returns c = search (rules, first_step)
+
+pub returns-in-Some : goal.returns-in-Some
+unfolding Rattle.ec_unit_text.specs.UnitText.unit_faults
+returns-in-Some c = search (rules, first_step)
+
+pub returns-then-is_too_long : goal.returns-then-is_too_long
+unfolding Rattle.ec_unit_text.specs.UnitText.unit_faults
+returns-then-is_too_long c = search (rules, first_step)
