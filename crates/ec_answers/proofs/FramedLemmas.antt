@@ -110,7 +110,7 @@ unread_units (Some bytes) (Some t) r answer is h = rw is (units_fault (Some t) b
 -- ---- what is written for them
 
 -- the text of the frames of the plan
-framed_for : (cert : Option (List ℕ)) (v : UnitsView) (places : List Place) (w : Written) → IsFramedPlan cert v places → IsFramesText v places w.text → w.code ≡ 0 → IsFramesFor cert v w
+pub framed_for : (cert : Option (List ℕ)) (v : UnitsView) (places : List Place) (w : Written) → IsFramedPlan cert v places → IsFramesText v places w.text → w.code ≡ 0 → IsFramesFor cert v w
 framed_for None v places w plan text code = rw plan.all (inr (
   subst (λ (ps : List Place). IsLegal (view_loads v.units) v.slots ps) plan.given plan.legal,
   subst (λ (ps : List Place). IsFramesText v ps w.text) plan.given text,

@@ -1,3 +1,4 @@
+pub mod OneCapture
 pub mod OneCheck
 pub mod OneIllegal
 pub mod OneOutput

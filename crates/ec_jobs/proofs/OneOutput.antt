@@ -110,6 +110,9 @@ units_once job.Check (Some text) v a b p q = cert_once v (cert_reading text) a b
 units_once job.Frames None v a b p q =
     option_once (first_unplaced v.units) (IsPlacedFrames v (places_of v.units)) (λ n. refused (refusal.NoPlace n)) (frames_placed v (places_of v.units)) a b p q
 units_once job.Frames (Some text) v a b p q = cert_frames v (cert_reading text) a b p q
+units_once job.Capture None v a b p q =
+    option_once (first_unplaced v.units) (IsPlacedFrames v (places_of v.units)) (λ n. refused (refusal.NoPlace n)) (frames_placed v (places_of v.units)) a b p q
+units_once job.Capture (Some text) v a b p q = cert_frames v (cert_reading text) a b p q
 
 result_once : (j : Job) (cert : Option (List ℕ)) (r : Result UnitsView UnitFault) (a b : Written) → MatchResult r (λ v. IsUnitsOutput j cert v a) (λ f. a ≡ refused (refusal.Unit f)) → MatchResult r (λ v. IsUnitsOutput j cert v b) (λ f. b ≡ refused (refusal.Unit f)) → a ≡ b
 result_once j cert (Ok v) a b p q = units_once j cert v a b p q

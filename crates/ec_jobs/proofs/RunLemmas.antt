@@ -9,10 +9,11 @@ use Rattle.ec_lines.specs.declared.refusal.Refusal.TheVariants as refusal
 use Rattle.ec_lines.specs.declared.job.Job.{Job}
 use Rattle.ec_lines.specs.declared.job.Job.TheVariants as job
 use Rattle.ec_wire.specs.declared.io.Io.{Io}
+use Rattle.ec_answers.specs.Captures.{AnswersCapture, GetsCaptureFront, IsFramesWritten}
 use Rattle.ec_answers.specs.Input.{AreUnits, ConsumesAtMost}
 use Rattle.ec_lines.specs.Output.{Written, Answers, IsOutput, IsNoMemory, refused, written_of}
 use Rattle.ec_answers.specs.Planned.{AnswersPlan, GetsCertFront, IsPlanWritten, Any, Gets, GetsFront}
-use Rattle.ec_jobs.specs.Runs.{Use, used, Lent, either, Reads, Tells, IsFor, Refuses, ForUnits, ForCert, Costs, Checks, Plans, PlansTo, PlansAway, Does, DoesAlone, DoesAway, IsSound, HasFailed, IsKept, before, after}
+use Rattle.ec_jobs.specs.Runs.{Use, used, Lent, either, Reads, Tells, IsFor, Refuses, ForUnits, ForCert, Costs, Checks, Plans, PlansTo, PlansAway, Captures, CapturesPlan, CapturesAway, Does, DoesAlone, DoesAway, IsSound, HasFailed, IsKept, before, after}
 use Rattle.ec_jobs.proofs.TellLemmas.{said_by}
 use Rattle.ec_workers.specs.Answers.{Asked, asked_for}
 
@@ -91,6 +92,52 @@ plans_to asked u o answer told front known any read write kept w is = record {
   kept = kept;
 }
 
+-- frames with a capture file
+abbrev Draws : Option (List ℕ) → (Option (List ℕ) → Type 0) → Written → List ℕ → Type 0
+Draws cert gets w bytes = (file : Option (List ℕ)) × IsFramesWritten cert bytes w file × gets file
+
+captured : (cert : Option (List ℕ)) (bytes : List ℕ) (gets : Option (List ℕ) → Type 0) (answer : Result Answer Refusal) (w : Written) → IsFor answer w → AnswersCapture cert gets answer bytes → Draws cert gets w bytes
+captured cert bytes gets answer w is h = (h.0, subst (λ (x : Written). IsFramesWritten cert bytes x h.0) (sym is) h.1, h.2)
+
+capture_said : (left : Option (List ℕ)) (gets : Option (List ℕ) → Type 0) (answer : Result Answer Refusal) (w : Written) → IsFor answer w → IfSome left (AnswersCapture None gets answer) → IfSome left (Draws None gets w)
+capture_said None gets answer w is h = tt
+capture_said (Some bytes) gets answer w is h = captured None bytes gets answer w is h
+
+capture_planned : (left cert : Option (List ℕ)) (gets : Option (List ℕ) → Type 0) (answer : Result Answer Refusal) (w : Written) → IsFor answer w → IfSome left (λ bytes. IfSome cert (λ text. AnswersCapture (Some text) gets answer bytes))
+    → IfSome left (λ bytes. IfSome cert (λ text. Draws (Some text) gets w bytes))
+capture_planned None cert gets answer w is h = tt
+capture_planned (Some bytes) None gets answer w is h = tt
+capture_planned (Some bytes) (Some text) gets answer w is h = captured (Some text) bytes gets answer w is h
+
+pub captures : {R O : Type 0} (u : Use R) (o : Use O) (answer : Result Answer Refusal) → (IsSound u → IsSound o → IfSome (before u) (AnswersCapture None (Gets o.tells o.old o.new) answer))
+    → (IsSound u → IfSome (before u) (GetsCaptureFront None (GetsFront o.tells o.old o.new))) → ConsumesAtMost (before u) (after u) 1048577 → taken u.new ≤ taken u.old + 1048577 → (HasFailed u → answer ≡ Err refusal.Read) → (HasFailed o → answer ≡ Err refusal.Write) → (HasFailed u → IsKept o)
+    → (w : Written) → IsFor answer w → Captures u o w
+captures u o answer told front known any read write unread w is = record {
+  read = reads u 1048577 answer w is known any read;
+  honest = λ units out. capture_said (before u) (Gets o.tells o.old o.new) answer w is (told units out);
+  front = front;
+  failed = λ failed. refuses answer refusal.Write w is (write failed);
+  unread = unread;
+}
+
+pub captures_plan : {R C O : Type 0} (u : Use R) (c : Use C) (o : Use O) (answer : Result Answer Refusal)
+    → (IsSound u → IsSound c → IsSound o → IfSome (before u) (λ bytes. IfSome (before c) (λ text. AnswersCapture (Some text) (Gets o.tells o.old o.new) answer bytes)))
+    → (IsSound u → IsSound c → IfSome (before u) (λ bytes. IfSome (before c) (λ text. GetsCaptureFront (Some text) (GetsFront o.tells o.old o.new) bytes)))
+    → ConsumesAtMost (before u) (after u) 1048577 → taken u.new ≤ taken u.old + 1048577 → (HasFailed u → answer ≡ Err refusal.Read) → ConsumesAtMost (before c) (after c) 67108865 → taken c.new ≤ taken c.old + 67108865 → (HasFailed c → answer ≡ Err refusal.Read)
+    → (HasFailed o → answer ≡ Err refusal.Write) → (HasFailed u → IsKept o) → (HasFailed c → IsKept o) → (HasFailed u → IsKept c) → IfSome (before u) (λ bytes. ¬ (AreUnits bytes) → IsKept c)
+    → (w : Written) → IsFor answer w → CapturesPlan u c o w
+captures_plan u c o answer told front known any read cert_known cert_any cert_read write unread cert_unread kept first w is = record {
+  read = reads u 1048577 answer w is known any read;
+  cert_read = reads c 67108865 answer w is cert_known cert_any cert_read;
+  honest = λ units cert out. capture_planned (before u) (before c) (Gets o.tells o.old o.new) answer w is (told units cert out);
+  front = front;
+  failed = λ failed. refuses answer refusal.Write w is (write failed);
+  unread = unread;
+  cert_unread = cert_unread;
+  kept = kept;
+  first = first;
+}
+
 -- where the units are left, none of them is read
 kept_none : (left : Option (List ℕ)) (most : ℕ) → ConsumesAtMost left left most
 kept_none None most = ([], omega arith, tt)
@@ -131,6 +178,7 @@ does_alone job.Cost units cert out none no_out w h = h.0
 does_alone (job.Plan workers nodes) units cert out none no_out w h = either_none out.old out.new _ _ no_out h.0
 does_alone job.Check units cert out none no_out w h = absurd (either_none cert.old cert.new _ _ none h.0)
 does_alone job.Frames units cert out none no_out w h = either_none cert.old cert.new _ _ none h.0
+does_alone job.Capture units cert out none no_out w h = either_none cert.old cert.new _ _ none (either_none out.old out.new _ _ no_out h)
 
 -- and with one, of which nothing is known
 away : {R O : Type 0} (asked : Asked) (units : Use R) (out : Use O) (w : Written) → PlansTo asked units out w → PlansAway asked units w
@@ -139,8 +187,25 @@ away asked units out w h = elim (bool_cases (has_failed out.new)) [
   | inr failed ↦ record { read = h.read; honest = λ fine. away_refused (before units) asked w (h.failed failed) }
 ]
 
+capture_known : (left : Option (List ℕ)) (gets : Option (List ℕ) → Type 0) (w : Written) → IfSome left (Draws None gets w) → IfSome left (λ bytes. Refuses refusal.Write w ⊎ ((file : Option (List ℕ)) × IsFramesWritten None bytes w file))
+capture_known None gets w h = tt
+capture_known (Some bytes) gets w h = inr (h.0, h.1)
+
+capture_refused : (left : Option (List ℕ)) (w : Written) → Refuses refusal.Write w → IfSome left (λ bytes. Refuses refusal.Write w ⊎ ((file : Option (List ℕ)) × IsFramesWritten None bytes w file))
+capture_refused None w h = tt
+capture_refused (Some bytes) w h = inl h
+
+pub captures_away : {R O : Type 0} (units : Use R) (out : Use O) (w : Written) → Captures units out w → CapturesAway units w
+captures_away units out w h = elim (bool_cases (has_failed out.new)) [
+  | inl sound ↦ record { read = h.read; honest = λ fine. capture_known (before units) _ w (h.honest fine sound) }
+  | inr failed ↦ record { read = h.read; honest = λ fine. capture_refused (before units) w (h.failed failed) }
+]
+
 pub does_away : {R C O : Type 0} (j : Job) (units : Use R) (cert : Lent C) (out : Lent O) (o : Io O) → cert.old ≡ None → out.old ≡ Some o → (w : Written) → Does j units cert out w → DoesAway j units w
 does_away job.Cost units cert out o none there w h = h.0
 does_away (job.Plan workers nodes) units cert out o none there w h = let to = either_some out.old out.new _ _ o there h.0 in away (asked_for workers nodes) units (used out.tells o to.0) w to.1
 does_away job.Check units cert out o none there w h = absurd (either_none cert.old cert.new _ _ none h.0)
 does_away job.Frames units cert out o none there w h = either_none cert.old cert.new _ _ none h.0
+does_away job.Capture units cert out o none there w h =
+    let to = either_some out.old out.new _ _ o there h in
+    captures_away units (used out.tells o to.0) w (either_none cert.old cert.new _ _ none to.1)

@@ -9,6 +9,7 @@ use Rattle.ec_lines.specs.declared.refusal.Refusal.{Refusal}
 use Rattle.ec_lines.specs.declared.refusal.Refusal.TheVariants as refusal
 use Rattle.ec_lines.specs.declared.job.Job.{Job}
 use Rattle.ec_lines.specs.declared.job.Job.TheVariants as job
+use Rattle.ec_answers.specs.Captures.{IsFramesWritten, GetsCaptureFront}
 use Rattle.ec_answers.specs.Input.{ConsumesAtMost, AreUnits}
 use Rattle.ec_lines.specs.Output.{Written, IsOutput, IsNoMemory, refused, written_of}
 use Rattle.ec_answers.specs.Planned.{IsPlanWritten, GetsCertFront, Gets, GetsFront}
@@ -133,11 +134,37 @@ pub record PlansTo {R O : Type 0} (asked : Asked) (units : Use R) (out : Use O) 
   pub failed : HasFailed out → Refuses refusal.Write w
   pub kept : HasFailed units → IsKept out
 
+-- the text of frames is written for the units, and before it their capture file, or a front of it where that fails
+pub record Captures {R O : Type 0} (units : Use R) (out : Use O) (w : Written) : Type 0 where
+  pub read : Reads units 1048577 w
+  pub honest : IsSound units → IsSound out → IfSome (before units) (λ bytes. (file : Option (List ℕ)) × IsFramesWritten None bytes w file × Gets out.tells out.old out.new file)
+  pub front : IsSound units → IfSome (before units) (GetsCaptureFront None (GetsFront out.tells out.old out.new))
+  pub failed : HasFailed out → Refuses refusal.Write w
+  pub unread : HasFailed units → IsKept out
+
+-- and for the units and the certificate, which isn't read before the units are right
+pub record CapturesPlan {R C O : Type 0} (units : Use R) (cert : Use C) (out : Use O) (w : Written) : Type 0 where
+  pub read : Reads units 1048577 w
+  pub cert_read : Reads cert 67108865 w
+  pub honest : IsSound units → IsSound cert → IsSound out
+      → IfSome (before units) (λ bytes. IfSome (before cert) (λ text. (file : Option (List ℕ)) × IsFramesWritten (Some text) bytes w file × Gets out.tells out.old out.new file))
+  pub front : IsSound units → IsSound cert → IfSome (before units) (λ bytes. IfSome (before cert) (λ text. GetsCaptureFront (Some text) (GetsFront out.tells out.old out.new) bytes))
+  pub failed : HasFailed out → Refuses refusal.Write w
+  pub unread : HasFailed units → IsKept out
+  pub cert_unread : HasFailed cert → IsKept out
+  pub kept : HasFailed units → IsKept cert
+  pub first : IfSome (before units) (λ bytes. ¬ (AreUnits bytes) → IsKept cert)
+
+-- what frames do with the units and a certificate, if there is one
+abbrev pub TellsFrames : {R C : Type 0} → Use R → Lent C → Written → Type 0
+TellsFrames units cert w = IfLent cert (ForUnits job.Frames units w) (λ c. ForCert job.Frames units c w)
+
 -- what a job does with what it is lent, and what is to be written for it
 abbrev pub Does : {R C O : Type 0} → Job → Use R → Lent C → Lent O → Written → Type 0
 Does job.Cost units cert out w = Costs units w × IsLeft cert × IsLeft out
 Does job.Check units cert out w = IfLent cert ⊥ (λ c. Checks units c w) × IsLeft out
-Does job.Frames units cert out w = IfLent cert (ForUnits job.Frames units w) (λ c. ForCert job.Frames units c w) × IsLeft out
+Does job.Frames units cert out w = TellsFrames units cert w × IsLeft out
+Does job.Capture units cert out w = IfLent out (TellsFrames units cert w) (λ o. IfLent cert (Captures units o w) (λ c. CapturesPlan units c o w))
 Does (job.Plan workers nodes) units cert out w = IfLent out (Plans (asked_for workers nodes) units w) (λ o. PlansTo (asked_for workers nodes) units o w) × IsLeft cert
 
 -- a run does its job, and tells what is to be written for it
@@ -151,12 +178,18 @@ pub record PlansAway {R : Type 0} (asked : Asked) (units : Use R) (w : Written) 
   pub read : Reads units 1048577 w
   pub honest : IsSound units → IfSome (before units) (λ bytes. Refuses refusal.Write w ⊎ ((cert : Option (List ℕ)) × IsPlanWritten asked bytes w cert))
 
--- without the path of a certificate to write; of a check, whose certificate isn't known, only what it reads
+-- the text of frames is written for the units, or that their capture file couldn't be
+pub record CapturesAway {R : Type 0} (units : Use R) (w : Written) : Type 0 where
+  pub read : Reads units 1048577 w
+  pub honest : IsSound units → IfSome (before units) (λ bytes. Refuses refusal.Write w ⊎ ((file : Option (List ℕ)) × IsFramesWritten None bytes w file))
+
+-- without the path of a file to write; of a check, whose certificate isn't known, only what it reads
 abbrev pub DoesAlone : {R : Type 0} → Job → Use R → Written → Type 0
 DoesAlone job.Cost units w = Costs units w
 DoesAlone (job.Plan workers nodes) units w = Plans (asked_for workers nodes) units w
 DoesAlone job.Check units w = Reads units 1048577 w
 DoesAlone job.Frames units w = ForUnits job.Frames units w
+DoesAlone job.Capture units w = ForUnits job.Frames units w
 
 -- and with one
 abbrev pub DoesAway : {R : Type 0} → Job → Use R → Written → Type 0
@@ -164,15 +197,23 @@ DoesAway job.Cost units w = Costs units w
 DoesAway (job.Plan workers nodes) units w = PlansAway (asked_for workers nodes) units w
 DoesAway job.Check units w = Reads units 1048577 w
 DoesAway job.Frames units w = ForUnits job.Frames units w
+DoesAway job.Capture units w = CapturesAway units w
 
 -- frames; of those of a certificate, which isn't known, only what they read
 abbrev pub FramesAt : {R : Type 0} → Option (String Global) → Use R → Written → Type 0
 FramesAt None units w = ForUnits job.Frames units w
 FramesAt (Some path) units w = Reads units 1048577 w
 
--- what a command line does with the units, and what is to be written for it: the job, the path of a certificate to read, and of one to write
+-- the same with the path of a capture file to write
+abbrev pub CaptureAt : {R : Type 0} → Option (String Global) → Option (String Global) → Use R → Written → Type 0
+CaptureAt cert None units w = FramesAt cert units w
+CaptureAt None (Some path) units w = CapturesAway units w
+CaptureAt (Some from) (Some path) units w = Reads units 1048577 w
+
+-- what a command line does with the units, and what is to be written for it: the job, the path of a certificate to read, and of a file to write
 abbrev pub DoesLine : {R : Type 0} → Job → Option (String Global) → Option (String Global) → Use R → Written → Type 0
 DoesLine job.Frames cert out units w = FramesAt cert units w
+DoesLine job.Capture cert out units w = CaptureAt cert out units w
 DoesLine j cert None units w = DoesAlone j units w
 DoesLine j cert (Some path) units w = DoesAway j units w
 
@@ -192,8 +233,18 @@ HasCert job.Check None = ⊥
 HasCert job.Check (Some cert) = has_failed cert ≡ false
 HasCert job.Frames None = Unit {0}
 HasCert job.Frames (Some cert) = has_failed cert ≡ false
+HasCert job.Capture None = Unit {0}
+HasCert job.Capture (Some cert) = has_failed cert ≡ false
 
 -- if there is a reader, it has not failed
 abbrev pub NoneFailed : {C : Type 0} → Option (Io C) → Type 0
 NoneFailed None = Unit {0}
 NoneFailed (Some cert) = has_failed cert ≡ false
+
+-- the writer of a capture, if there is one, has not failed; of another job's nothing is asked
+abbrev pub HasOut : {O : Type 0} → Job → Option (Io O) → Type 0
+HasOut job.Cost out = Unit {0}
+HasOut (job.Plan workers nodes) out = Unit {0}
+HasOut job.Check out = Unit {0}
+HasOut job.Frames out = Unit {0}
+HasOut job.Capture out = NoneFailed out

@@ -17,6 +17,7 @@ use Rattle.ec_workers.specs.Outcomes.{Shows}
 use Rattle.ec_answers.specs.Planned.{IsPlanWritten}
 use Rattle.ec_lines.specs.declared.job.Job.{Job}
 use Rattle.ec_lines.specs.declared.job.Job.TheVariants as job
+use Rattle.ec_lines.specs.Framed.{IsCaptureFor, IsCaptured}
 use Rattle.ec_lines.specs.Lines.{least_line, no_plan_line, optimal_line}
 use Rattle.ec_lines.specs.Outcomes.{optimal_text}
 use Rattle.ec_lines.specs.Output.{Written, IsOutput}
@@ -43,6 +44,14 @@ YesIsTrue = (bytes cert : List ℕ) (w : Written) → IsOutput job.Check bytes (
 -- what is written is a function of the bytes that are read
 abbrev pub OneOutputEach : Type 0
 OneOutputEach = (j : Job) (bytes : List ℕ) (cert : Option (List ℕ)) (a b : Written) → IsOutput j bytes cert a → IsOutput j bytes cert b → a ≡ b
+
+-- the capture file of frames is a function of the bytes that are read
+abbrev pub OneCaptureEach : Type 0
+OneCaptureEach = (cert : Option (List ℕ)) (bytes : List ℕ) (a b : List ℕ) → IsCaptureFor cert bytes a → IsCaptureFor cert bytes b → a ≡ b
+
+-- the text that is written with it is that of frames alone
+abbrev pub CaptureTellsFrames : Type 0
+CaptureTellsFrames = (cert : Option (List ℕ)) (bytes : List ℕ) (w : Written) (file : List ℕ) → IsCaptured cert bytes w file → IsOutput job.Frames bytes cert w
 
 -- the certificate that is written is one of these units, to which the checker says yes with this verdict
 abbrev pub IsShownBy : Units → Verdict → Option (List ℕ) → Type 0

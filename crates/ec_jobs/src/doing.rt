@@ -2,7 +2,7 @@
 
 ghost use Rattle.std.specs.Prelude.{◌≡◌, None, false};
 ghost use Rattle.ec_wire.specs.Stream.{has_failed};
-ghost use Rattle.ec_jobs.specs.Runs.{used, Tells, Reads, Costs, DoesAlone, DoesAway, DoesLine};
+ghost use Rattle.ec_jobs.specs.Runs.{used, Tells, Reads, Costs, CapturesAway, CaptureAt, FramesAt, DoesAlone, DoesAway, DoesLine};
 ghost use Rattle.ec_lines.specs.Words.{HasPath, IsPlain, JobFits};
 
 use crate::job::{Status, refuse};
@@ -89,6 +89,88 @@ fn frames_at<R: Read, W: Write, F: Files>(
     run_plain(alloc, &Job::Frames, units, from, text, nowhere)
 }
 
+/// Tells the frames of the places in the units, and writes them as a capture file to this path, which is opened at the
+/// first write.
+fn capture_to<R: Read, W: Write, F: Files>(
+    files: &F,
+    alloc: Global,
+    path: &str,
+    units: &mut Io<R>,
+    text: &mut Io<W>,
+) -> Status
+    requires units { has_failed units.old ≡ false }
+    requires text { has_failed text.old ≡ false }
+    ensures { Tells (CapturesAway (used R.remaining units.old units.new)) (used W.contents text.old text.new) result.code }
+{
+    let mut out = Io::new(Late::new(files, path));
+    let none: Option<&mut Io<io::Empty>> = None;
+    let to = Some(&mut out);
+    run_plain(alloc, &Job::Capture, units, none, text, to)
+}
+
+/// Tells the frames of the plan of the certificate at the first path, which is opened before the units are read, and
+/// writes them as a capture file to the second one, which is opened at the first write.
+fn captured_at<R: Read, W: Write, F: Files>(
+    files: &F,
+    alloc: Global,
+    from: &str,
+    path: &str,
+    units: &mut Io<R>,
+    text: &mut Io<W>,
+) -> Status
+    requires units { has_failed units.old ≡ false }
+    requires text { has_failed text.old ≡ false }
+    ensures { Tells (Reads (used R.remaining units.old units.new) 1048577) (used W.contents text.old text.new) result.code }
+{
+    let Ok(file) = fs::open(files, from) else {
+        return refuse(Refusal::Read, text);
+    };
+    let mut cert = Io::new(file);
+    let mut out = Io::new(Late::new(files, path));
+    let plan = Some(&mut cert);
+    let to = Some(&mut out);
+    run_plain(alloc, &Job::Capture, units, plan, text, to)
+}
+
+/// Tells the frames that a line names.
+fn frames_line<R: Read, W: Write, F: Files>(
+    files: &F,
+    alloc: Global,
+    line: &Line,
+    units: &mut Io<R>,
+    text: &mut Io<W>,
+) -> Status
+    requires units { has_failed units.old ≡ false }
+    requires text { has_failed text.old ≡ false }
+    ensures { Tells (FramesAt line.now.cert (used R.remaining units.old units.new)) (used W.contents text.old text.new) result.code }
+{
+    match &line.cert {
+        Some(path) => frames_at(files, alloc, path.as_str(), units, text),
+        None => plain_alone(alloc, &Job::Frames, units, text),
+    }
+}
+
+/// Tells the frames that a line names, and writes them as a capture file to its path.
+fn capture_line<R: Read, W: Write, F: Files>(
+    files: &F,
+    alloc: Global,
+    line: &Line,
+    units: &mut Io<R>,
+    text: &mut Io<W>,
+) -> Status
+    requires units { has_failed units.old ≡ false }
+    requires text { has_failed text.old ≡ false }
+    ensures { Tells (CaptureAt line.now.cert line.now.out (used R.remaining units.old units.new)) (used W.contents text.old text.new) result.code }
+{
+    match &line.out {
+        Some(to) => match &line.cert {
+            Some(from) => captured_at(files, alloc, from.as_str(), to.as_str(), units, text),
+            None => capture_to(files, alloc, to.as_str(), units, text),
+        },
+        None => frames_line(files, alloc, line, units, text),
+    }
+}
+
 /// Does a plan without writing its certificate.
 fn plan_alone<R: Read, W: Write, T: Threads + Wait + Sync>(
     wait: &T,
@@ -155,9 +237,7 @@ pub fn do_line<R: Read, W: Write, F: Files, T: Threads + Wait + Sync>(
             Some(path) => check_at(files, alloc, path.as_str(), units, text),
             None => unreachable!(),
         },
-        Job::Frames => match &line.cert {
-            Some(path) => frames_at(files, alloc, path.as_str(), units, text),
-            None => plain_alone(alloc, &line.job, units, text),
-        },
+        Job::Frames => frames_line(files, alloc, line, units, text),
+        Job::Capture => capture_line(files, alloc, line, units, text),
     }
 }

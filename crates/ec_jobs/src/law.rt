@@ -1,6 +1,6 @@
 //! Laws of what is written.
 
-ghost use Rattle.ec_jobs.specs.Sound.{OneLeastEach, OneOutputEach, PlanIsTrue, YesIsTrue};
+ghost use Rattle.ec_jobs.specs.Sound.{CaptureTellsFrames, OneCaptureEach, OneLeastEach, OneOutputEach, PlanIsTrue, YesIsTrue};
 
 use ec_tree::trees_bound;
 
@@ -8,6 +8,13 @@ use ec_tree::trees_bound;
 /// certificate, have one text and one status.
 pub fn one_output_each()
     ensures { OneOutputEach }
+{}
+
+/// The capture file that frames write is a function of the bytes that are read, and the text that they write with it is
+/// that of frames without one.
+pub fn one_capture_each()
+    ensures files { OneCaptureEach }
+    ensures texts { CaptureTellsFrames }
 {}
 
 /// Where a check writes `least B`, status 0, some legal plan of the units that were read is busiest at B, and every

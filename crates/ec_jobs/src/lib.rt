@@ -1,6 +1,7 @@
 //! The jobs of the program: what is read, and what is written for it.
 #![tactic(auto)]
 
+mod capturing;
 mod doing;
 mod framing;
 mod job;
@@ -10,10 +11,11 @@ mod plain;
 mod running;
 mod usage;
 
+pub use capturing::{run_capture, run_captured_plan};
 pub use doing::do_line;
 pub use job::{Status, run_plan_to};
 pub use late::Late;
-pub use law::{a_plan_is_true, a_yes_is_true, one_least_each, one_output_each};
+pub use law::{a_plan_is_true, a_yes_is_true, one_capture_each, one_least_each, one_output_each};
 pub use plain::run_plain;
 pub use running::run;
 pub use usage::{refuse_memory, refuse_words};

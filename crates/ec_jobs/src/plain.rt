@@ -2,9 +2,10 @@
 
 ghost use Rattle.std.specs.Prelude.{◌≡◌, false, option_map};
 ghost use Rattle.ec_wire.specs.Stream.{has_failed};
-ghost use Rattle.ec_jobs.specs.Runs.{used, lent, HasCert, IsRun};
+ghost use Rattle.ec_jobs.specs.Runs.{used, lent, HasCert, HasOut, IsRun};
 ghost use Rattle.ec_lines.specs.Words.{IsPlain};
 
+use crate::capturing::{run_capture, run_captured_plan};
 use crate::framing::{run_frames, run_planned};
 use crate::job::{Status, run_check, run_cost};
 use ec_lines::Job;
@@ -15,7 +16,7 @@ use std::io::{Read, Write};
 /// Does a job that searches for nothing, without a runtime: reads the units, and for a check, or frames with a
 /// certificate, then the certificate, makes its whole answer, and then writes it to `text`. It reads at most 1,048,577 bytes of units and 67,108,865 of a
 /// certificate, so it ends on readers that never do. A cost leaves `cert` unread, and so does a check of units that are
-/// refused. Nothing is written to `out`.
+/// refused. A capture writes its file to `out`, if `out` is there, before the text; no other job writes to it.
 pub fn run_plain<R: Read, C: Read, W: Write, O: Write>(
     alloc: Global,
     job: &Job,
@@ -28,6 +29,7 @@ pub fn run_plain<R: Read, C: Read, W: Write, O: Write>(
     requires units { has_failed units.old ≡ false }
     requires cert { HasCert job.now (option_map (λ r. r.now) cert) }
     requires text { has_failed text.old ≡ false }
+    requires out { HasOut job.now (option_map (λ r. r.now) out) }
     ensures { IsRun job.now (used R.remaining units.old units.new) (lent C.remaining cert.entry cert.exit) (used W.contents text.old text.new) (lent O.contents out.entry out.exit) result.code }
 {
     match job {
@@ -40,6 +42,16 @@ pub fn run_plain<R: Read, C: Read, W: Write, O: Write>(
         Job::Frames => match cert {
             Some(plan) => run_planned(alloc, units, plan, text),
             None => run_frames(alloc, units, text),
+        },
+        Job::Capture => match out {
+            Some(out) => match cert {
+                Some(plan) => run_captured_plan(alloc, units, plan, text, out),
+                None => run_capture(alloc, units, text, out),
+            },
+            None => match cert {
+                Some(plan) => run_planned(alloc, units, plan, text),
+                None => run_frames(alloc, units, text),
+            },
         },
     }
 }

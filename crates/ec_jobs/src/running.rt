@@ -5,6 +5,7 @@ ghost use Rattle.ec_wire.specs.Stream.{has_failed};
 ghost use Rattle.ec_jobs.specs.Runs.{used, lent, HasCert, IsRun, NoneFailed};
 ghost use Rattle.ec_lines.specs.Words.{JobFits};
 
+use crate::capturing::{run_capture, run_captured_plan};
 use crate::framing::{run_frames, run_planned};
 use crate::job::{Status, run_check, run_cost, run_plan, run_plan_to};
 use ec_lines::Job;
@@ -48,6 +49,16 @@ pub fn run<R: Read, C: Read, W: Write, O: Write, T: Threads + Wait + Sync>(
         Job::Frames => match cert {
             Some(plan) => run_planned(alloc, units, plan, text),
             None => run_frames(alloc, units, text),
+        },
+        Job::Capture => match out {
+            Some(out) => match cert {
+                Some(plan) => run_captured_plan(alloc, units, plan, text, out),
+                None => run_capture(alloc, units, text, out),
+            },
+            None => match cert {
+                Some(plan) => run_planned(alloc, units, plan, text),
+                None => run_frames(alloc, units, text),
+            },
         },
     }
 }

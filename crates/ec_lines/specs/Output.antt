@@ -132,6 +132,7 @@ IsUnitsOutput (job.Plan workers nodes) cert v w = ⊥
 IsUnitsOutput job.Check None v w = ⊥
 IsUnitsOutput job.Check (Some text) v w = IsCheckOutput v text w
 IsUnitsOutput job.Frames cert v w = IsFramesFor cert v w
+IsUnitsOutput job.Capture cert v w = IsFramesFor cert v w
 
 -- what is written for a unit text of at most 1,048,576 bytes
 abbrev pub IsTextOutput : Job → Option (List ℕ) → List ℕ → Written → Type 0

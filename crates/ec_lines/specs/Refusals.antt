@@ -128,6 +128,7 @@ IsMemory job.Cost r = r ≡ out_of_memory
 IsMemory (job.Plan workers nodes) r = IsPlanMemory r
 IsMemory job.Check r = (r ≡ out_of_memory) ⊎ ((r ≡ refusal.Cert cert.OutOfMemory) ⊎ (r ≡ refusal.Check check.OutOfMemory))
 IsMemory job.Frames r = IsFramesMemory r
+IsMemory job.Capture r = IsFramesMemory r
 
 -- what can be wrong with reading: memory, a read that failed, or too many bytes
 abbrev pub IsReadFault : Refusal → Type 0

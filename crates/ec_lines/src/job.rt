@@ -11,9 +11,11 @@ pub enum Job {
     Check,
     /// Tells the FMMU records and the frames of a certificate's plan, or of the placed units.
     Frames,
+    /// Tells them too, and writes these frames as a capture file.
+    Capture,
 }
 
-/// A command line: the job, the path of a certificate to read and the path of one to write.
+/// A command line: the job, the path of a certificate to read, and the path of what a plan or a capture writes.
 #[derive(Debug, Drop)]
 pub struct Line {
     pub job: Job,

@@ -16,3 +16,4 @@ HasNumbersOf m job.Cost = Unit {0}
 HasNumbersOf m (job.Plan workers nodes) = IsSaidBy m (codes "workers") workers × IsSaidBy m (codes "nodes") nodes
 HasNumbersOf m job.Check = Unit {0}
 HasNumbersOf m job.Frames = Unit {0}
+HasNumbersOf m job.Capture = Unit {0}

@@ -75,9 +75,15 @@ fn frames_command<'a>(alloc: Global) -> Result<Command<'a>, AllocError> {
         .value_name("PATH")
         .action(ArgAction::Set)
         .help("The certificate whose plan is sent; without it the places in the units are");
+    let pcap = Arg::new(alloc, "pcap")
+        .long("pcap")
+        .value_name("PATH")
+        .action(ArgAction::Set)
+        .help("Where to write the frames as a capture file, which Wireshark opens");
     Command::new(alloc, "frames")
         .about("Tells the FMMU records of the slaves and the frames of each tick")
-        .arg(cert)
+        .arg(cert)?
+        .arg(pcap)
 }
 
 /// All commands.
@@ -165,7 +171,7 @@ fn check_line(alloc: Global, matches: &ArgMatches<'_>) -> Result<Line, LineFault
     })
 }
 
-/// The line of frames with these options.
+/// The line of frames with these options: of a capture where they have the path of its file.
 fn frames_line(alloc: Global, matches: &ArgMatches<'_>) -> Result<Line, LineFault>
     ensures within { IfOk result (λ line. JobFits line.job) }
     ensures paths { IfOk result (λ line. HasPath line.job line.cert) }
@@ -175,11 +181,18 @@ fn frames_line(alloc: Global, matches: &ArgMatches<'_>) -> Result<Line, LineFaul
         Some(path) => Some(String::from_str(alloc, path)?),
         None => None,
     };
-    Ok(Line {
-        job: Job::Frames,
-        cert,
-        out: None,
-    })
+    match matches.get_str("pcap") {
+        Some(path) => Ok(Line {
+            job: Job::Capture,
+            cert,
+            out: Some(String::from_str(alloc, path)?),
+        }),
+        None => Ok(Line {
+            job: Job::Frames,
+            cert,
+            out: None,
+        }),
+    }
 }
 
 /// Reads the words after the program's name: `cost`, `plan`, `check` or `frames`, with its options.

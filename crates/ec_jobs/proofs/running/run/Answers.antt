@@ -2,6 +2,7 @@ use Rattle.std.proofs.Common.{inl, inr, refl}
 use Rattle.ec_jobs.proofs.RunLemmas.{tells_more}
 use Rattle.ec_jobs.proofs.TellLemmas.{option_cases}
 use Rattle.ec_jobs.proofs.running.run.Goals as goal
+use Rattle.ec_jobs.proofs.running.run.Goals.{in-Some-cert-3, in-None-cert-3}
 
 pub returns-in-Cost : goal.returns-in-Cost
 returns-in-Cost g c = tells_more (λ w h. rw c.in-Cost.is (
@@ -39,3 +40,13 @@ returns-in-None-cert-2 g c = tells_more (λ w h. rw (c.in-Frames.is, c.in-None-c
   h,
   elim (option_cases c.args.out) [ inl e ↦ rw e refl | inr p ↦ rw p.1 refl ],
 )) c.run_frames.ensures
+
+pub returns-after-cert-3 : goal.returns-after-cert-3
+returns-after-cert-3 g c =
+    elim c.match-cert-3.branch [
+      | in-Some-cert-3 w ↦ rw (w.units-is, w.cert-is, w.text-is, w.out-is, w.result-is) (tells_more (λ x h. rw (c.in-Capture.is, c.in-Some-out.is, w.in-Some-cert-3.is) h) w.run_captured_plan.ensures)
+      | in-None-cert-3 w ↦ rw (w.units-is, w.cert-is, w.text-is, w.out-is, w.result-is) (tells_more (λ x h. rw (c.in-Capture.is, c.in-Some-out.is, w.in-None-cert-3.is) h) w.run_capture.ensures)
+    ]
+
+pub returns-in-Some-cert-4 : goal.returns-in-Some-cert-4
+returns-in-Some-cert-4 g c = tells_more (λ w h. rw (c.in-Capture.is, c.in-None-out.is, c.in-Some-cert-4.is) h) c.run_planned-in-Some-cert-4.ensures
