@@ -37,13 +37,13 @@ out-next seats s k kept one l =
     let b = address-output seats s one.0 k one.1 one.2 kept.rising l in
     omega (arith, a, b)
 
-in-next : (seats : List Seat) (s : Seat) (k : ℕ) → AreKept seats → IsOne seats s → k ≤ s.in_bytes → address_of seats (process_byte s inputs k) ≡ address_of seats (process_byte s inputs 0) + k
+pub in-next : (seats : List Seat) (s : Seat) (k : ℕ) → AreKept seats → IsOne seats s → k ≤ s.in_bytes → address_of seats (process_byte s inputs k) ≡ address_of seats (process_byte s inputs 0) + k
 in-next seats s k kept one l =
     let a = address-input seats s one.0 0 one.1 one.2 kept.rising (omega arith) in
     let b = address-input seats s one.0 k one.1 one.2 kept.rising l in
     omega (arith, a, b)
 
-spots-before : (x y : Seat) (us vs : List ℕ) → is_before (spot x) (spot y) ≡ true → is_before (spot x ++ us) (spot y ++ vs) ≡ true
+pub spots-before : (x y : Seat) (us vs : List ℕ) → is_before (spot x) (spot y) ≡ true → is_before (spot x ++ us) (spot y ++ vs) ≡ true
 spots-before x y us vs h = before-apart (spot x) (spot y) us vs refl (before_apart (spot x) (spot y) h) ∙ h
 
 -- an output isn't among the inputs of any slave

@@ -13,3 +13,4 @@ pub mod TickLemmas
 pub mod PlayLemmas
 pub mod PlayLaw
 pub mod DataLemmas
+pub mod ServedLemmas

@@ -1,29 +1,65 @@
 -- A play through modelled slaves.
-use Rattle.std.proofs.Common.{◌≡◌, inl, inr, ℕ, ◌<◌, List, Err, length, sym, ◌∙◌, All}
+use Rattle.std.proofs.Common.{◌≡◌, inl, inr, ℕ, ◌<◌, ◌||◌, false, List, [], Err, length, map, get_or, sym, ◌∙◌, subst, All}
 use Rattle.std.specs.List.{range_with_len}
+use Rattle.std.proofs.lemmas.Bool.{or_left}
 use Rattle.std.proofs.lemmas.Option.{none-some}
+use Rattle.ec_units.specs.declared.slave.Place.{Place}
 use Rattle.ec_units.specs.declared.units.Units.{Units}
 use Rattle.ec_units.specs.Together.{stations_of}
+use Rattle.ec_units.specs.Views.{unit_view}
 use Rattle.ec_fmmu.specs.declared.mapping.Mapping.{Mapping}
+use Rattle.ec_fmmu.specs.Seats.{seats_of}
 use Rattle.ec_slave.specs.Step.{frame_after, memory_after}
-use Rattle.ec_player.specs.Frames.{HasLayout}
+use Rattle.ec_player.specs.Frames.{HasLayout, IsLayoutFor}
 use Rattle.ec_play.specs.declared.faults.PlayFault.{PlayFault}
 use Rattle.ec_play.specs.Sent.{start_sents, ticks_sents, all_sents}
-use Rattle.ec_play.specs.Lines.{AreRight, IsMemory}
+use Rattle.ec_play.specs.Lines.{slaves_after, AreRight, IsMemory}
 use Rattle.ec_play.specs.Plays.{IsAnswer}
 use Rattle.ec_replies.specs.Started.{AreMemories, started}
-use Rattle.ec_replies.proofs.RunLemmas.{runs-append}
+use Rattle.ec_replies.specs.Ready.{AreReady}
+use Rattle.ec_replies.specs.Arrivals.{HoldsOutputs, OutputsArrived}
+use Rattle.ec_replies.proofs.RunLemmas.{Runs, runs-append}
 use Rattle.ec_replies.proofs.StartLaw.{start-runs}
-use Rattle.ec_replies.proofs.PlayLemmas.{IsSet, ticks-pass, ready-in}
+use Rattle.ec_replies.proofs.DataLemmas.{AreServed, served-weaker}
+use Rattle.ec_replies.proofs.PlayLemmas.{IsSet, ticks-pass, ready-in, seats_in, serves}
+use Rattle.ec_replies.proofs.ServedLemmas.{served-ticks, served-none, served-at}
+
+-- all frames of a play
+record Played (us : Units) (ps : List Place) (m : Mapping) (image : List ℕ) (n : ℕ) (slaves : List (List ℕ)) : Type 0 where
+  after : List (List ℕ)
+  runs : Runs slaves (all_sents us m image n) after
+  ready : AreReady (seats_in us ps) (seats_in us ps) after
+  served : AreServed (seats_in us ps) image (serves us m (range_with_len 0 n)) (seats_in us ps) after
+
+all-runs : (us : Units) (ps : List Place) (m : Mapping) (image : List ℕ) (n : ℕ) (slaves : List (List ℕ)) → IsLayoutFor us ps m → length image ≡ m.total → AreMemories slaves →
+    length slaves ≡ length (stations_of us.units) → All (λ s. s < 65536) (stations_of us.units) → Played us ps m image n slaves
+all-runs us ps m image n slaves laid len whole even fit =
+    let seats = seats_in us ps in
+    let set : IsSet us ps m image = record { laid = laid; sized = len } in
+    let now = started (stations_of us.units) m.fmmus slaves in
+    let starts = start-runs us m slaves (ps, laid) whole even fit in
+    let ready = ready-in us ps m image slaves set whole even in
+    let ticks = ticks-pass us ps m image (range_with_len 0 n) now set ready in
+    record {
+      after = ticks.after;
+      runs = runs-append slaves now ticks.after (start_sents us m) (ticks_sents us m image n) starts ticks.runs;
+      ready = ticks.ready;
+      served = served-weaker seats image (λ s. serves us m (range_with_len 0 n) s || false) (serves us m (range_with_len 0 n)) seats ticks.after
+          (λ s t. or_left (serves us m (range_with_len 0 n) s) false t) (ticks.served (λ s. false) (served-none seats image seats now));
+    }
 
 pub play-runs : (us : Units) (m : Mapping) (image : List ℕ) (n : ℕ) (slaves : List (List ℕ)) → HasLayout us m → length image ≡ m.total → AreMemories slaves → length slaves ≡ length (stations_of us.units) →
     All (λ s. s < 65536) (stations_of us.units) → AreRight frame_after memory_after slaves 0 (all_sents us m image n)
-play-runs us m image n slaves laid len whole even fit =
-    let set : IsSet us laid.0 m image = record { laid = laid.1; sized = len } in
-    let starts = start-runs us m slaves laid whole even fit in
-    let ready = ready-in us laid.0 m image slaves set whole even in
-    let ticks = ticks-pass us laid.0 m image (range_with_len 0 n) (started (stations_of us.units) m.fmmus slaves) set ready in
-    (runs-append slaves (started (stations_of us.units) m.fmmus slaves) ticks.after (start_sents us m) (ticks_sents us m image n) starts ticks.runs).right 0
+play-runs us m image n slaves laid len whole even fit = (all-runs us laid.0 m image n slaves laid.1 len whole even fit).runs.right 0
+
+pub outputs-arrive : (us : Units) (ps : List Place) (m : Mapping) (image : List ℕ) (n t : ℕ) (slaves : List (List ℕ)) → IsLayoutFor us ps m → length image ≡ m.total → AreMemories slaves →
+    length slaves ≡ length (stations_of us.units) → All (λ s. s < 65536) (stations_of us.units) → t < n →
+    OutputsArrived (seats_of (map unit_view us.units) ps) image t (slaves_after frame_after memory_after slaves (all_sents us m image n))
+outputs-arrive us ps m image n t slaves laid len whole even fit less i s l goes =
+    let play = all-runs us ps m image n slaves laid len whole even fit in
+    let set : IsSet us ps m image = record { laid = laid; sized = len } in
+    subst (λ ms. HoldsOutputs (seats_in us ps) image (get_or (seats_in us ps) i s) (get_or ms i [])) (sym play.runs.left)
+    (served-at (seats_in us ps) image (serves us m (range_with_len 0 n)) (seats_in us ps) play.after i s play.served play.ready l (served-ticks us ps m image n t i s set less l goes))
 
 pub play-lacks : (us : Units) (m : Mapping) (image : List ℕ) (n : ℕ) (slaves : List (List ℕ)) (f : PlayFault) → HasLayout us m → length image ≡ m.total → AreMemories slaves → length slaves ≡ length (stations_of us.units) →
     All (λ s. s < 65536) (stations_of us.units) → IsAnswer frame_after memory_after IsMemory us m image n slaves (Err f) → IsMemory f

@@ -1,7 +1,7 @@
 -- The frames of ticks come back with the counters of their groups.
-use Rattle.std.proofs.Common.{◌≡◌, ◌≢◌, ℕ, suc, ◌+◌, ◌-◌, ◌^◌, ◌<◌, ◌≤◌, Bool, true, false, cond, List, [], ◌∷◌, ◌++◌, length, map, take, drop, filter, get_or, sum_by, refl, ap, sym, ◌∙◌, subst, arith, length-drop, All}
+use Rattle.std.proofs.Common.{◌≡◌, ◌≢◌, ℕ, suc, ◌+◌, ◌-◌, ◌^◌, ◌<◌, ◌≤◌, ◌||◌, Bool, true, false, cond, List, [], ◌∷◌, ◌++◌, length, map, take, drop, filter, get_or, sum_by, refl, ap, sym, ◌∙◌, subst, arith, length-drop, All}
 use Rattle.std.specs.Prelude.{nat_lt}
-use Rattle.std.specs.List.{flat_map, range_with_len}
+use Rattle.std.specs.List.{flat_map, range_with_len, list_any}
 use Rattle.std.proofs.lemmas.Bool.{false≢true}
 use Rattle.std.proofs.lemmas.List.{take_at, drop_at, length-take-le, length-map}
 use Rattle.std.proofs.lemmas.List.FromFn.{length-range_with_len, get_or-range_with_len, length-map-range_with_len}
@@ -48,6 +48,7 @@ use Rattle.ec_replies.proofs.StartLemmas.{length-named}
 use Rattle.ec_replies.proofs.KeptLemmas.{length-put}
 use Rattle.ec_replies.proofs.RangeLemmas.{all-ones}
 use Rattle.ec_replies.proofs.FmmuLemmas.{Fits}
+use Rattle.ec_replies.proofs.DataLemmas.{AreServed, served-weaker, served-line, sent-carries}
 use Rattle.ec_replies.proofs.TickLemmas.{is_in, gain_of, lrw, lrw-line}
 use Rattle.ec_replies.proofs.StartLaw.{pair-length}
 use Rattle.ec_replies.proofs.RunLemmas.{Runs, runs-none, runs-append, runs-first}
@@ -94,21 +95,46 @@ few-gains seats g few =
     let a = sum_by-le (gain_of g) 3 seats (λ i d l. gain-most (is_in g (get_or seats i d)) (nat_lt 0 (get_or seats i d).out_bytes) (nat_lt 0 (get_or seats i d).in_bytes)) in
     omega (arith, a, few)
 
-pub record GroupsPass (seats : List Seat) (ms : List (List ℕ)) (ds : List Entry) (counters : List ℕ) : Type 0 where
+-- one of these groups has the slave
+abbrev pub has_group : List Group → Seat → Bool
+has_group gs s = list_any (λ g. is_in g s) gs
+
+move-or : (a b c : Bool) → ((a || b) || c) ≡ true → (b || (a || c)) ≡ true
+move-or true true c h = refl
+move-or true false c h = refl
+move-or false true c h = refl
+move-or false false c h = h
+
+pub record GroupsPass (seats : List Seat) (image : List ℕ) (gs : List Group) (ms : List (List ℕ)) (ds : List Entry) (counters : List ℕ) : Type 0 where
   pub counted : map (λ d. d.counter) (journey entry_out entry_next ms ds) ≡ counters
   pub ready : AreReady seats seats (arrived entry_out entry_next ms ds)
+  pub served : (went : Seat → Bool) → AreServed seats image went seats ms → AreServed seats image (λ s. has_group gs s || went s) seats (arrived entry_out entry_next ms ds)
 
-groups-pass : (seats : List Seat) (gs : List Group) (bytes : List ℕ) (ms : List (List ℕ)) (i : ℕ) → AreKept seats → All (Fits seats) seats → All (IsGroup seats) gs → GroupsWithin (length bytes) gs → AreReady seats seats ms →
-    GroupsPass seats ms (lrws i bytes gs) (map (λ g. g.counter) gs)
-groups-pass seats [] bytes ms i kept fits groups inside ready = record { counted = refl; ready = ready }
-groups-pass seats (g ∷ gs) bytes ms i kept fits groups inside ready =
+groups-pass : (seats : List Seat) (image : List ℕ) (gs : List Group) (ms : List (List ℕ)) (i : ℕ) → AreKept seats → All (Fits seats) seats → All (IsGroup seats) gs → GroupsWithin (length image) gs →
+    AreReady seats seats ms → GroupsPass seats image gs ms (lrws i (sent (map (records_of seats) seats) image) gs) (map (λ g. g.counter) gs)
+groups-pass seats image [] ms i kept fits groups inside ready = record { counted = refl; ready = ready; served = λ went h. h }
+groups-pass seats image (g ∷ gs) ms i kept fits groups inside ready =
+    let bytes = sent (map (records_of seats) seats) image in
+    let size : length bytes ≡ length image = length-map-range_with_len (sent_byte (map (records_of seats) seats) image) 0 (length image) in
     let group = All-head (IsGroup seats) g gs groups in
-    let len = length-data bytes g (All-head (LiesIn (length bytes)) g gs inside) in
-    let here = lrw-line seats g seats ms (data_of bytes g) i 0 kept (all-ones seats) fits group ready len (few-gains seats g kept.few) in
-    let rest = groups-pass seats gs bytes (passed entry_out entry_next ms (lrw i g.start 0 (data_of bytes g))) (suc i) kept fits (All-tail (IsGroup seats) g gs groups)
-    (All-tail (LiesIn (length bytes)) g gs inside) here.ready in
+    let own = All-head (LiesIn (length image)) g gs inside in
+    let low = own.1 in
+    let high = own.2 in
+    let len = length-data bytes g (own.0, low, (let z : g.start + g.len ≤ 65536 + length bytes = omega (arith, high, size) in z)) in
+    let few = few-gains seats g kept.few in
+    let d = lrw i g.start 0 (data_of bytes g) in
+    let here = lrw-line seats g seats ms (data_of bytes g) i 0 kept (all-ones seats) fits group ready len few in
+    let rest = groups-pass seats image gs (passed entry_out entry_next ms d) (suc i) kept fits (All-tail (IsGroup seats) g gs groups) (All-tail (LiesIn (length image)) g gs inside) here.ready in
     let sum : 0 + sum_by (gain_of g) seats ≡ g.counter = omega (arith, sum-gains seats g group) in
-    record { counted = λ j. (here.counted ∙ sum) j ∷ rest.counted j; ready = rest.ready }
+    record {
+      counted = λ j. (here.counted ∙ sum) j ∷ rest.counted j;
+      ready = rest.ready;
+      served = λ went h.
+          served-weaker seats image (λ s. has_group gs s || (is_in g s || went s)) (λ s. (is_in g s || has_group gs s) || went s) seats (arrived entry_out entry_next (passed entry_out entry_next ms d) (lrws (suc i) bytes gs))
+          (λ s t. move-or (is_in g s) (has_group gs s) (went s) t)
+          (rest.served (λ s. is_in g s || went s)
+          (served-line seats image went g seats ms (data_of bytes g) i 0 kept (all-ones seats) fits group ready len few (sent-carries seats image g kept (all-ones seats) group low high) h));
+    }
 
 -- ---- frames that can be built
 
@@ -176,31 +202,47 @@ few-bytes us ps =
     omega (arith, few, e, total-sum seats)
 
 -- frames that come back right, and leave the slaves ready
-pub record Passes (seats : List Seat) (ms : List (List ℕ)) (sents : List Sent) : Type 0 where
+pub record Passes (seats : List Seat) (image : List ℕ) (serves : Seat → Bool) (ms : List (List ℕ)) (sents : List Sent) : Type 0 where
   pub after : List (List ℕ)
   pub runs : Runs ms sents after
   pub ready : AreReady seats seats after
+  pub served : (went : Seat → Bool) → AreServed seats image went seats ms → AreServed seats image (λ s. serves s || went s) seats after
 
-passes-append : (seats : List Seat) (ms : List (List ℕ)) (xs ys : List Sent) (h : Passes seats ms xs) → Passes seats h.after ys → Passes seats ms (xs ++ ys)
-passes-append seats ms xs ys h k = record { after = k.after; runs = runs-append ms h.after k.after xs ys h.runs k.runs; ready = k.ready }
+passes-append : (seats : List Seat) (image : List ℕ) (p q : Seat → Bool) (ms : List (List ℕ)) (xs ys : List Sent) (h : Passes seats image p ms xs) → Passes seats image q h.after ys →
+    Passes seats image (λ s. p s || q s) ms (xs ++ ys)
+passes-append seats image p q ms xs ys h k = record {
+  after = k.after;
+  runs = runs-append ms h.after k.after xs ys h.runs k.runs;
+  ready = k.ready;
+  served = λ went w.
+      served-weaker seats image (λ s. q s || (p s || went s)) (λ s. (p s || q s) || went s) seats k.after (λ s t. move-or (p s) (q s) (went s) t) (k.served (λ s. p s || went s) (h.served went w));
+}
 
 abbrev IsBusy : Units → Mapping → ℕ → ℕ → Type 0
 IsBusy us m t s = (s < us.slots) × (carries m.groups t s ≡ true)
 
+-- the slaves of the groups that go in one of these slots
+abbrev pub served_in : Mapping → ℕ → List ℕ → Seat → Bool
+served_in m t ss x = list_any (λ s. has_group (going m.groups t s) x) ss
+
 slots-pass : (us : Units) (ps : List Place) (m : Mapping) (image : List ℕ) (t : ℕ) (ss : List ℕ) (ms : List (List ℕ)) → IsSet us ps m image → All (IsBusy us m t) ss → AreReady (seats_in us ps) (seats_in us ps) ms →
-    Passes (seats_in us ps) ms (map (slot_sent m image t) ss)
+    Passes (seats_in us ps) image (served_in m t ss) ms (map (slot_sent m image t) ss)
 unfolding frame_of
-slots-pass us ps m image t [] ms set busy ready = record { after = ms; runs = runs-none ms; ready = ready }
+slots-pass us ps m image t [] ms set busy ready = record { after = ms; runs = runs-none ms; ready = ready; served = λ went h. h }
 slots-pass us ps m image t (s ∷ ss) ms set busy ready =
     let seats = seats_in us ps in
     let here = All-head (IsBusy us m t) s ss busy in
     let bytes = sent m.fmmus image in
+    let own = sent (map (records_of seats) seats) image in
+    let same : own ≡ bytes = ap (λ fs. sent fs image) (sym set.laid.layout.fmmus) in
     let gs = going m.groups t s in
     let groups = set.laid.layout.groups in
     let size : length bytes ≡ bytes_total seats = length-map-range_with_len (sent_byte m.fmmus image) 0 (length image) ∙ set.sized ∙ set.laid.layout.total in
     let inside : GroupsWithin (length bytes) gs = All-filter (goes t s) (LiesIn (length bytes)) m.groups (groups-within us.units ps m.groups (length bytes) groups size) in
+    let within : GroupsWithin (length image) gs = subst (λ n. GroupsWithin n gs) (length-map-range_with_len (sent_byte m.fmmus image) 0 (length image)) inside in
     let each : All (IsGroup seats) gs = All-filter (goes t s) (IsGroup seats) m.groups groups.each in
-    let pass = groups-pass seats gs bytes ms 0 (kept-in us ps) (fits-in us ps) each inside ready in
+    let pass : GroupsPass seats image gs ms (lrws 0 bytes gs) (map (λ g. g.counter) gs) =
+    subst (λ b. GroupsPass seats image gs ms (lrws 0 b gs) (map (λ g. g.counter) gs)) same (groups-pass seats image gs ms 0 (kept-in us ps) (fits-in us ps) each within ready) in
     let ds = map datagram_of gs in
     let load = flat_map (data_of bytes) gs in
     let sum = data-length bytes gs inside in
@@ -209,16 +251,24 @@ slots-pass us ps m image t (s ∷ ss) ms set busy ready =
     let top : bytes_total seats < 2 ^ 31 = few-bytes us ps in
     let wide : All (λ d. d.address < 2 ^ 32) ds = All-map (λ d. d.address < 2 ^ 32) datagram_of gs (λ i d l. let h = (inside i d l).2 in omega (arith, h, top, size)) in
     let back = back-lrws 0 bytes gs inside in
-    let rest = slots-pass us ps m image t ss (arrived entry_out entry_next ms (lrws 0 bytes gs)) set (All-tail (IsBusy us m t) s ss busy) pass.ready in
+    let now = arrived entry_out entry_next ms (lrws 0 bytes gs) in
+    let rest = slots-pass us ps m image t ss now set (All-tail (IsBusy us m t) s ss busy) pass.ready in
     record {
       after = rest.after;
-      runs = runs-first ms (arrived entry_out entry_next ms (lrws 0 bytes gs)) rest.after (slot_sent m image t s) (map (slot_sent m image t) ss) (lrws 0 bytes gs)
+      runs = runs-first ms now rest.after (slot_sent m image t s) (map (slot_sent m image t) ss) (lrws 0 bytes gs)
           (written-framed ds load sum ∙ ap framed back) (subst AreWhole back (back-whole ds load buildable wide sum)) pass.counted refl rest.runs;
       ready = rest.ready;
+      served = λ went h.
+          served-weaker seats image (λ x. served_in m t ss x || (has_group gs x || went x)) (λ x. (has_group gs x || served_in m t ss x) || went x) seats rest.after
+          (λ x t'. move-or (has_group gs x) (served_in m t ss x) (went x) t') (rest.served (λ x. has_group gs x || went x) (pass.served went h));
     }
 
+-- the slots that carry something
+abbrev pub busy_in : Units → Mapping → ℕ → List ℕ
+busy_in us m t = filter (carries m.groups t) (range_with_len 0 us.slots)
+
 tick-passes : (us : Units) (ps : List Place) (m : Mapping) (image : List ℕ) (t : ℕ) (ms : List (List ℕ)) → IsSet us ps m image → AreReady (seats_in us ps) (seats_in us ps) ms →
-    Passes (seats_in us ps) ms (tick_sents us m image t)
+    Passes (seats_in us ps) image (served_in m t (busy_in us m t)) ms (tick_sents us m image t)
 tick-passes us ps m image t ms set ready =
     let below : All (λ s. s < us.slots) (range_with_len 0 us.slots) = λ i d l.
     let n = length-range_with_len 0 us.slots in
@@ -226,14 +276,19 @@ tick-passes us ps m image t ms set ready =
     omega (arith, l, n, e) in
     let some = All-filter (carries m.groups t) (λ s. s < us.slots) (range_with_len 0 us.slots) below in
     let busy = filter_passes (carries m.groups t) (range_with_len 0 us.slots) in
-    slots-pass us ps m image t (filter (carries m.groups t) (range_with_len 0 us.slots)) ms set (λ i d l. (some i d l, busy i d l)) ready
+    slots-pass us ps m image t (busy_in us m t) ms set (λ i d l. (some i d l, busy i d l)) ready
+
+-- the slaves that a tick serves
+abbrev pub serves : Units → Mapping → List ℕ → Seat → Bool
+serves us m ts x = list_any (λ t. served_in m t (busy_in us m t) x) ts
 
 pub ticks-pass : (us : Units) (ps : List Place) (m : Mapping) (image : List ℕ) (ts : List ℕ) (ms : List (List ℕ)) → IsSet us ps m image → AreReady (seats_in us ps) (seats_in us ps) ms →
-    Passes (seats_in us ps) ms (flat_map (tick_sents us m image) ts)
-ticks-pass us ps m image [] ms set ready = record { after = ms; runs = runs-none ms; ready = ready }
+    Passes (seats_in us ps) image (serves us m ts) ms (flat_map (tick_sents us m image) ts)
+ticks-pass us ps m image [] ms set ready = record { after = ms; runs = runs-none ms; ready = ready; served = λ went h. h }
 ticks-pass us ps m image (t ∷ ts) ms set ready =
     let here = tick-passes us ps m image t ms set ready in
-    passes-append (seats_in us ps) ms (tick_sents us m image t) (flat_map (tick_sents us m image) ts) here (ticks-pass us ps m image ts here.after set here.ready)
+    passes-append (seats_in us ps) image (served_in m t (busy_in us m t)) (serves us m ts) ms (tick_sents us m image t) (flat_map (tick_sents us m image) ts) here
+    (ticks-pass us ps m image ts here.after set here.ready)
 
 -- ---- started slaves are ready
 

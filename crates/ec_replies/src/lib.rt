@@ -11,13 +11,17 @@ ghost use Rattle.ec_units.specs.declared.units.Units.{Units};
 ghost use Rattle.ec_units.specs.Together.{stations_of};
 ghost use Rattle.ec_fmmu.specs.declared.mapping.Mapping.{Mapping};
 ghost use Rattle.ec_slave.specs.Step.{memory_after, frame_after};
-ghost use Rattle.ec_player.specs.Frames.{HasLayout};
+ghost use Rattle.ec_units.specs.declared.slave.Place.{Place};
+ghost use Rattle.ec_units.specs.Views.{unit_view};
+ghost use Rattle.ec_fmmu.specs.Seats.{seats_of};
+ghost use Rattle.ec_player.specs.Frames.{HasLayout, IsLayoutFor};
 ghost use Rattle.ec_play.specs.Sent.{Sent, start_sents, all_sents};
 ghost use Rattle.ec_play.specs.Faults.{entries_of, is_reply_of, first_wrong, counter_fault, fault_of};
 ghost use Rattle.ec_play.specs.Lines.{slaves_after, AreRight, IsMemory};
 ghost use Rattle.ec_play.specs.Plays.{IsAnswer};
 ghost use Rattle.ec_replies.specs.Meanings.{IsReply};
 ghost use Rattle.ec_replies.specs.Started.{AreMemories, started};
+ghost use Rattle.ec_replies.specs.Arrivals.{OutputsArrived};
 ghost use Rattle.ec_replies.specs.Counters.{IsFirstWrong, AreAlike};
 
 /// A frame that comes back is judged by what it is read as, then as a reply, then by its working counters (own profile, after
@@ -60,4 +64,13 @@ pub fn play_is_right()
     ensures lacks { (us : Units) (m : Mapping) (image : List ℕ) (n : ℕ) (slaves : List (List ℕ)) (f : PlayFault) → HasLayout us m → length image ≡ m.total → AreMemories slaves →
         length slaves ≡ length (stations_of us.units) → All (λ s. s < 65536) (stations_of us.units) →
         IsAnswer frame_after memory_after IsMemory us m image n slaves (Err f) → IsMemory f }
+{}
+
+/// After a play through modelled slaves each output of the units that travelled stands in the memory of its slave: at the address of
+/// the FMMU's area, the byte that the image has at its logical address (own profile, after ETG.1000.4, clause 6.6). A station has 16
+/// bits.
+pub fn outputs_arrive()
+    ensures { (us : Units) (ps : List Place) (m : Mapping) (image : List ℕ) (n t : ℕ) (slaves : List (List ℕ)) → IsLayoutFor us ps m → length image ≡ m.total → AreMemories slaves →
+        length slaves ≡ length (stations_of us.units) → All (λ s. s < 65536) (stations_of us.units) → t < n →
+        OutputsArrived (seats_of (map unit_view us.units) ps) image t (slaves_after frame_after memory_after slaves (all_sents us m image n)) }
 {}
