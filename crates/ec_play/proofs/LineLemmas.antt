@@ -8,7 +8,7 @@ use Rattle.ec_play.specs.Sent.{Sent}
 use Rattle.ec_play.specs.Faults.{fault_of, first_fault}
 use Rattle.ec_play.specs.Lines.{bytes_of, came_back, slaves_after, AreRight}
 
-journey-append : {S F : Type 0} (out : S → F → F) (next : S → F → S) (ss : List S) (xs ys : List F) → journey out next ss (xs ++ ys) ≡ journey out next ss xs ++ journey out next (arrived out next ss xs) ys
+pub journey-append : {S F : Type 0} (out : S → F → F) (next : S → F → S) (ss : List S) (xs ys : List F) → journey out next ss (xs ++ ys) ≡ journey out next ss xs ++ journey out next (arrived out next ss xs) ys
 journey-append out next ss [] ys = refl
 journey-append out next ss (x ∷ xs) ys = ap (λ w. through out next ss x ∷ w) (journey-append out next (passed out next ss x) xs ys)
 
@@ -40,7 +40,7 @@ module _ {X : Type 0} (out : X → List ℕ → List ℕ) (next : X → List ℕ
   pub after-append : (slaves : List X) (xs ys : List Sent) → slaves_after out next slaves (xs ++ ys) ≡ slaves_after out next (slaves_after out next slaves xs) ys
   after-append slaves xs ys = ap (arrived out next slaves) (map-append (λ s. s.bytes) xs ys) ∙ arrived-append out next slaves (bytes_of xs) (bytes_of ys)
 
-  length-came : (slaves : List X) (xs : List Sent) → length (came_back out next slaves xs) ≡ length xs
+  pub length-came : (slaves : List X) (xs : List Sent) → length (came_back out next slaves xs) ≡ length xs
   length-came slaves xs = length-journey out next slaves (bytes_of xs) ∙ length-map xs (λ (s : Sent). s.bytes)
 
   -- the first fault of both is that of the first ones, or else that of the others

@@ -56,8 +56,9 @@ fn bring_frame(came: &mut [u8], frame: &Frame)
     }
 }
 
-/// Puts what came with frames at its logical addresses.
-pub(crate) fn bring(came: &mut [u8], frames: &[Frame])
+/// Puts what came with frames at its logical addresses, of which the first, 0x00010000, is that of byte 0 of `came`. What lies
+/// outside of it is left out.
+pub fn bring(came: &mut [u8], frames: &[Frame])
     ensures len { length came.new ≡ length came.old }
     ensures bytes { (k : ℕ) → k < length came.old → get_or came.new k 0
         ≡ unwrap_or (last_byte (65536 + k) (all_entries (map (λ frame. frame.items) frames.now))) (get_or came.old k 0) }
@@ -103,7 +104,11 @@ fn copy_pair(image: &mut [u8], came: &[u8], pair: &[Fmmu])
 }
 
 /// The image with the inputs that came, of which `came` has the bytes at their places.
-pub(crate) fn image_of(
+///
+/// # Errors
+///
+/// `AllocError` where memory ran out.
+pub fn image_of(
     alloc: Global,
     fmmus: &[[Fmmu; 2]],
     image: &[u8],

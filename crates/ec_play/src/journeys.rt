@@ -25,8 +25,8 @@ fn pass_all<X: Pass>(slaves: &mut [X], frame: &Frame) -> Frame
     back
 }
 
-/// What is wrong with a frame that came back, if anything is.
-fn judge_trip(trip: &Trip, number: u32, back: &Frame) -> Option<PlayFault>
+/// What is wrong with a frame that came back, if anything is; `number` is its own, from 0 on in the order in which frames are sent.
+pub fn judge_trip(trip: &Trip, number: u32, back: &Frame) -> Option<PlayFault>
     ensures { result ≡ fault_of number (sent_in trip.now) back.now.items }
 {
     judge(

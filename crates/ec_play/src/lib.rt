@@ -11,5 +11,8 @@ mod rows;
 mod trips;
 
 pub use faults::{PlayFault, Stage, Wrong};
-pub use playing::{Played, play_plain};
+pub use images::{bring, image_of};
+pub use journeys::judge_trip;
+pub use playing::{Played, play_plain, row_of};
 pub use rows::{Counters, Rows, TickRow};
+pub use trips::{Trip, copy_of, start_trips, tick_trips};

@@ -83,7 +83,11 @@ fn wire_bytes(trips: &[Trip]) -> u64
 }
 
 /// What is told of a tick, of which these frames were sent and came back.
-fn row_of(alloc: Global, trips: &[Trip], backs: &[Frame]) -> Result<TickRow, AllocError>
+///
+/// # Errors
+///
+/// `AllocError` where memory ran out.
+pub fn row_of(alloc: Global, trips: &[Trip], backs: &[Frame]) -> Result<TickRow, AllocError>
     requires { length trips.now ≤ 8 }
     ensures { IfOk result (λ row. row ≡ row_in (map sent_in trips.now) (map (λ frame. frame.items) backs.now)) }
 {

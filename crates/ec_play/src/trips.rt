@@ -17,16 +17,16 @@ use ec_player::{busy_slots, start_frames, tick_frames};
 use ec_units::Units;
 use std::alloc::{AllocError, Global};
 
-/// A frame with what is to come back of it.
+/// A frame, when it is sent, and the working counters with which its datagrams are to come back.
 #[derive(Drop)]
-pub(crate) struct Trip {
-    pub(crate) stage: Stage,
-    pub(crate) frame: Frame,
-    pub(crate) wants: Counters,
+pub struct Trip {
+    pub stage: Stage,
+    pub frame: Frame,
+    pub wants: Counters,
 }
 
 /// A frame with the same bytes.
-pub(crate) fn copy_of(frame: &Frame) -> Frame
+pub fn copy_of(frame: &Frame) -> Frame
     ensures { result.items ≡ frame.now.items }
 {
     let mut copy = Frame::new();
@@ -77,12 +77,12 @@ fn start_trip(alloc: Global, frame: &Frame, i: usize, slaves: u16) -> Result<Tri
     })
 }
 
-/// The start frames.
-pub(crate) fn start_trips(
-    alloc: Global,
-    units: &Units,
-    mapping: &Mapping,
-) -> Result<Vec<Trip>, AllocError>
+/// The start frames, with their working counters.
+///
+/// # Errors
+///
+/// `AllocError` where memory ran out.
+pub fn start_trips(alloc: Global, units: &Units, mapping: &Mapping) -> Result<Vec<Trip>, AllocError>
     requires { HasLayout units.now mapping.now }
     ensures sents { IfOk result (λ v. map sent_in v.items ≡ start_sents units.now mapping.now) }
     ensures few { IfOk result (λ v. length v.items ≤ 769) }
@@ -144,8 +144,12 @@ fn trips_of_slots(
     Ok(trips)
 }
 
-/// The frames of a tick, by slot.
-pub(crate) fn tick_trips(
+/// The frames of a tick, by slot, with their working counters.
+///
+/// # Errors
+///
+/// `AllocError` where memory ran out.
+pub fn tick_trips(
     alloc: Global,
     units: &Units,
     mapping: &Mapping,

@@ -1,0 +1,134 @@
+-- One tick more through a line of threads.
+use Rattle.std.specs.Prelude.{nat_lt, if◌then◌else◌}
+use Rattle.std.proofs.Common.{◌≡◌, ℕ, ◌+◌, ◌<◌, Bool, true, false, List, [], ◌∷◌, ◌++◌, Some, None, length, length-append, map, get_or, unwrap_or, refl, sym, ap, ◌∙◌, subst, arith, append_assoc, append-nil}
+use Rattle.std.proofs.lemmas.List.{map-append}
+use Rattle.std.proofs.lemmas.Bool.Decides.{nat_tests}
+use Rattle.ec_units.specs.declared.units.Units.{Units}
+use Rattle.ec_fmmu.specs.declared.mapping.Mapping.{Mapping}
+use Rattle.ec_slave.specs.Journey.{journey, arrived}
+use Rattle.ec_play.specs.declared.faults.PlayFault.{PlayFault}
+use Rattle.ec_play.specs.declared.rows.TickRow.{TickRow}
+use Rattle.ec_play.specs.Sent.{Sent, start_sents, tick_sents, ticks_sents, all_sents}
+use Rattle.ec_play.specs.Faults.{first_fault}
+use Rattle.ec_play.specs.Images.{last_byte, all_entries}
+use Rattle.ec_play.specs.Lines.{bytes_of, came_back, slaves_after, AreRight}
+use Rattle.ec_play.specs.Rows.{row_of}
+use Rattle.ec_play.proofs.LineLemmas.{journey-append, came-append, after-append, length-came, fault-first, fault-later}
+use Rattle.ec_play.proofs.TickLemmas.{ticks-more, right-more, row-more, bytes-more, fault-more}
+use Rattle.ec_play_threads.specs.Frames.{IsFront}
+use Rattle.ec_play_threads.specs.Rounds.{due_sents, IsRound, IsStopped, ArePlayed, IsFirstFault}
+use Rattle.ec_play_threads.proofs.FrontLemmas.{parts_same, fault-front, fault-rest}
+
+-- what is due in a tick that is played
+pub due-now : (us : Units) (m : Mapping) (image : List ℕ) (n t : ℕ) → t < n → due_sents us m image n t ≡ tick_sents us m image t
+due-now us m image n t l = let now : nat_lt t n ≡ true = grind (arith, nat_tests) in ap (λ (b : Bool). if b then tick_sents us m image t else []) now
+
+-- after the last tick nothing is due
+due-none : (us : Units) (m : Mapping) (image : List ℕ) (n : ℕ) → due_sents us m image n n ≡ []
+due-none us m image n = let past : nat_lt n n ≡ false = grind (arith, nat_tests) in ap (λ (b : Bool). if b then tick_sents us m image n else []) past
+
+pub went-all : (us : Units) (m : Mapping) (image : List ℕ) (n t : ℕ) (sent : List (List ℕ)) → t ≡ n →
+    sent ≡ bytes_of ((start_sents us m ++ ticks_sents us m image t) ++ due_sents us m image n t) → sent ≡ bytes_of (all_sents us m image n)
+went-all us m image n t sent e h =
+    h ∙ (λ i. bytes_of ((start_sents us m ++ ticks_sents us m image (e i)) ++ due_sents us m image n (e i)))
+    ∙ ap (λ w. bytes_of (all_sents us m image n ++ w)) (due-none us m image n) ∙ ap bytes_of (append-nil (all_sents us m image n))
+
+pub many-all : (us : Units) (m : Mapping) (image : List ℕ) (n t k : ℕ) → t ≡ n → k ≡ length (start_sents us m) + length (ticks_sents us m image t) → k ≡ length (all_sents us m image n)
+many-all us m image n t k e h = h ∙ sym (length-append (start_sents us m) (ticks_sents us m image t)) ∙ ap (λ w. length (all_sents us m image w)) e
+
+-- the bytes of some frames and of others
+pub bytes-append : (xs ys : List Sent) → bytes_of (xs ++ ys) ≡ bytes_of xs ++ bytes_of ys
+bytes-append xs ys = map-append (λ s. s.bytes) xs ys
+
+-- what went before tick t + 1, and what is due in it
+pub went-more : (us : Units) (m : Mapping) (image : List ℕ) (starts : List Sent) (n t : ℕ) (old new more : List (List ℕ)) → t < n →
+    old ≡ bytes_of ((starts ++ ticks_sents us m image t) ++ due_sents us m image n t) → new ≡ old ++ more → more ≡ bytes_of (due_sents us m image n (t + 1)) →
+    new ≡ bytes_of ((starts ++ ticks_sents us m image (t + 1)) ++ due_sents us m image n (t + 1))
+went-more us m image starts n t old new more l e h k =
+    let ticks = ticks_sents us m image t in
+    let due = due_sents us m image n (t + 1) in
+    let all : (starts ++ ticks) ++ due_sents us m image n t ≡ starts ++ ticks_sents us m image (t + 1) =
+    ap (λ w. (starts ++ ticks) ++ w) (due-now us m image n t l) ∙ append_assoc starts ticks (tick_sents us m image t) ∙ ap (λ w. starts ++ w) (sym (ticks-more us m image t)) in
+    h ∙ (λ i. (e ∙ ap bytes_of all) i ++ k i) ∙ sym (bytes-append (starts ++ ticks_sents us m image (t + 1)) due)
+
+module _ {X : Type 0} (out : X → List ℕ → List ℕ) (next : X → List ℕ → X) where
+  -- frames that came back behind others
+  came-parts : (slaves : List X) (before due : List Sent) (old backs : List (List ℕ)) → length old ≡ length before → old ++ backs ≡ came_back out next slaves (before ++ due) →
+      (old ≡ came_back out next slaves before) × (backs ≡ came_back out next (slaves_after out next slaves before) due)
+  came-parts slaves before due old backs l e =
+      parts_same old backs (came_back out next slaves before) (came_back out next (slaves_after out next slaves before) due)
+      (l ∙ sym (length-came out next slaves before)) (e ∙ came-append out next slaves before due)
+
+  -- a faulty one among them
+  pub stopped : (slaves : List X) (before due : List Sent) (more old backs rest : List (List ℕ)) (n : ℕ) (f : PlayFault) → length old ≡ length before →
+      (old ++ backs) ++ rest ≡ journey out next slaves (bytes_of (before ++ due) ++ more) → first_fault n due backs ≡ Some f →
+      (old ≡ came_back out next slaves before) × (first_fault n due (came_back out next (slaves_after out next slaves before) due) ≡ Some f)
+  stopped slaves before due more old backs rest n f l e h =
+      let now = slaves_after out next slaves before in
+      let own = came_back out next now due in
+      let later = journey out next (arrived out next slaves (bytes_of (before ++ due))) more in
+      let whole : old ++ (backs ++ rest) ≡ came_back out next slaves before ++ (own ++ later) =
+      sym (append_assoc old backs rest) ∙ e ∙ journey-append out next slaves (bytes_of (before ++ due)) more
+      ∙ ap (λ w. w ++ later) (came-append out next slaves before due) ∙ append_assoc (came_back out next slaves before) own later in
+      let parts = parts_same old (backs ++ rest) (came_back out next slaves before) (own ++ later) (l ∙ sym (length-came out next slaves before)) whole in
+      (parts.0, sym (fault-rest n due own later (length-came out next now due)) ∙ ap (first_fault n due) (sym parts.1) ∙ fault-front n due backs rest f h)
+
+  pub played-more : (us : Units) (m : Mapping) (image : List ℕ) (slaves : List X) (n t : ℕ) (rows : List TickRow) (row : TickRow) (old new : List (List ℕ)) (before after : List ℕ) →
+      n ≡ length (start_sents us m) + length (ticks_sents us m image t) → length old ≡ n → length before ≡ length image →
+      (old ≡ came_back out next slaves (start_sents us m ++ ticks_sents us m image t) → ArePlayed out next us m image slaves t rows before) →
+      IsRound n (tick_sents us m image t) old new before after row →
+      new ≡ came_back out next slaves (start_sents us m ++ ticks_sents us m image (t + 1)) → ArePlayed out next us m image slaves (t + 1) (rows ++ row ∷ []) after
+  played-more us m image slaves n t rows row old new before after e len same h r k =
+      let starts = start_sents us m in
+      let first = slaves_after out next slaves starts in
+      let ticks = ticks_sents us m image t in
+      let own = tick_sents us m image t in
+      let now = slaves_after out next first ticks in
+      let split : starts ++ ticks_sents us m image (t + 1) ≡ (starts ++ ticks) ++ own = ap (λ w. starts ++ w) (ticks-more us m image t) ∙ sym (append_assoc starts ticks own) in
+      let many : length old ≡ length (starts ++ ticks) = omega (arith, e, len, length-append starts ticks) in
+      let parts = came-parts slaves (starts ++ ticks) own old r.backs many (sym r.came ∙ k ∙ ap (came_back out next slaves) split) in
+      let backs : r.backs ≡ came_back out next now own = parts.1 ∙ ap (λ w. came_back out next w own) (after-append out next slaves starts ticks) in
+      let was = h parts.0 in
+      record {
+        begun = was.begun;
+        right = right-more out next us m image first now (length starts) n t refl e was.right (ap (first_fault n own) (sym backs) ∙ r.right);
+        told = row-more out next us m image first now rows row t refl was.told (r.told ∙ ap (row_of own) backs);
+        came = λ k l.
+            bytes-more out next us m image first now (65536 + k) (get_or before k 0) (get_or after k 0) t refl (was.came k l)
+            (r.bytes k (subst (λ w. k < w) (sym same) l) ∙ ap (λ w. unwrap_or (last_byte (65536 + k) (all_entries w)) (get_or before k 0)) backs);
+      }
+
+  pub tick-stopped : (us : Units) (m : Mapping) (image : List ℕ) (slaves : List X) (n t last : ℕ) (rows : List TickRow) (sent_old sent_new old new : List (List ℕ)) (before : List ℕ) (f : PlayFault) →
+      n ≡ length (start_sents us m) + length (ticks_sents us m image t) → length old ≡ n → t < last →
+      sent_old ≡ bytes_of ((start_sents us m ++ ticks_sents us m image t) ++ due_sents us m image last t) →
+      (old ≡ came_back out next slaves (start_sents us m ++ ticks_sents us m image t) → ArePlayed out next us m image slaves t rows before) →
+      IsStopped n (due_sents us m image last t) sent_old sent_new old new f →
+      IsFront new (journey out next slaves sent_new) → IsFirstFault out next us m image last slaves f
+  tick-stopped us m image slaves n t last rows sent_old sent_new old new before f e len l went h r front =
+      let starts = start_sents us m in
+      let first = slaves_after out next slaves starts in
+      let ticks = ticks_sents us m image t in
+      let own = tick_sents us m image t in
+      let due = due-now us m image last t l in
+      let now = slaves_after out next first ticks in
+      let many : length old ≡ length (starts ++ ticks) = omega (arith, e, len, length-append starts ticks) in
+      let sent : sent_new ≡ bytes_of ((starts ++ ticks) ++ own) ++ r.more = r.went ∙ ap (λ w. w ++ r.more) (went ∙ ap (λ w. bytes_of ((starts ++ ticks) ++ w)) due) in
+      let at = stopped slaves (starts ++ ticks) own r.more old r.backs front.0 n f many
+      (ap (λ w. w ++ front.0) (sym r.came) ∙ front.1 ∙ ap (journey out next slaves) sent) (ap (λ w. first_fault n w r.backs) (sym due) ∙ r.fault) in
+      let was = h at.0 in
+      let here = sym (ap (λ w. first_fault n own (came_back out next w own)) (after-append out next slaves starts ticks)) ∙ at.1 in
+      let zero-more : length starts ≡ 0 + length starts = omega arith in
+      fault-later out next slaves 0 starts (ticks_sents us m image last) f was.begun
+      (ap (λ w. first_fault w (ticks_sents us m image last) (came_back out next first (ticks_sents us m image last))) (sym zero-more)
+      ∙ fault-more out next us m image first now (length starts) n t last f refl e was.right l here)
+
+  -- a faulty one among the start frames
+  pub start-stopped : (us : Units) (m : Mapping) (image : List ℕ) (slaves : List X) (last : ℕ) (sent_old sent_new old new : List (List ℕ)) (f : PlayFault) →
+      old ≡ [] → sent_old ≡ bytes_of (start_sents us m) → IsStopped 0 (start_sents us m) sent_old sent_new old new f →
+      IsFront new (journey out next slaves sent_new) → IsFirstFault out next us m image last slaves f
+  start-stopped us m image slaves last sent_old sent_new old new f none went r front =
+      let starts = start_sents us m in
+      let sent : sent_new ≡ bytes_of starts ++ r.more = r.went ∙ ap (λ w. w ++ r.more) went in
+      let at = stopped slaves [] starts r.more [] r.backs front.0 0 f refl
+      (ap (λ w. w ++ front.0) (ap (λ w. w ++ r.backs) (sym none) ∙ sym r.came) ∙ front.1 ∙ ap (journey out next slaves) sent) r.fault in
+      fault-first out next slaves 0 starts (ticks_sents us m image last) f at.1

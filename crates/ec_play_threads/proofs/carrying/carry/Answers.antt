@@ -1,0 +1,31 @@
+use Rattle.std.proofs.Common.{rules, ℕ, List, ◌≡◌, ◌∙◌, ◌++◌, ◌∷◌, [], ap, sym}
+use Rattle.rtrb.specs.Ring.{sent, received}
+use Rattle.ec_slave.specs.Journey.{outs, final}
+use Rattle.arrayvec.specs.ArrayVec.{ArrayVec}
+use Rattle.ec_play_threads.specs.Frames.{bytes_in}
+use Rattle.ec_play_threads.proofs.LinkLemmas.{map-push}
+use Rattle.ec_play_threads.proofs.PassLemmas.{outs-push, final-push}
+use Rattle.ec_play_threads.proofs.carrying.carry.Goals as goal
+
+pub loop-preserved-in-Ok : goal.loop-preserved-in-Ok
+loop-preserved-in-Ok g c =
+    let i = c.loop.invariant in
+    let out = g.X.Pass.out in
+    let next = g.X.Pass.next in
+    let s = c.args.slave in
+    let was = received c.loop.taken in
+    let x = c.in-Ok.frame in
+    let items : ArrayVec ℕ → List ℕ = λ f. f.items in
+    let more : bytes_in (received c.pop.new.self) ≡ bytes_in was ++ x.items ∷ [] =
+    ap bytes_in (c.in-Ok.ensures.ok.0 ∙ ap (λ l. l ++ x ∷ []) c.is_abandoned-gone.ensures.1) ∙ map-push items was x in
+    let put : bytes_in (sent c.put_waiting.new.producer) ≡ bytes_in (sent c.loop.put) ++ c.pass.new.frame.items ∷ [] =
+    ap bytes_in c.put_waiting.ensures.sent ∙ map-push items (sent c.loop.put) c.pass.new.frame in
+    let o = outs-push out next s (bytes_in was) x.items in
+    let f = final-push out next s (bytes_in was) x.items in
+    let frame = c.pass.ensures.frame in
+    let state = c.pass.ensures.state in (
+      search rules,
+      search rules,
+      state ∙ ap (λ z. next z x.items) i.2 ∙ sym f ∙ ap (λ l. final out next s l) (sym more),
+      put ∙ ap (λ l. l ++ c.pass.new.frame.items ∷ []) i.3 ∙ ap (λ y. outs out next s (bytes_in was) ++ y ∷ []) (frame ∙ ap (λ z. out z x.items) i.2) ∙ sym o ∙ ap (λ l. outs out next s l) (sym more),
+    )

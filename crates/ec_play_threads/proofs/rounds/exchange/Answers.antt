@@ -1,0 +1,21 @@
+use Rattle.std.proofs.Common.{◌++◌, length, map, refl, sym, ap, ◌∙◌, arith, append-nil}
+use Rattle.rtrb.specs.Ring.{sent, received}
+use Rattle.ec_play.specs.Faults.{first_fault}
+use Rattle.ec_play.specs.Trips.{sent_in}
+use Rattle.ec_play_threads.specs.Frames.{bytes_in}
+use Rattle.ec_play_threads.proofs.FrontLemmas.{none_yet}
+use Rattle.ec_play_threads.proofs.rounds.exchange.Goals as goal
+
+pub loop-init : goal.loop-init
+loop-init g c =
+    let none = c.in-Ok.ensures.items in
+    record {
+      first = ((refl, refl, refl, refl), refl);
+      last = ((refl, refl, refl, refl), refl);
+      some = omega arith;
+      went = sym (append-nil (bytes_in (sent c.args.first.now)));
+      came = sym (append-nil (received c.args.last.now)) ∙ ap (λ w. received c.args.last.now ++ w) (sym none);
+      few = omega (arith, ap length none);
+      room = c.in-Ok.ensures.exact;
+      right = ap (λ w. first_fault c.args.from (map sent_in c.args.due.now) (bytes_in w)) none ∙ none_yet sent_in c.args.from c.args.due.now;
+    }

@@ -1,0 +1,18 @@
+-- Frames in rings.
+use Rattle.std.specs.Prelude.{◌≡◌, ℕ, List, ◌++◌, map}
+use Rattle.arrayvec.specs.ArrayVec.{ArrayVec}
+use Rattle.std.specs.declared.alloc.Global.{Global}
+use Rattle.rtrb.specs.declared.end.End.{End}
+use Rattle.rtrb.specs.declared.AnyItems.{AnyItems}
+
+-- an end of a ring of frames
+abbrev pub Link : Type 0
+Link = End (ArrayVec ℕ) Global AnyItems
+
+-- the bytes of frames
+abbrev pub bytes_in : List (ArrayVec ℕ) → List (List ℕ)
+bytes_in frames = map (λ f. f.items) frames
+
+-- these frames are the first of those
+abbrev pub IsFront : List (List ℕ) → List (List ℕ) → Type 0
+IsFront xs ys = (rest : List (List ℕ)) × (xs ++ rest ≡ ys)

@@ -1,0 +1,4 @@
+pub mod Frames
+pub mod Threads
+pub mod Rounds
+pub mod Plays

@@ -1,0 +1,175 @@
+//! The ticks of a play, and the start frames before them.
+
+ghost use Rattle.std.specs.Prelude.{◌≡◌, ◌⊎◌, ℕ, ◌+◌, ◌<◌, ◌≤◌, List, [], ◌++◌, length, map, replicate, IfOk, OnOk, IfErr};
+ghost use Rattle.rtrb.specs.Ring.{sent as sent_by, received, SameProducer, SameConsumer};
+ghost use Rattle.ec_player.specs.Frames.{HasLayout};
+ghost use Rattle.ec_slave.specs.Journey.{journey};
+ghost use Rattle.ec_play.specs.Sent.{start_sents, all_sents};
+ghost use Rattle.ec_play.specs.Lines.{bytes_of, came_back, AreRight, IsMemory};
+ghost use Rattle.ec_play.specs.Trips.{sent_in};
+ghost use Rattle.ec_play_threads.specs.Frames.{bytes_in, IsFront};
+ghost use Rattle.ec_play_threads.specs.Rounds.{due_sents, ArePlayed, IsLinePlayed, IsFirstFault};
+
+use crate::rounds::{exchange, play_tick, send_all};
+use ec_fmmu::Mapping;
+use ec_frames::Frame;
+use ec_play::{PlayFault, Rows, TickRow, Trip, image_of, start_trips, tick_trips};
+use ec_slave::Pass;
+use ec_units::Units;
+use rtrb::{Consumer, Producer};
+use std::alloc::{AllocError, Global};
+use std::sync::Wait;
+
+/// The frames of a tick, by slot, if it is below `ticks`.
+fn due_trips(
+    alloc: Global,
+    units: &Units,
+    mapping: &Mapping,
+    image: &[u8],
+    tick: u32,
+    ticks: u32,
+) -> Result<Vec<Trip>, AllocError>
+    requires layout { HasLayout units.now mapping.now }
+    requires image { length image.now ≡ mapping.now.total }
+    ensures sents { IfOk result (λ v. map sent_in v.items ≡ due_sents units.now mapping.now image.now ticks tick) }
+    ensures few { IfOk result (λ v. length v.items ≤ 8) }
+{
+    if tick < ticks {
+        tick_trips(alloc, units, mapping, image, tick)
+    } else {
+        Ok(Vec::new(alloc))
+    }
+}
+
+/// As many zeros.
+fn zeros(alloc: Global, count: usize) -> Result<Vec<u8>, AllocError>
+    ensures { IfOk result (λ v. v.items ≡ replicate count 0) }
+{
+    Vec::from_elem(alloc, 0u8, count)
+}
+
+/// What is known of ticks that were played: what is told of each, and for each byte of the image what came last.
+#[derive(Drop)]
+struct Ticks {
+    rows: Vec<TickRow>,
+    came: Vec<u8>,
+}
+
+/// Plays the ticks below `ticks`. The start frames came back, of which there are `start`, and `due` are the frames of tick 0, which
+/// are under way.
+fn play_ticks<X: Pass, R: Wait>(
+    rt: &R,
+    alloc: Global,
+    first: &mut Producer<Frame>,
+    last: &mut Consumer<Frame>,
+    units: &Units,
+    mapping: &Mapping,
+    image: &[u8],
+    ticks: u32,
+    due: Vec<Trip>,
+    start: u32,
+) -> Result<Ticks, PlayFault>
+    requires layout { HasLayout units.now mapping.now }
+    requires image { length image.now ≡ mapping.now.total }
+    requires few { (ticks ≤ 65536) × (length due.items ≤ 8) }
+    requires start { (start ≤ 769) × (start ≡ length (start_sents units.now mapping.now)) }
+    requires due { map sent_in due.items ≡ due_sents units.now mapping.now image.now ticks 0 }
+    requires went { bytes_in (sent_by first.old) ≡ bytes_of (start_sents units.now mapping.now) ++ bytes_of (due_sents units.now mapping.now image.now ticks 0) }
+    requires came { length (received last.old) ≡ start }
+    requires begun { (slaves : List X) → bytes_in (received last.old) ≡ came_back X.out X.next slaves (start_sents units.now mapping.now) → AreRight X.out X.next slaves 0 (start_sents units.now mapping.now) }
+    ensures rings { SameProducer first.old first.new × SameConsumer last.old last.new }
+    ensures went { OnOk result (bytes_in (sent_by first.new) ≡ bytes_of (all_sents units.now mapping.now image.now ticks)) }
+    ensures many { OnOk result (length (received last.new) ≡ length (all_sents units.now mapping.now image.now ticks)) }
+    ensures len { IfOk result (λ t. length t.came.items ≡ length image.now) }
+    ensures played { IfOk result (λ t. (slaves : List X) → bytes_in (received last.new) ≡ came_back X.out X.next slaves (all_sents units.now mapping.now image.now ticks) →
+        ArePlayed X.out X.next units.now mapping.now image.now slaves ticks t.rows.items t.came.items) }
+    ensures fault { IfErr result (λ f. IsMemory f ⊎ ((slaves : List X) → IsFront (bytes_in (received last.new)) (journey X.out X.next slaves (bytes_in (sent_by first.new))) →
+        IsFirstFault X.out X.next units.now mapping.now image.now ticks slaves f)) }
+{
+    let Ok(mut came) = zeros(alloc, image.len()) else {
+        return Err(PlayFault::OutOfMemory);
+    };
+    let mut rows = Vec::new(alloc);
+    let mut due = due;
+    let mut number = start;
+    for tick in 0..ticks {
+        let Ok(next) = due_trips(alloc, units, mapping, image, tick + 1, ticks) else {
+            return Err(PlayFault::OutOfMemory);
+        };
+        let row = match play_tick(
+            rt,
+            alloc,
+            first,
+            last,
+            due.as_slice(),
+            next.as_slice(),
+            number,
+            came.as_mut_slice(),
+        ) {
+            Ok(row) => row,
+            Err(fault) => return Err(fault),
+        };
+        number += row.frames;
+        due = next;
+        let Ok(()) = rows.push(row) else {
+            return Err(PlayFault::OutOfMemory);
+        };
+    }
+    Ok(Ticks { rows, came })
+}
+
+/// A play but for its slaves.
+#[derive(Drop)]
+pub(crate) struct Outcome {
+    pub(crate) start: u32,
+    pub(crate) rows: Vec<TickRow>,
+    pub(crate) image: Vec<u8>,
+}
+
+/// Plays the start frames and the ticks below `ticks` over new rings.
+pub(crate) fn play_line<X: Pass, R: Wait>(
+    rt: &R,
+    alloc: Global,
+    first: &mut Producer<Frame>,
+    last: &mut Consumer<Frame>,
+    units: &Units,
+    mapping: &Mapping,
+    image: &[u8],
+    ticks: u32,
+) -> Result<Outcome, PlayFault>
+    requires layout { HasLayout units.now mapping.now }
+    requires image { length image.now ≡ mapping.now.total }
+    requires few { ticks ≤ 65536 }
+    requires new { (sent_by first.old ≡ []) × (received last.old ≡ []) }
+    ensures rings { SameProducer first.old first.new × SameConsumer last.old last.new }
+    ensures went { OnOk result (bytes_in (sent_by first.new) ≡ bytes_of (all_sents units.now mapping.now image.now ticks)) }
+    ensures many { OnOk result (length (received last.new) ≡ length (all_sents units.now mapping.now image.now ticks)) }
+    ensures played { IfOk result (λ p. (slaves : List X) → bytes_in (received last.new) ≡ came_back X.out X.next slaves (all_sents units.now mapping.now image.now ticks) →
+        IsLinePlayed X.out X.next units.now mapping.now image.now ticks slaves p.start p.rows.items p.image.items) }
+    ensures fault { IfErr result (λ f. IsMemory f ⊎ ((slaves : List X) → IsFront (bytes_in (received last.new)) (journey X.out X.next slaves (bytes_in (sent_by first.new))) →
+        IsFirstFault X.out X.next units.now mapping.now image.now ticks slaves f)) }
+{
+    let Ok(starts) = start_trips(alloc, units, mapping) else {
+        return Err(PlayFault::OutOfMemory);
+    };
+    let Ok(due) = due_trips(alloc, units, mapping, image, 0, ticks) else {
+        return Err(PlayFault::OutOfMemory);
+    };
+    send_all(rt, first, starts.as_slice());
+    match exchange(rt, alloc, first, last, starts.as_slice(), due.as_slice(), 0) {
+        Ok(_) => {}
+        Err(fault) => return Err(fault),
+    }
+    let start = starts.len() as u32;
+    let played = play_ticks::<X, R>(
+        rt, alloc, first, last, units, mapping, image, ticks, due, start,
+    );
+    let Ticks { rows, came } = match played {
+        Ok(played) => played,
+        Err(fault) => return Err(fault),
+    };
+    match image_of(alloc, mapping.fmmus.as_slice(), image, came.as_slice()) {
+        Ok(image) => Ok(Outcome { start, rows, image }),
+        Err(_) => Err(PlayFault::OutOfMemory),
+    }
+}
