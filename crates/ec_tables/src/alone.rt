@@ -17,10 +17,12 @@ fn told_of(alloc: Global, held: Vec<u8>, code: u8, units: bool, text: bool) -> T
         units,
         cert: false,
         text,
+        file: false,
     };
     Told {
         text: held,
         cert: Vec::new(alloc),
+        file: Vec::new(alloc),
         code,
         failed,
     }

@@ -1,6 +1,7 @@
 //! What a row's job answers, as one text.
 
 use crate::alone::{frames_any, frames_plain};
+use crate::captures::{capture, captured};
 use crate::jobs::{Told, any, is_alike, is_same, plain, planned};
 use crate::row::{ALL, Row};
 use std::alloc::{AllocError, Global};
@@ -28,6 +29,34 @@ fn add_cert(out: &mut String, row: &Row<'_>, cert: &[u8]) -> Result<(), AllocErr
     }
 }
 
+/// Adds so many zeros, as their number.
+fn add_zeros(out: &mut String, zeros: u32) -> Result<(), AllocError> {
+    if zeros == 0 {
+        return Ok(());
+    }
+    write!(out, "({zeros})")
+}
+
+/// Adds a capture file, if there is one: two digits for each byte, and for zeros how many stand there.
+fn add_file(out: &mut String, file: &[u8]) -> Result<(), AllocError> {
+    if file.is_empty() {
+        return Ok(());
+    }
+    out.push_str("file ")?;
+    let mut zeros = 0u32;
+    for byte in file {
+        if *byte == 0 {
+            zeros = zeros.saturating_add(1);
+        } else {
+            add_zeros(out, zeros)?;
+            zeros = 0;
+            write!(out, "{byte:02x}")?;
+        }
+    }
+    add_zeros(out, zeros)?;
+    out.push_str("\n")
+}
+
 /// Adds the streams that failed.
 fn add_failed(out: &mut String, told: &Told) -> Result<(), AllocError> {
     if told.failed.units {
@@ -38,6 +67,9 @@ fn add_failed(out: &mut String, told: &Told) -> Result<(), AllocError> {
     }
     if told.failed.text {
         out.push_str("text failed\n")?;
+    }
+    if told.failed.file {
+        out.push_str("file failed\n")?;
     }
     Ok(())
 }
@@ -67,6 +99,18 @@ fn add_check(
     add(out, checked.text.as_slice())
 }
 
+/// What frames with a capture file left, and whether the text is that of frames alone.
+fn captured_twice(alloc: Global, row: &Row<'_>) -> (Told, bool) {
+    let (told, other) = if row.job == "capture" {
+        (capture(alloc, row), frames_plain(alloc, row))
+    } else {
+        (captured(alloc, row), plain(alloc, row))
+    };
+    let alone = told.text.as_slice() == other.text.as_slice() && told.code == other.code;
+    let same = alone || told.failed.file;
+    (told, same)
+}
+
 /// What the row's job left, and whether the other call that does it leaves the same; of a plan, text and status, and
 /// where several workers make it, status and first line.
 fn told_twice(rt: &(impl Threads + Wait + Sync), alloc: Global, row: &Row<'_>) -> (Told, bool) {
@@ -75,6 +119,9 @@ fn told_twice(rt: &(impl Threads + Wait + Sync), alloc: Global, row: &Row<'_>) -
         let other = frames_any(rt, alloc, row);
         let same = is_same(&told, &other);
         return (told, same);
+    }
+    if row.job == "capture" || row.job == "captured" {
+        return captured_twice(alloc, row);
     }
     let other = any(rt, alloc, row);
     if row.job != "plan" {
@@ -94,8 +141,8 @@ fn told_twice(rt: &(impl Threads + Wait + Sync), alloc: Global, row: &Row<'_>) -
     (told, same)
 }
 
-/// What a row's job answers: its status, its text, its certificate, the streams that failed, what is told of the
-/// certificate, and a full stop.
+/// What a row's job answers: its status, its text, its certificate, its capture file, the streams that failed, what is
+/// told of the certificate, and a full stop.
 pub(crate) fn answer_to(
     rt: &(impl Threads + Wait + Sync),
     alloc: Global,
@@ -106,6 +153,7 @@ pub(crate) fn answer_to(
     let mut out = format!(in alloc; "{code}\n")?;
     add(&mut out, told.text.as_slice())?;
     add_cert(&mut out, row, told.cert.as_slice())?;
+    add_file(&mut out, told.file.as_slice())?;
     add_failed(&mut out, &told)?;
     add_check(&mut out, alloc, row, &told)?;
     if !same {

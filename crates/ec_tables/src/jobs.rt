@@ -19,13 +19,15 @@ pub(crate) struct Failed {
     pub units: bool,
     pub cert: bool,
     pub text: bool,
+    pub file: bool,
 }
 
-/// What a job left: its text, its certificate, its status, and which streams failed.
+/// What a job left: its text, its certificate, its capture file, its status, and which streams failed.
 #[derive(Drop)]
 pub(crate) struct Told {
     pub text: Vec<u8>,
     pub cert: Vec<u8>,
+    pub file: Vec<u8>,
     pub code: u8,
     pub failed: Failed,
 }
@@ -34,6 +36,7 @@ pub(crate) struct Told {
 pub(crate) fn is_same(one: &Told, other: &Told) -> bool {
     one.text.as_slice() == other.text.as_slice()
         && one.cert.as_slice() == other.cert.as_slice()
+        && one.file.as_slice() == other.file.as_slice()
         && one.code == other.code
         && one.failed == other.failed
 }
@@ -55,7 +58,7 @@ fn plain_job(row: &Row<'_>) -> Job
 {
     match row.job {
         "cost" => Job::Cost,
-        "framed" => Job::Frames,
+        "framed" | "captured" => Job::Frames,
         _ => Job::Check,
     }
 }
@@ -73,11 +76,13 @@ pub(crate) fn plain(alloc: Global, row: &Row<'_>) -> Told {
         units: units.failed(),
         cert: cert.failed(),
         text: text.failed(),
+        file: false,
     };
     drop(text);
     Told {
         text: held.held,
         cert: Vec::new(alloc),
+        file: Vec::new(alloc),
         code: status.code,
         failed,
     }
@@ -97,12 +102,14 @@ pub(crate) fn planned(rt: &(impl Threads + Wait + Sync), alloc: Global, row: &Ro
         units: units.failed(),
         cert: out.failed(),
         text: text.failed(),
+        file: false,
     };
     drop(text);
     drop(out);
     Told {
         text: held.held,
         cert: kept.held,
+        file: Vec::new(alloc),
         code: status.code,
         failed,
     }
@@ -140,11 +147,13 @@ pub(crate) fn any(rt: &(impl Threads + Wait + Sync), alloc: Global, row: &Row<'_
         units: units.failed(),
         cert: cert.failed(),
         text: text.failed(),
+        file: false,
     };
     drop(text);
     Told {
         text: held.held,
         cert: Vec::new(alloc),
+        file: Vec::new(alloc),
         code: status.code,
         failed,
     }

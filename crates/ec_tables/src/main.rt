@@ -3,6 +3,7 @@
 
 mod alone;
 mod answer;
+mod captures;
 mod jobs;
 mod row;
 mod streams;

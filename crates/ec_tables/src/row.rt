@@ -1,4 +1,4 @@
-//! A row of the table: `job nodes units-calls cert-calls text-calls`, then `^`, what it answers, `^`, the units, and
+//! A row of the table: `job nodes units-calls cert-calls text-calls file-calls`, then `^`, what it answers, `^`, the units, and
 //! where it has one `^` and a certificate. Numbers that are left out are large. A plan by 16 workers is the job
 //! `plan/16`.
 
@@ -8,6 +8,7 @@ pub(crate) struct Calls {
     pub units: u32,
     pub cert: u32,
     pub text: u32,
+    pub file: u32,
 }
 
 /// So many calls as no row makes.
@@ -18,6 +19,7 @@ pub(crate) const ALL: Calls = Calls {
     units: MANY,
     cert: MANY,
     text: MANY,
+    file: MANY,
 };
 
 /// A job, its streams, and what it answers; `*` in the answer stands for any text.
@@ -62,6 +64,7 @@ pub(crate) fn row_of(text: &str) -> Option<Row<'_>> {
         units: number(words.next()),
         cert: number(words.next()),
         text: number(words.next()),
+        file: number(words.next()),
     };
     Some(Row {
         job,

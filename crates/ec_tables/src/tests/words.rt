@@ -25,7 +25,7 @@ fn path_of(path: &Option<String>) -> &str {
     }
 }
 
-/// A line as a text: its job, the path of a certificate to read and that of one to write.
+/// A line as a text: its job, the path of a certificate to read and that of a file to write.
 fn line_text(alloc: Global, line: &Line) -> Result<String, AllocError> {
     let cert = path_of(&line.cert);
     let out = path_of(&line.out);
@@ -36,6 +36,7 @@ fn line_text(alloc: Global, line: &Line) -> Result<String, AllocError> {
         }
         Job::Check => format!(in alloc; "<check {cert} {out}>"),
         Job::Frames => format!(in alloc; "<frames {cert} {out}>"),
+        Job::Capture => format!(in alloc; "<capture {cert} {out}>"),
     }
 }
 
@@ -69,6 +70,9 @@ const LINES: &str = "cost : <cost - ->|\
     check --cert=line.cert : <check line.cert ->|\
     frames : <frames - ->|\
     frames --cert line.cert : <frames line.cert ->|\
+    frames --pcap line.pcap : <capture - line.pcap>|\
+    frames --pcap=p --cert q : <capture q p>|\
+    frames --cert=p --pcap=q : <capture p q>|\
     plan : <plan 1 1000000 - ->|\
     plan --workers 1 : <plan 1 1000000 - ->|\
     plan --workers 16 : <plan 16 1000000 - ->|\
@@ -86,6 +90,12 @@ const REFUSED: &str = " : requires a subcommand|\
     resume : unrecognized subcommand 'resume'|\
     frames --cert : a value is required for '--cert <PATH>'|\
     frames --out p : unexpected argument '--out'|\
+    frames --pcap : a value is required for '--pcap <PATH>'|\
+    frames --pcap p --pcap q : '--pcap <PATH>' cannot be used multiple times|\
+    frames --pcap p q : unexpected argument 'q'|\
+    cost --pcap p : unexpected argument '--pcap'|\
+    check --cert p --pcap q : unexpected argument '--pcap'|\
+    plan --pcap p : unexpected argument '--pcap'|\
     frames p : unexpected argument 'p'|\
     cost cost : unexpected argument 'cost'|\
     cost --out p : unexpected argument '--out'|\
@@ -123,7 +133,8 @@ const HELP: &str = "--help : Usage: ecplan <COMMAND>|\
     plan --workers 1 --help : nodes of the search tree|\
     plan --help : How many workers search, 1 to 16|\
     check --help : Usage: ecplan check --cert <PATH>|\
-    frames --help : Usage: ecplan frames [OPTIONS]";
+    frames --help : Usage: ecplan frames [OPTIONS]|\
+    frames --help : Where to write the frames as a capture file";
 
 #[test]
 fn words_and_their_answers(rt: HostRuntime) -> Result<(), AllocError> {
