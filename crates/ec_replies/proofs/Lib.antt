@@ -14,3 +14,5 @@ pub mod PlayLemmas
 pub mod PlayLaw
 pub mod DataLemmas
 pub mod ServedLemmas
+pub mod TellLemmas
+pub mod InputLemmas

@@ -1,5 +1,5 @@
 -- The frames of ticks come back with the counters of their groups.
-use Rattle.std.proofs.Common.{◌≡◌, ◌≢◌, ℕ, suc, ◌+◌, ◌-◌, ◌^◌, ◌<◌, ◌≤◌, ◌||◌, Bool, true, false, cond, List, [], ◌∷◌, ◌++◌, length, map, take, drop, filter, get_or, sum_by, refl, ap, sym, ◌∙◌, subst, arith, length-drop, All}
+use Rattle.std.proofs.Common.{◌≡◌, ◌≢◌, ℕ, suc, ◌+◌, ◌-◌, ◌^◌, ◌<◌, ◌≤◌, ◌||◌, Bool, true, false, cond, List, [], ◌∷◌, ◌++◌, length, map, take, drop, filter, get_or, sum_by, refl, ap, sym, ◌∙◌, subst, arith, length-drop, All, Some, None, unwrap_or, append-nil}
 use Rattle.std.specs.Prelude.{nat_lt}
 use Rattle.std.specs.List.{flat_map, range_with_len, list_any}
 use Rattle.std.proofs.lemmas.Bool.{false≢true}
@@ -32,7 +32,7 @@ use Rattle.ec_fmmu.proofs.SumLemmas.{sum-filter}
 use Rattle.ec_fmmu.proofs.SeatLemmas.{units_kept, sum_most}
 use Rattle.ec_fmmu.proofs.AddressLemmas.{before_it, address-output, address-input, total-sum}
 use Rattle.ec_slave.specs.Access.{put}
-use Rattle.ec_slave.specs.Journey.{journey, arrived, passed}
+use Rattle.ec_slave.specs.Journey.{through, journey, arrived, passed}
 use Rattle.ec_player.specs.Frames.{IsLayoutFor, going, goes, carries, datagram_of, data_of, frame_of, sent, sent_byte}
 use Rattle.ec_player.specs.Within.{GroupsWithin}
 use Rattle.ec_player.proofs.FrameLemmas.{data-length, none-carried}
@@ -41,7 +41,17 @@ use Rattle.ec_player.proofs.GoingLemmas.{going-payload}
 use Rattle.ec_player.proofs.WithinLemmas.{groups-within}
 use Rattle.ec_play.specs.Sent.{Sent, slot_sent, tick_sents}
 use Rattle.ec_passing.specs.Datagrams.{framed, AreWhole, entry_out, entry_next}
-use Rattle.ec_passing.proofs.ReadLemmas.{written-framed, back-whole}
+use Rattle.ec_passing.proofs.ReadLemmas.{written-framed, back-whole, framed-reads}
+use Rattle.ec_passing.proofs.LineLemmas.{through-is, whole-is}
+use Rattle.ec_frames.proofs.ReadingFrames.{read_is}
+use Rattle.ec_slave.specs.Logical.{first_of}
+use Rattle.ec_slave.specs.Step.{frame_after, memory_after}
+use Rattle.ec_play.specs.Faults.{read_entries, entries_of}
+use Rattle.ec_play.specs.Images.{last_byte, all_entries}
+use Rattle.ec_play.specs.Lines.{came_back, slaves_after}
+use Rattle.ec_play.proofs.LineLemmas.{came-append}
+use Rattle.ec_play.proofs.TickLemmas.{bytes-append}
+use Rattle.ec_replies.proofs.TellLemmas.{in_address, AreasApart, told-line, stays-line}
 use Rattle.ec_replies.specs.Started.{AreMemories, with_station, with_records, started}
 use Rattle.ec_replies.specs.Ready.{IsReady, AreReady}
 use Rattle.ec_replies.proofs.StartLemmas.{length-named}
@@ -105,15 +115,38 @@ move-or true false c h = refl
 move-or false true c h = refl
 move-or false false c h = h
 
+-- an input of a slave, as its memory holds it
+abbrev pub held : List Seat → ℕ → ℕ → Seat → List (List ℕ) → ℕ
+held seats n k d ms = get_or (get_or ms n []) ((get_or seats n d).in_at + k) 0
+
+join-told : (p q : Bool) (v : ℕ) → first_of (cond p (Some v) None) (cond q (Some v) None) ≡ cond (q || p) (Some v) None
+join-told true true v = refl
+join-told true false v = refl
+join-told false true v = refl
+join-told false false v = refl
+
+join-shown : (p q : Bool) (v e : ℕ) → cond q v (cond p v e) ≡ cond (p || q) v e
+join-shown true true v e = refl
+join-shown true false v e = refl
+join-shown false true v e = refl
+join-shown false false v e = refl
+
+unwrap-told : (p : Bool) (v e : ℕ) → unwrap_or (cond p (Some v) None) e ≡ cond p v e
+unwrap-told true v e = refl
+unwrap-told false v e = refl
+
 pub record GroupsPass (seats : List Seat) (image : List ℕ) (gs : List Group) (ms : List (List ℕ)) (ds : List Entry) (counters : List ℕ) : Type 0 where
   pub counted : map (λ d. d.counter) (journey entry_out entry_next ms ds) ≡ counters
   pub ready : AreReady seats seats (arrived entry_out entry_next ms ds)
   pub served : (went : Seat → Bool) → AreServed seats image went seats ms → AreServed seats image (λ s. has_group gs s || went s) seats (arrived entry_out entry_next ms ds)
+  pub told : (n k : ℕ) (d : Seat) → n < length seats → k < (get_or seats n d).in_bytes →
+      last_byte (in_address seats (get_or seats n d) k) (journey entry_out entry_next ms ds) ≡ cond (has_group gs (get_or seats n d)) (Some (held seats n k d ms)) None
+  pub stays : (n k : ℕ) (d : Seat) → n < length seats → k < (get_or seats n d).in_bytes → held seats n k d (arrived entry_out entry_next ms ds) ≡ held seats n k d ms
 
-groups-pass : (seats : List Seat) (image : List ℕ) (gs : List Group) (ms : List (List ℕ)) (i : ℕ) → AreKept seats → All (Fits seats) seats → All (IsGroup seats) gs → GroupsWithin (length image) gs →
+groups-pass : (seats : List Seat) (image : List ℕ) (gs : List Group) (ms : List (List ℕ)) (i : ℕ) → AreKept seats → All (Fits seats) seats → All AreasApart seats → All (IsGroup seats) gs → GroupsWithin (length image) gs →
     AreReady seats seats ms → GroupsPass seats image gs ms (lrws i (sent (map (records_of seats) seats) image) gs) (map (λ g. g.counter) gs)
-groups-pass seats image [] ms i kept fits groups inside ready = record { counted = refl; ready = ready; served = λ went h. h }
-groups-pass seats image (g ∷ gs) ms i kept fits groups inside ready =
+groups-pass seats image [] ms i kept fits aparts groups inside ready = record { counted = refl; ready = ready; served = λ went h. h; told = λ n k d l m. refl; stays = λ n k d l m. refl }
+groups-pass seats image (g ∷ gs) ms i kept fits aparts groups inside ready =
     let bytes = sent (map (records_of seats) seats) image in
     let size : length bytes ≡ length image = length-map-range_with_len (sent_byte (map (records_of seats) seats) image) 0 (length image) in
     let group = All-head (IsGroup seats) g gs groups in
@@ -124,7 +157,7 @@ groups-pass seats image (g ∷ gs) ms i kept fits groups inside ready =
     let few = few-gains seats g kept.few in
     let d = lrw i g.start 0 (data_of bytes g) in
     let here = lrw-line seats g seats ms (data_of bytes g) i 0 kept (all-ones seats) fits group ready len few in
-    let rest = groups-pass seats image gs (passed entry_out entry_next ms d) (suc i) kept fits (All-tail (IsGroup seats) g gs groups) (All-tail (LiesIn (length image)) g gs inside) here.ready in
+    let rest = groups-pass seats image gs (passed entry_out entry_next ms d) (suc i) kept fits aparts (All-tail (IsGroup seats) g gs groups) (All-tail (LiesIn (length image)) g gs inside) here.ready in
     let sum : 0 + sum_by (gain_of g) seats ≡ g.counter = omega (arith, sum-gains seats g group) in
     record {
       counted = λ j. (here.counted ∙ sum) j ∷ rest.counted j;
@@ -134,6 +167,12 @@ groups-pass seats image (g ∷ gs) ms i kept fits groups inside ready =
           (λ s t. move-or (is_in g s) (has_group gs s) (went s) t)
           (rest.served (λ s. is_in g s || went s)
           (served-line seats image went g seats ms (data_of bytes g) i 0 kept (all-ones seats) fits group ready len few (sent-carries seats image g kept (all-ones seats) group low high) h));
+      told = λ n k x l m.
+          let y = get_or seats n x in
+          let same = stays-line seats g seats ms (data_of bytes g) i 0 n k x kept (all-ones seats) fits aparts group ready len few l m in
+          (λ j. first_of ((rest.told n k x l m ∙ ap (λ v. cond (has_group gs y) (Some v) None) same) j) (told-line seats g ms (data_of bytes g) i n k x kept (all-ones seats) fits group ready len few l m j))
+          ∙ join-told (has_group gs y) (is_in g y) (held seats n k x ms);
+      stays = λ n k x l m. rest.stays n k x l m ∙ stays-line seats g seats ms (data_of bytes g) i 0 n k x kept (all-ones seats) fits aparts group ready len few l m;
     }
 
 -- ---- frames that can be built
@@ -173,6 +212,19 @@ low-seats n (u ∷ us) [] = All-nil IsLow
 low-seats n (u ∷ us) (p ∷ ps) =
     All-append IsLow (slave_seats (key_at (unit_view u) p) n 0 (map slave_view u.slaves)) (seats_from (suc n) (map unit_view us) ps) (low-slaves (key_at (unit_view u) p) n 0 u.slaves) (low-seats (suc n) us ps)
 
+slave-aparts : (k : Key) (n i : ℕ) (ss : List Slave) → All AreasApart (slave_seats k n i (map slave_view ss))
+slave-aparts k n i [] = All-nil AreasApart
+slave-aparts k n i (s ∷ ss) = All-cons AreasApart (seat k n i (slave_view s)) (slave_seats k n (suc i) (map slave_view ss)) s.apart (slave-aparts k n (suc i) ss)
+
+seat-aparts : (n : ℕ) (us : List SyncUnit) (ps : List Place) → All AreasApart (seats_from n (map unit_view us) ps)
+seat-aparts n [] ps = All-nil AreasApart
+seat-aparts n (u ∷ us) [] = All-nil AreasApart
+seat-aparts n (u ∷ us) (p ∷ ps) =
+    All-append AreasApart (slave_seats (key_at (unit_view u) p) n 0 (map slave_view u.slaves)) (seats_from (suc n) (map unit_view us) ps) (slave-aparts (key_at (unit_view u) p) n 0 u.slaves) (seat-aparts (suc n) us ps)
+
+aparts-in : (us : Units) (ps : List Place) → All AreasApart (seats_in us ps)
+aparts-in us ps = seat-aparts 0 us.units ps
+
 pub fits-in : (us : Units) (ps : List Place) → All (Fits (seats_in us ps)) (seats_in us ps)
 fits-in us ps = λ i d l.
     let seats = seats_in us ps in
@@ -207,6 +259,12 @@ pub record Passes (seats : List Seat) (image : List ℕ) (serves : Seat → Bool
   pub runs : Runs ms sents after
   pub ready : AreReady seats seats after
   pub served : (went : Seat → Bool) → AreServed seats image went seats ms → AreServed seats image (λ s. serves s || went s) seats after
+  pub told : (n k : ℕ) (d : Seat) → n < length seats → k < (get_or seats n d).in_bytes → (e : ℕ) →
+      unwrap_or (last_byte (in_address seats (get_or seats n d) k) (all_entries (came_back frame_after memory_after ms sents))) e ≡ cond (serves (get_or seats n d)) (held seats n k d ms) e
+  pub stays : (n k : ℕ) (d : Seat) → n < length seats → k < (get_or seats n d).in_bytes → held seats n k d after ≡ held seats n k d ms
+
+passes-none : (seats : List Seat) (image : List ℕ) (ms : List (List ℕ)) → AreReady seats seats ms → Passes seats image (λ s. false) ms []
+passes-none seats image ms ready = record { after = ms; runs = runs-none ms; ready = ready; served = λ went h. h; told = λ n k d l m e. refl; stays = λ n k d l m. refl }
 
 passes-append : (seats : List Seat) (image : List ℕ) (p q : Seat → Bool) (ms : List (List ℕ)) (xs ys : List Sent) (h : Passes seats image p ms xs) → Passes seats image q h.after ys →
     Passes seats image (λ s. p s || q s) ms (xs ++ ys)
@@ -216,6 +274,17 @@ passes-append seats image p q ms xs ys h k = record {
   ready = k.ready;
   served = λ went w.
       served-weaker seats image (λ s. q s || (p s || went s)) (λ s. (p s || q s) || went s) seats k.after (λ s t. move-or (p s) (q s) (went s) t) (k.served (λ s. p s || went s) (h.served went w));
+  told = λ n j d l m e.
+      let a = in_address seats (get_or seats n d) j in
+      let x = get_or seats n d in
+      let shown = λ (bs : List (List ℕ)) (e : ℕ). unwrap_or (last_byte a (all_entries bs)) e in
+      ap (λ bs. shown bs e) (came-append frame_after memory_after ms xs ys)
+      ∙ bytes-append a e (came_back frame_after memory_after ms xs) (came_back frame_after memory_after (slaves_after frame_after memory_after ms xs) ys)
+      ∙ ap (λ w. shown (came_back frame_after memory_after w ys) (shown (came_back frame_after memory_after ms xs) e)) h.runs.left
+      ∙ k.told n j d l m (shown (came_back frame_after memory_after ms xs) e)
+      ∙ (λ i. cond (q x) (h.stays n j d l m i) (h.told n j d l m e i))
+      ∙ join-shown (p x) (q x) (held seats n j d ms) e;
+  stays = λ n j d l m. k.stays n j d l m ∙ h.stays n j d l m;
 }
 
 abbrev IsBusy : Units → Mapping → ℕ → ℕ → Type 0
@@ -225,13 +294,11 @@ IsBusy us m t s = (s < us.slots) × (carries m.groups t s ≡ true)
 abbrev pub served_in : Mapping → ℕ → List ℕ → Seat → Bool
 served_in m t ss x = list_any (λ s. has_group (going m.groups t s) x) ss
 
-slots-pass : (us : Units) (ps : List Place) (m : Mapping) (image : List ℕ) (t : ℕ) (ss : List ℕ) (ms : List (List ℕ)) → IsSet us ps m image → All (IsBusy us m t) ss → AreReady (seats_in us ps) (seats_in us ps) ms →
-    Passes (seats_in us ps) image (served_in m t ss) ms (map (slot_sent m image t) ss)
+slot-passes : (us : Units) (ps : List Place) (m : Mapping) (image : List ℕ) (t s : ℕ) (ms : List (List ℕ)) → IsSet us ps m image → IsBusy us m t s → AreReady (seats_in us ps) (seats_in us ps) ms →
+    Passes (seats_in us ps) image (has_group (going m.groups t s)) ms (slot_sent m image t s ∷ [])
 unfolding frame_of
-slots-pass us ps m image t [] ms set busy ready = record { after = ms; runs = runs-none ms; ready = ready; served = λ went h. h }
-slots-pass us ps m image t (s ∷ ss) ms set busy ready =
+slot-passes us ps m image t s ms set here ready =
     let seats = seats_in us ps in
-    let here = All-head (IsBusy us m t) s ss busy in
     let bytes = sent m.fmmus image in
     let own = sent (map (records_of seats) seats) image in
     let same : own ≡ bytes = ap (λ fs. sent fs image) (sym set.laid.layout.fmmus) in
@@ -242,7 +309,7 @@ slots-pass us ps m image t (s ∷ ss) ms set busy ready =
     let within : GroupsWithin (length image) gs = subst (λ n. GroupsWithin n gs) (length-map-range_with_len (sent_byte m.fmmus image) 0 (length image)) inside in
     let each : All (IsGroup seats) gs = All-filter (goes t s) (IsGroup seats) m.groups groups.each in
     let pass : GroupsPass seats image gs ms (lrws 0 bytes gs) (map (λ g. g.counter) gs) =
-    subst (λ b. GroupsPass seats image gs ms (lrws 0 b gs) (map (λ g. g.counter) gs)) same (groups-pass seats image gs ms 0 (kept-in us ps) (fits-in us ps) each within ready) in
+    subst (λ b. GroupsPass seats image gs ms (lrws 0 b gs) (map (λ g. g.counter) gs)) same (groups-pass seats image gs ms 0 (kept-in us ps) (fits-in us ps) (aparts-in us ps) each within ready) in
     let ds = map datagram_of gs in
     let load = flat_map (data_of bytes) gs in
     let sum = data-length bytes gs inside in
@@ -252,16 +319,33 @@ slots-pass us ps m image t (s ∷ ss) ms set busy ready =
     let wide : All (λ d. d.address < 2 ^ 32) ds = All-map (λ d. d.address < 2 ^ 32) datagram_of gs (λ i d l. let h = (inside i d l).2 in omega (arith, h, top, size)) in
     let back = back-lrws 0 bytes gs inside in
     let now = arrived entry_out entry_next ms (lrws 0 bytes gs) in
-    let rest = slots-pass us ps m image t ss now set (All-tail (IsBusy us m t) s ss busy) pass.ready in
+    let is = written-framed ds load sum ∙ ap framed back in
+    let whole = subst AreWhole back (back-whole ds load buildable wide sum) in
+    let es = journey entry_out entry_next ms (lrws 0 bytes gs) in
+    let none : List Sent = [] in
+    let there : entries_of (through frame_after memory_after ms (slot_sent m image t s).bytes) ≡ es =
+    ap (λ f. entries_of (through frame_after memory_after ms f)) is
+    ∙ ap entries_of (through-is ms (lrws 0 bytes gs) whole)
+    ∙ ap read_entries ((read_is (framed es) es).1 (framed-reads es (whole-is ms (lrws 0 bytes gs) whole))) in
     record {
-      after = rest.after;
-      runs = runs-first ms now rest.after (slot_sent m image t s) (map (slot_sent m image t) ss) (lrws 0 bytes gs)
-          (written-framed ds load sum ∙ ap framed back) (subst AreWhole back (back-whole ds load buildable wide sum)) pass.counted refl rest.runs;
-      ready = rest.ready;
-      served = λ went h.
-          served-weaker seats image (λ x. served_in m t ss x || (has_group gs x || went x)) (λ x. (has_group gs x || served_in m t ss x) || went x) seats rest.after
-          (λ x t'. move-or (has_group gs x) (served_in m t ss x) (went x) t') (rest.served (λ x. has_group gs x || went x) (pass.served went h));
+      after = now;
+      runs = runs-first ms now now (slot_sent m image t s) none (lrws 0 bytes gs) is whole pass.counted refl (runs-none now);
+      ready = pass.ready;
+      served = pass.served;
+      told = λ n k d l m' e.
+          ap (λ w. unwrap_or (last_byte (in_address seats (get_or seats n d) k) w) e) (append-nil (entries_of (through frame_after memory_after ms (slot_sent m image t s).bytes)) ∙ there)
+          ∙ ap (λ w. unwrap_or w e) (pass.told n k d l m')
+          ∙ unwrap-told (has_group gs (get_or seats n d)) (held seats n k d ms) e;
+      stays = pass.stays;
     }
+
+slots-pass : (us : Units) (ps : List Place) (m : Mapping) (image : List ℕ) (t : ℕ) (ss : List ℕ) (ms : List (List ℕ)) → IsSet us ps m image → All (IsBusy us m t) ss → AreReady (seats_in us ps) (seats_in us ps) ms →
+    Passes (seats_in us ps) image (served_in m t ss) ms (map (slot_sent m image t) ss)
+slots-pass us ps m image t [] ms set busy ready = passes-none (seats_in us ps) image ms ready
+slots-pass us ps m image t (s ∷ ss) ms set busy ready =
+    let here = slot-passes us ps m image t s ms set (All-head (IsBusy us m t) s ss busy) ready in
+    passes-append (seats_in us ps) image (has_group (going m.groups t s)) (served_in m t ss) ms (slot_sent m image t s ∷ []) (map (slot_sent m image t) ss) here
+    (slots-pass us ps m image t ss here.after set (All-tail (IsBusy us m t) s ss busy) here.ready)
 
 -- the slots that carry something
 abbrev pub busy_in : Units → Mapping → ℕ → List ℕ
@@ -284,7 +368,7 @@ serves us m ts x = list_any (λ t. served_in m t (busy_in us m t) x) ts
 
 pub ticks-pass : (us : Units) (ps : List Place) (m : Mapping) (image : List ℕ) (ts : List ℕ) (ms : List (List ℕ)) → IsSet us ps m image → AreReady (seats_in us ps) (seats_in us ps) ms →
     Passes (seats_in us ps) image (serves us m ts) ms (flat_map (tick_sents us m image) ts)
-ticks-pass us ps m image [] ms set ready = record { after = ms; runs = runs-none ms; ready = ready; served = λ went h. h }
+ticks-pass us ps m image [] ms set ready = passes-none (seats_in us ps) image ms ready
 ticks-pass us ps m image (t ∷ ts) ms set ready =
     let here = tick-passes us ps m image t ms set ready in
     passes-append (seats_in us ps) image (served_in m t (busy_in us m t)) (serves us m ts) ms (tick_sents us m image t) (flat_map (tick_sents us m image) ts) here

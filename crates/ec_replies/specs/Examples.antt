@@ -11,6 +11,7 @@ use Rattle.ec_play.specs.declared.faults.PlayFault.TheVariants as fault
 use Rattle.ec_play.specs.Sent.{Sent, start_sent}
 use Rattle.ec_play.specs.Faults.{is_reply_of, fault_of}
 use Rattle.ec_play.specs.Images.{image_after}
+use Rattle.ec_replies.specs.Started.{with_station}
 
 abbrev first : Sent
 first = start_sent (roll_call 1)
@@ -55,3 +56,7 @@ came = refl
 -- no frame came: inputs are 0
 none_came : image_after records (1 ∷ 2 ∷ 3 ∷ 4 ∷ 5 ∷ 6 ∷ []) [] ≡ 1 ∷ 2 ∷ 0 ∷ 0 ∷ 0 ∷ 0 ∷ []
 none_came = refl
+
+-- station 1001 at 0x0010, and nothing else
+stationed : with_station 1001 (replicate 20 7) ≡ replicate 16 7 ++ (0xE9 ∷ 3 ∷ []) ++ replicate 2 7
+stationed = refl

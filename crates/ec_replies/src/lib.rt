@@ -21,7 +21,7 @@ ghost use Rattle.ec_play.specs.Lines.{slaves_after, AreRight, IsMemory};
 ghost use Rattle.ec_play.specs.Plays.{IsAnswer};
 ghost use Rattle.ec_replies.specs.Meanings.{IsReply};
 ghost use Rattle.ec_replies.specs.Started.{AreMemories, started};
-ghost use Rattle.ec_replies.specs.Arrivals.{OutputsArrived};
+ghost use Rattle.ec_replies.specs.Arrivals.{OutputsArrived, inputs_after, InputsArrived, InputsAreAbsent};
 ghost use Rattle.ec_replies.specs.Counters.{IsFirstWrong, AreAlike};
 
 /// A frame that comes back is judged by what it is read as, then as a reply, then by its working counters (own profile, after
@@ -73,4 +73,16 @@ pub fn outputs_arrive()
     ensures { (us : Units) (ps : List Place) (m : Mapping) (image : List ℕ) (n t : ℕ) (slaves : List (List ℕ)) → IsLayoutFor us ps m → length image ≡ m.total → AreMemories slaves →
         length slaves ≡ length (stations_of us.units) → All (λ s. s < 65536) (stations_of us.units) → t < n →
         OutputsArrived (seats_of (map unit_view us.units) ps) image t (slaves_after frame_after memory_after slaves (all_sents us m image n)) }
+{}
+
+/// After a play through modelled slaves each input of the units that travelled stands in the image, at its logical address, as the
+/// memory of its slave has it; those of units that didn't travel are 0 (own profile, after ETG.1000.4, clause 6.6). A station has 16
+/// bits.
+pub fn inputs_arrive()
+    ensures travelled { (us : Units) (ps : List Place) (m : Mapping) (image : List ℕ) (n t : ℕ) (slaves : List (List ℕ)) → IsLayoutFor us ps m → length image ≡ m.total → AreMemories slaves →
+        length slaves ≡ length (stations_of us.units) → All (λ s. s < 65536) (stations_of us.units) → t < n →
+        InputsArrived (seats_of (map unit_view us.units) ps) (inputs_after us m image n slaves) t (slaves_after frame_after memory_after slaves (all_sents us m image n)) }
+    ensures others { (us : Units) (ps : List Place) (m : Mapping) (image : List ℕ) (n : ℕ) (slaves : List (List ℕ)) → IsLayoutFor us ps m → length image ≡ m.total → AreMemories slaves →
+        length slaves ≡ length (stations_of us.units) → All (λ s. s < 65536) (stations_of us.units) →
+        InputsAreAbsent (seats_of (map unit_view us.units) ps) (inputs_after us m image n slaves) n }
 {}
