@@ -2,7 +2,14 @@
 #![tactic(auto)]
 
 #[cfg(test)]
+mod both;
+mod harm;
+#[cfg(test)]
+mod hostile;
+#[cfg(test)]
 mod lines;
+#[cfg(test)]
+mod meeting;
 #[cfg(test)]
 mod slaves;
 #[cfg(test)]

@@ -1,12 +1,13 @@
 //! Lines of units, as text.
 
-ghost use Rattle.std.specs.Prelude.{◌≡◌, length, IfOk};
+ghost use Rattle.std.specs.Prelude.{◌≡◌, ◌++◌, length, map, IfOk, OnOk};
 ghost use Rattle.std.specs.Option.{ForSome};
+ghost use Rattle.ec_units.specs.Together.{stations_of as stations_in};
 ghost use Rattle.ec_player.specs.Frames.{HasLayout};
 
 use ec_fmmu::{Mapping, layout};
 use ec_loads::{Places, Plan, is_legal};
-use ec_units::{Place, Units};
+use ec_units::{Place, Slave, Unit, Units};
 use std::alloc::{AllocError, Global};
 
 /// One unit in each tick, whose slave has 2 bytes of outputs and 4 of inputs.
@@ -39,4 +40,25 @@ pub(crate) fn mapping_of(
         Ok(()) => Ok(Some(layout(alloc, units, &plan)?)),
         Err(_) => Ok(None),
     }
+}
+
+/// Adds the stations of a unit's slaves.
+fn push_stations(stations: &mut Vec<u16>, slaves: &[Slave]) -> Result<(), AllocError>
+    ensures { OnOk result (stations.new.items ≡ stations.old.items ++ map (λ s. s.station) slaves.now) }
+{
+    for slave in slaves {
+        stations.push(slave.station)?;
+    }
+    Ok(())
+}
+
+/// The stations of all slaves, in file order.
+pub(crate) fn stations_of(alloc: Global, units: &[Unit]) -> Result<Vec<u16>, AllocError>
+    ensures { IfOk result (λ v. v.items ≡ stations_in units.now) }
+{
+    let mut stations = Vec::new(alloc);
+    for unit in units {
+        push_stations(&mut stations, unit.slaves.as_slice())?;
+    }
+    Ok(stations)
 }

@@ -1,40 +1,13 @@
 //! The worked examples of a play.
 
-ghost use Rattle.std.specs.Prelude.{◌≡◌, ◌≤◌, ◌++◌, length, map, IfOk, OnOk};
-ghost use Rattle.ec_units.specs.Together.{stations_of as stations_in};
-ghost use Rattle.ec_player.specs.Frames.{HasLayout};
-
-use crate::lines::{ONE, TWO, mapping_of};
+use crate::lines::{ONE, TWO, mapping_of, stations_of};
 use crate::slaves::{Cutter, Eater, Tiring, Wire};
-use ec_fmmu::Mapping;
 use ec_frames::FrameFault;
 use ec_play::{PlayFault, Played, play_plain};
 use ec_slave::{Pass, SlaveBox};
 use ec_unit_text::read_units;
-use ec_units::{Slave, Unit};
 use std::alloc::{AllocError, Global};
 use std::test::Fail;
-
-/// Adds the stations of a unit's slaves.
-fn push_stations(stations: &mut Vec<u16>, slaves: &[Slave]) -> Result<(), AllocError>
-    ensures { OnOk result (stations.new.items ≡ stations.old.items ++ map (λ s. s.station) slaves.now) }
-{
-    for slave in slaves {
-        stations.push(slave.station)?;
-    }
-    Ok(())
-}
-
-/// The stations of all slaves, in file order.
-fn stations_of(alloc: Global, units: &[Unit]) -> Result<Vec<u16>, AllocError>
-    ensures { IfOk result (λ v. v.items ≡ stations_in units.now) }
-{
-    let mut stations = Vec::new(alloc);
-    for unit in units {
-        push_stations(&mut stations, unit.slaves.as_slice())?;
-    }
-    Ok(stations)
-}
 
 /// Plays a line where it is one: its text is that of units, its plan is legal, and there is one slave for each of theirs.
 fn play<X: Pass + Drop>(

@@ -1,0 +1,293 @@
+//! Plays by both calls, in one thread and with a thread for each slave. The answers are worked out by hand.
+
+use crate::harm::Harm;
+use crate::hostile::Hostile;
+use crate::lines::{ONE, TWO, mapping_of, stations_of};
+use crate::meeting::Meeter;
+use crate::slaves::{Tiring, Wire};
+use ec_frames::FrameFault;
+use ec_play::{PlayFault, Played, play_plain};
+use ec_play_threads::play_threads;
+use ec_slave::{Pass, SlaveBox};
+use ec_unit_text::read_units;
+use std::alloc::{AllocError, Global};
+use std::fmt::Write;
+use std::sync::Wait;
+use std::sync::atomic::{AtomicU64, Ordering};
+use std::test::Fail;
+use std::thread::Threads;
+
+/// A call that plays: with a thread for each slave, or in one.
+const CALLS: [bool; 2] = [true, false];
+
+/// Plays a line where it is one of at most 16 slaves.
+fn play_by<X: Pass + Send + Drop, R: Threads + Wait + Sync>(
+    rt: &R,
+    alloc: Global,
+    threads: bool,
+    text: &str,
+    phases: &[u16],
+    image: &[u8],
+    ticks: u32,
+    slaves: Vec<X>,
+) -> Result<Option<Result<Played<X>, PlayFault>>, AllocError> {
+    let Ok(units) = read_units(alloc, text.as_bytes()) else {
+        return Ok(None);
+    };
+    let Some(mapping) = mapping_of(alloc, &units, phases)? else {
+        return Ok(None);
+    };
+    let count = stations_of(alloc, units.units.as_slice())?.len();
+    if image.len() != mapping.total as usize
+        || ticks > 65536
+        || slaves.len() != count
+        || count > 16
+    {
+        return Ok(None);
+    }
+    if threads {
+        return Ok(Some(play_threads(rt, alloc, &units, &mapping, image, ticks, slaves)));
+    }
+    Ok(Some(play_plain(alloc, &units, &mapping, image, ticks, slaves)))
+}
+
+/// The fault of a play of one tick of one unit through this slave, if it has one.
+fn fault_of<X: Pass + Send + Drop, R: Threads + Wait + Sync>(
+    rt: &R,
+    alloc: Global,
+    threads: bool,
+    slave: X,
+) -> Result<Option<PlayFault>, AllocError> {
+    let mut slaves = Vec::new(alloc);
+    slaves.push(slave)?;
+    match play_by(rt, alloc, threads, ONE, &[0], &[0; 6], 1, slaves)? {
+        Some(Ok(_)) => Ok(None),
+        Some(Err(fault)) => Ok(Some(fault)),
+        None => Ok(Some(PlayFault::OutOfMemory)),
+    }
+}
+
+/// What is done to each frame, and the fault that it leads to.
+const HARMS: [(Harm, Option<PlayFault>); 8] = [
+    (Harm::Cut(20), Some(PlayFault::Frame(FrameFault::Length))),
+    (Harm::Cut(0), Some(PlayFault::Frame(FrameFault::Short))),
+    (
+        Harm::Put {
+            at: 16,
+            byte: 15,
+            from: 0,
+        },
+        Some(PlayFault::Frame(FrameFault::UnknownCommand(15))),
+    ),
+    (
+        Harm::Count(27),
+        Some(PlayFault::StartCounter {
+            frame: 0,
+            want: 1,
+            got: 2,
+        }),
+    ),
+    (
+        Harm::Put {
+            at: 59,
+            byte: 1,
+            from: 0,
+        },
+        Some(PlayFault::Reply { frame: 0 }),
+    ),
+    (Harm::Longer, Some(PlayFault::Reply { frame: 0 })),
+    (
+        Harm::Put {
+            at: 6,
+            byte: 3,
+            from: 3,
+        },
+        Some(PlayFault::Reply { frame: 3 }),
+    ),
+    (
+        Harm::Put {
+            at: 26,
+            byte: 77,
+            from: 3,
+        },
+        None,
+    ),
+];
+
+/// The first row of the table in which this call answers otherwise.
+fn first_unlike<R: Threads + Wait + Sync>(
+    rt: &R,
+    alloc: Global,
+    threads: bool,
+) -> Result<Option<usize>, AllocError> {
+    for i in 0..HARMS.len() {
+        let (what, wanted) = HARMS[i];
+        let slave = Hostile {
+            slave: SlaveBox::new(alloc)?,
+            what,
+            passed: 0,
+        };
+        if fault_of(rt, alloc, threads, slave)? != wanted {
+            return Ok(Some(i));
+        }
+    }
+    Ok(None)
+}
+
+#[test]
+fn hostile_slaves(rt: HostRuntime) -> Result<(), Fail> {
+    for threads in CALLS.as_slice() {
+        assert_eq!(rt; first_unlike(&rt, rt.alloc(), *threads)?, None);
+    }
+    Ok(())
+}
+
+#[test]
+fn slaves_that_do_not_count(rt: HostRuntime) -> Result<(), Fail> {
+    let alloc = rt.alloc();
+    let idle = fault_of(&rt, alloc, true, Wire { number: 0 })?;
+    assert!(rt;
+        idle == Some(PlayFault::StartCounter {
+            frame: 0,
+            want: 1,
+            got: 0
+        })
+    );
+    let tired = Tiring {
+        slave: SlaveBox::new(alloc)?,
+        left: 3,
+    };
+    let wanted = PlayFault::Counter {
+        tick: 0,
+        slot: 0,
+        datagram: 0,
+        want: 3,
+        got: 0,
+    };
+    assert!(rt; fault_of(&rt, alloc, true, tired)? == Some(wanted));
+    Ok(())
+}
+
+/// Two units of eight slaves each, one every fourth and one every fifth tick.
+fn sixteen_slaves(alloc: Global) -> Result<String, AllocError> {
+    let mut text = String::from_str(alloc, "tick_ns = 1000000\nslots = 1\n")?;
+    for unit in 0..2u16 {
+        let period = unit + 4;
+        write!(text, "[[unit]]\nname = \"u{unit}\"\nperiod = {period}\n")?;
+        for slave in 0..8u16 {
+            let station = 1001 + 8 * unit + slave;
+            write!(
+                text,
+                "[[unit.slave]]\nstation = {station}\nout_bytes = 3\nin_bytes = 2\n"
+            )?;
+        }
+    }
+    Ok(text)
+}
+
+/// Plays them for 20 ticks, slave k with the inputs k and k + 100.
+fn play_sixteen<R: Threads + Wait + Sync>(
+    rt: &R,
+    alloc: Global,
+    threads: bool,
+) -> Result<Option<Played<SlaveBox>>, AllocError> {
+    let text = sixteen_slaves(alloc)?;
+    let mut slaves = Vec::new(alloc);
+    for k in 0..16u8 {
+        let mut slave = SlaveBox::new(alloc)?;
+        slave.poke(8192, k);
+        slave.poke(8193, k + 100);
+        slaves.push(slave)?;
+    }
+    match play_by(
+        rt,
+        alloc,
+        threads,
+        text.as_str(),
+        &[0, 0],
+        &[7; 80],
+        20,
+        slaves,
+    )? {
+        Some(Ok(played)) => Ok(Some(played)),
+        _ => Ok(None),
+    }
+}
+
+/// Whether a play of the sixteen slaves is as it should be: 33 start frames; a frame in tick 0 with both groups and one in each
+/// other tick that 4 or 5 divides, of 144 and 92 wire bytes, each group counted 24 times; each slave's outputs 7 and its inputs in the image.
+fn is_right(played: &Played<SlaveBox>) -> bool {
+    let rows = played.ticks.as_slice();
+    for tick in 0..rows.len() {
+        let (frames, bytes, groups) = match (tick % 4 == 0, tick % 5 == 0) {
+            (true, true) => (1, 144, 2),
+            (false, false) => (0, 0, 0),
+            _ => (1, 92, 1),
+        };
+        let counters = rows[tick].counters.as_slice();
+        if rows[tick].frames != frames || rows[tick].bytes != bytes || counters.len() != groups {
+            return false;
+        }
+        for counter in counters {
+            if *counter != 24 {
+                return false;
+            }
+        }
+    }
+    let image = played.image.as_slice();
+    let slaves = played.slaves.as_slice();
+    if played.start != 33 || rows.len() != 20 || image.len() != 80 || slaves.len() != 16 {
+        return false;
+    }
+    for k in 0..16 {
+        let own = &image[5 * k..5 * k + 5];
+        if own[0] != 7 || own[3] as usize != k || own[4] as usize != k + 100 {
+            return false;
+        }
+        let slave = &slaves[k];
+        if slave.peek(4096) != 7 || slave.peek(4098) != 7 || slave.peek(4099) != 0 {
+            return false;
+        }
+    }
+    true
+}
+
+#[test]
+fn sixteen_slaves_by_both_calls(rt: HostRuntime) -> Result<(), Fail> {
+    for threads in CALLS.as_slice() {
+        match play_sixteen(&rt, rt.alloc(), *threads)? {
+            Some(played) => assert!(rt; is_right(&played)),
+            None => assert!(rt; false),
+        }
+    }
+    Ok(())
+}
+
+#[test]
+fn meet(rt: HostRuntime) -> Result<(), Fail> {
+    let alloc = rt.alloc();
+    let (one, two, missed) = (AtomicU64::new(0), AtomicU64::new(0), AtomicU64::new(0));
+    let mut slaves = Vec::new(alloc);
+    slaves.push(Meeter {
+        slave: SlaveBox::new(alloc)?,
+        mine: &one,
+        theirs: &two,
+        missed: &missed,
+        wait_at: 1,
+        wanted: 1,
+    })?;
+    slaves.push(Meeter {
+        slave: SlaveBox::new(alloc)?,
+        mine: &two,
+        theirs: &one,
+        missed: &missed,
+        wait_at: 0,
+        wanted: 2,
+    })?;
+    match play_by(&rt, alloc, true, TWO, &[0, 1], &[7; 200], 2, slaves)? {
+        Some(Ok(played)) => assert_eq!(rt; played.start, 5),
+        _ => assert!(rt; false),
+    }
+    assert_eq!(rt; missed.load(Ordering::SeqCst), 0);
+    Ok(())
+}
