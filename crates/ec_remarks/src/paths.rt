@@ -34,9 +34,7 @@ pub(crate) fn tell_write(out: &mut String, inputs: &Inputs<'_>) -> Result<(), Al
         add_quoted(out, path.as_bytes())?;
     }
     add_reason(out, inputs)?;
-    out.push_str(
-        "All else was done; give a path in a folder that is there and can be written.\n",
-    )
+    out.push_str("All else was done; give a path in a folder that is there and can be written.\n")
 }
 
 /// What is told of a code alone.
