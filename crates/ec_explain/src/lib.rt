@@ -6,3 +6,4 @@ mod plain;
 
 pub use ec_remarks::{Inputs, advice};
 pub use explaining::explain;
+pub use plain::plain_text;

@@ -18,8 +18,9 @@ fn shown(byte: u8) -> u8
     }
 }
 
-/// The text with nothing in it but line feeds and printable ASCII, each line cut at 160 columns.
-pub(crate) fn plain_text(alloc: Global, text: &str) -> Result<String, AllocError>
+/// The text with nothing in it but line feeds and printable ASCII, each line cut at 160 columns; `?` stands for a byte of
+/// anything else. Only want of memory is an error (own profile).
+pub fn plain_text(alloc: Global, text: &str) -> Result<String, AllocError>
     ensures { IfOk result (λ out. All IsPlain (string_bytes out)) }
 {
     let mut out = String::new(alloc);

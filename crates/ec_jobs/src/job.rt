@@ -36,7 +36,7 @@ pub(crate) fn write_status<W: Write>(text: &mut Io<W>, bytes: &[u8], code: u8) -
 }
 
 /// Writes the line that refuses whole, with its status; takes no memory.
-pub(crate) fn refuse<W: Write>(refusal: Refusal, text: &mut Io<W>) -> Status
+pub fn refuse<W: Write>(refusal: Refusal, text: &mut Io<W>) -> Status
     requires { has_failed text.old ≡ false }
     ensures { Tells (λ w. w ≡ refused refusal) (used W.contents text.old text.new) result.code }
 {

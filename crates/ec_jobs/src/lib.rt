@@ -13,7 +13,7 @@ mod usage;
 
 pub use capturing::{run_capture, run_captured_plan};
 pub use doing::do_line;
-pub use job::{Status, run_plan_to};
+pub use job::{Status, refuse, run_plan_to};
 pub use late::Late;
 pub use law::{a_plan_is_true, a_yes_is_true, one_capture_each, one_least_each, one_output_each};
 pub use plain::run_plain;

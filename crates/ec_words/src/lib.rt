@@ -3,4 +3,4 @@
 
 mod words;
 
-pub use words::{LineFault, read_words};
+pub use words::{LineFault, Words, read_words};

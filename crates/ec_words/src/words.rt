@@ -3,6 +3,7 @@
 ghost use Rattle.std.specs.Prelude.{◌≡◌, IfOk, IfSome};
 ghost use Rattle.ec_lines.specs.Words.{JobFits, HasPath, MayHaveOut};
 ghost use Rattle.ec_words.specs.Numbers.{HasNumbersOf};
+ghost use Rattle.ec_words.specs.Pictures.{MayHavePicture};
 ghost use Rattle.ec_words.specs.declared.words.LineFault.TheVariants.{Memory};
 
 use clap::error::ErrorKind;
@@ -25,6 +26,45 @@ impl From<AllocError> for LineFault {
     fn from(_error: AllocError) -> LineFault {
         LineFault::Memory
     }
+}
+
+/// The words of a command line: its job with the certificate's paths, and what else they name.
+#[derive(Debug, Drop)]
+pub struct Words {
+    pub line: Line,
+    /// The path of the units; none where they come on standard input.
+    pub units: Option<String>,
+    /// The path of a picture to write.
+    pub picture: Option<String>,
+}
+
+/// What the help says of the units, the statuses and the formats.
+const AFTER_HELP: &str =
+    "The units are read from FILE, or from standard input where FILE is - or isn't given.\n\
+The text goes to standard output, and what a refusal means to standard error.\n\n\
+Exit statuses: 0 optimal, least or done; 1 no plan; 2 unproved; 3 refused input;\n\
+4 reading, writing or memory failed; 5 words that are no command, or this help.\n\n\
+docs/FORMATS.md describes the unit text, what each command writes, and each refusal.\n";
+
+/// The path of the units.
+fn file_arg<'a>(alloc: Global) -> Arg<'a> {
+    Arg::new(alloc, "file")
+        .value_name("FILE")
+        .action(ArgAction::Set)
+        .help("The units; standard input where it is - or isn't given")
+}
+
+/// The command `cost`.
+fn cost_command<'a>(alloc: Global) -> Result<Command<'a>, AllocError> {
+    let picture = Arg::new(alloc, "svg")
+        .long("svg")
+        .value_name("PATH")
+        .action(ArgAction::Set)
+        .help("Where to write a picture of the ticks, as SVG");
+    Command::new(alloc, "cost")
+        .about("Tells what each tick costs at the places in the units")
+        .arg(picture)?
+        .arg(file_arg(alloc))
 }
 
 /// The command `plan`.
@@ -52,7 +92,8 @@ fn plan_command<'a>(alloc: Global) -> Result<Command<'a>, AllocError> {
         .about("Finds a plan whose busiest tick is least, and its certificate")
         .arg(workers)?
         .arg(nodes)?
-        .arg(out)
+        .arg(out)?
+        .arg(file_arg(alloc))
 }
 
 /// The command `check`.
@@ -65,7 +106,8 @@ fn check_command<'a>(alloc: Global) -> Result<Command<'a>, AllocError> {
         .help("The certificate to check");
     Command::new(alloc, "check")
         .about("Checks a certificate for the units")
-        .arg(cert)
+        .arg(cert)?
+        .arg(file_arg(alloc))
 }
 
 /// The command `frames`.
@@ -83,20 +125,20 @@ fn frames_command<'a>(alloc: Global) -> Result<Command<'a>, AllocError> {
     Command::new(alloc, "frames")
         .about("Tells the FMMU records of the slaves and the frames of each tick")
         .arg(cert)?
-        .arg(pcap)
+        .arg(pcap)?
+        .arg(file_arg(alloc))
 }
 
 /// All commands.
 fn all_commands<'a>(alloc: Global) -> Result<Command<'a>, AllocError> {
-    let cost = Command::new(alloc, "cost").about(
-        "Tells what each tick costs at the places in the units",
-    );
     Command::new(alloc, "ecplan")
         .bin_name("ecplan")?
-        .about("Plans the cyclic frames of an EtherCAT line; the units come on standard input")
+        .about("Plans the cyclic frames of an EtherCAT line")
+        .version("0.1.0")
+        .after_help(AFTER_HELP)
         .no_binary_name(true)
         .subcommand_required(true)
-        .subcommand(cost)?
+        .subcommand(cost_command(alloc)?)?
         .subcommand(plan_command(alloc)?)?
         .subcommand(check_command(alloc)?)?
         .subcommand(frames_command(alloc)?)
@@ -195,25 +237,68 @@ fn frames_line(alloc: Global, matches: &ArgMatches<'_>) -> Result<Line, LineFaul
     }
 }
 
-/// Reads the words after the program's name: `cost`, `plan`, `check` or `frames`, with its options.
-pub fn read_words(alloc: Global, words: &[String]) -> Result<Line, LineFault>
+/// The line of a command with these options.
+fn line_of(alloc: Global, command: &str, matches: &ArgMatches<'_>) -> Result<Line, LineFault>
     ensures within { IfOk result (λ line. JobFits line.job) }
     ensures paths { IfOk result (λ line. HasPath line.job line.cert) }
     ensures out { IfOk result (λ line. MayHaveOut line.job line.out) }
+{
+    match command {
+        "cost" => Ok(Line {
+            job: Job::Cost,
+            cert: None,
+            out: None,
+        }),
+        "plan" => plan_line(alloc, matches),
+        "check" => check_line(alloc, matches),
+        "frames" => frames_line(alloc, matches),
+        _ => Err(refused(alloc, "error: no command\n")),
+    }
+}
+
+/// The path of the units, where they don't come on standard input.
+fn units_path(alloc: Global, matches: &ArgMatches<'_>) -> Result<Option<String>, AllocError> {
+    match matches.get_str("file") {
+        None | Some("-") => Ok(None),
+        Some(path) => Ok(Some(String::from_str(alloc, path)?)),
+    }
+}
+
+/// The path of a picture of costs; no other job has one.
+fn picture_path(
+    alloc: Global,
+    job: &Job,
+    matches: &ArgMatches<'_>,
+) -> Result<Option<String>, AllocError>
+    ensures { IfOk result (λ path. MayHavePicture job.now path) }
+{
+    let (Job::Cost, Some(path)) = (job, matches.get_str("svg")) else {
+        return Ok(None);
+    };
+    Ok(Some(String::from_str(alloc, path)?))
+}
+
+/// Reads the words after the program's name: `cost`, `plan`, `check` or `frames`, with its options and the path of the
+/// units.
+pub fn read_words(alloc: Global, words: &[String]) -> Result<Words, LineFault>
+    ensures within { IfOk result (λ words. JobFits words.line.job) }
+    ensures paths { IfOk result (λ words. HasPath words.line.job words.line.cert) }
+    ensures out { IfOk result (λ words. MayHaveOut words.line.job words.line.out) }
+    ensures picture { IfOk result (λ words. MayHavePicture words.line.job words.picture) }
 {
     let matches = match all_commands(alloc)?.try_get_matches_from(words) {
         Ok(matches) => matches,
         Err(error) => return Err(fault_of(alloc, error)),
     };
-    match matches.subcommand() {
-        Some(("cost", _)) => Ok(Line {
-            job: Job::Cost,
-            cert: None,
-            out: None,
-        }),
-        Some(("plan", options)) => plan_line(alloc, options),
-        Some(("check", options)) => check_line(alloc, options),
-        Some(("frames", options)) => frames_line(alloc, options),
-        _ => Err(refused(alloc, "error: no command\n")),
-    }
+    let Some((command, options)) = matches.subcommand() else {
+        return Err(refused(alloc, "error: no command\n"));
+    };
+    let line = line_of(alloc, command, options)?;
+    let picture = picture_path(alloc, &line.job, options)?;
+    let units = units_path(alloc, options)?;
+    Ok(Words {
+        line,
+        units,
+        picture,
+    })
 }

@@ -1,5 +1,6 @@
 //! What is told on standard error, after the job.
 
+use crate::telling::tell_reason;
 use ec_explain::{Inputs, advice, explain};
 use ec_lines::Line;
 use std::alloc::{AllocError, Global};
@@ -149,15 +150,37 @@ fn refusal_text<'x, R: Files + AllocGlobal>(
     explain(rt.alloc(), refused, &inputs)
 }
 
-/// Tells on standard error what a refusal means, or what would help a search that ended without a proof. Where that can't
-/// be written or made, nothing is told.
-pub(crate) fn remark<'x, R: Files + AllocGlobal + Eprint>(rt: &R, line: &'x Line, left: Left<'x>) {
+/// Tells that the units at a path couldn't be read, if they have a path and that is what failed; else false.
+fn tells_units<R: AllocGlobal + Eprint>(
+    rt: &R,
+    path: &Option<String>,
+    fault: Option<ErrorKind>,
+) -> bool {
+    let (Some(path), Some(kind)) = (path, fault) else {
+        return false;
+    };
+    let error = io::Error::from(kind);
+    tell_reason(rt, "The units cannot be read from", path.as_str(), error);
+    true
+}
+
+/// Tells on standard error what a refusal of the units at a path, or on standard input, means, or what would help a search
+/// that ended without a proof. Where that can't be written or made, nothing is told.
+pub(crate) fn remark<'x, R: Files + AllocGlobal + Eprint>(
+    rt: &R,
+    line: &'x Line,
+    path: &Option<String>,
+    left: Left<'x>,
+) {
     let Ok(text) = std::str::from_utf8(left.text) else {
         return;
     };
     let first = text.lines().next().unwrap_or("");
     if !first.starts_with("refused ") {
         let _ = rt.eprint(advice(text));
+        return;
+    }
+    if tells_units(rt, path, left.fault) {
         return;
     }
     if let Ok(told) = refusal_text(rt, first, line, left) {

@@ -44,7 +44,7 @@ fn said_by<F: Files>(
     words: &str,
 ) -> Result<String, Fail> {
     let words = words_of(alloc, words)?;
-    let line = read_words(alloc, &words).ok().ok_or("a line")?;
+    let asked = read_words(alloc, &words).ok().ok_or("a line")?;
     let mut bytes = Counted {
         rest: MEETING.as_bytes(),
         calls: 0,
@@ -52,7 +52,7 @@ fn said_by<F: Files>(
     let mut held = Slow::new(alloc, 99);
     let mut units = Io::new(&mut bytes);
     let mut text = Io::new(&mut held);
-    let status = do_line(files, wait, alloc, &line, &mut units, &mut text);
+    let status = do_line(files, wait, alloc, &asked.line, &mut units, &mut text);
     drop(units);
     drop(text);
     let reads = bytes.calls;

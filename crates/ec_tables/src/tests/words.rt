@@ -1,7 +1,7 @@
 //! The command line.
 
 use ec_lines::{Job, Line};
-use ec_words::{LineFault, read_words};
+use ec_words::{LineFault, Words, read_words};
 use std::alloc::{AllocError, Global};
 use std::fmt::Write;
 
@@ -40,11 +40,22 @@ fn line_text(alloc: Global, line: &Line) -> Result<String, AllocError> {
     }
 }
 
+/// The line of some words, and behind it the paths of the units and of the picture, where one is given.
+fn words_text(alloc: Global, words: &Words) -> Result<String, AllocError> {
+    let mut text = line_text(alloc, &words.line)?;
+    if words.units.is_some() || words.picture.is_some() {
+        let units = path_of(&words.units);
+        let picture = path_of(&words.picture);
+        write!(text, " {units} {picture}")?;
+    }
+    Ok(text)
+}
+
 /// What words are answered with: their line, or the text of their refusal.
 fn answer_to(alloc: Global, text: &str) -> Result<String, AllocError> {
     let words = words_of(alloc, text)?;
     match read_words(alloc, &words) {
-        Ok(line) => line_text(alloc, &line),
+        Ok(words) => words_text(alloc, &words),
         Err(LineFault::Refused { text }) => format!(in alloc; "<{text}>"),
         Err(LineFault::Memory) => Err(AllocError),
     }
@@ -82,7 +93,23 @@ const LINES: &str = "cost : <cost - ->|\
     plan --out line.cert : <plan 1 1000000 - line.cert>|\
     plan --workers 1 --nodes 8 --out p : <plan 1 8 - p>|\
     plan --out p --nodes 8 --workers 1 : <plan 1 8 - p>|\
-    plan --nodes 8 --out=p --workers=1 : <plan 1 8 - p>|";
+    plan --nodes 8 --out=p --workers=1 : <plan 1 8 - p>|\
+    cost line.toml : <cost - -> line.toml -|\
+    cost - : <cost - ->|\
+    cost --svg p.svg : <cost - -> - p.svg|\
+    cost --svg=p.svg line.toml : <cost - -> line.toml p.svg|\
+    cost line.toml --svg p.svg : <cost - -> line.toml p.svg|\
+    cost --svg - - : <cost - -> - -|\
+    cost cost : <cost - -> cost -|\
+    plan line.toml : <plan 1 1000000 - -> line.toml -|\
+    plan 5 : <plan 1 1000000 - -> 5 -|\
+    plan --out p --nodes 8 line.toml : <plan 1 8 - p> line.toml -|\
+    plan - --nodes 8 : <plan 1 8 - ->|\
+    check p --cert q : <check q -> p -|\
+    check --cert q - : <check q ->|\
+    frames p : <frames - -> p -|\
+    frames --cert q p : <frames q -> p -|\
+    frames --pcap p q : <capture - p> q -|";
 
 /// Words that are no command, with a part of what is told; of two the whole text.
 const REFUSED: &str = " : requires a subcommand|\
@@ -92,18 +119,21 @@ const REFUSED: &str = " : requires a subcommand|\
     frames --out p : unexpected argument '--out'|\
     frames --pcap : a value is required for '--pcap <PATH>'|\
     frames --pcap p --pcap q : '--pcap <PATH>' cannot be used multiple times|\
-    frames --pcap p q : unexpected argument 'q'|\
     cost --pcap p : unexpected argument '--pcap'|\
     check --cert p --pcap q : unexpected argument '--pcap'|\
     plan --pcap p : unexpected argument '--pcap'|\
-    frames p : unexpected argument 'p'|\
-    cost cost : unexpected argument 'cost'|\
+    frames p q : unexpected argument 'q'|\
+    frames --svg p : unexpected argument '--svg'|\
+    cost p q : unexpected argument 'q'|\
+    cost --svg : a value is required for '--svg <PATH>'|\
+    cost --svg p --svg q : '--svg <PATH>' cannot be used multiple times|\
     cost --out p : unexpected argument '--out'|\
     cost --cert p : unexpected argument '--cert'|\
     check : --cert <PATH>|\
     check --cert : a value is required for '--cert <PATH>'|\
-    check p --cert : unexpected argument 'p'|\
-    check --cert p more : unexpected argument 'more'|\
+    check p --cert : a value is required for '--cert <PATH>'|\
+    check p : --cert <PATH>|\
+    check --cert p more again : unexpected argument 'again'|\
     check --cert p --out q : unexpected argument '--out'|\
     check --cert p --cert p : '--cert <PATH>' cannot be used multiple times|\
     plan --cert p : unexpected argument '--cert'|\
@@ -118,7 +148,8 @@ const REFUSED: &str = " : requires a subcommand|\
     plan --nodes 5 --nodes 5 : '--nodes <N>' cannot be used multiple times|\
     plan --out : a value is required for '--out <PATH>'|\
     plan --out p --out q : '--out <PATH>' cannot be used multiple times|\
-    plan 5 : unexpected argument '5'|\
+    plan 5 6 : unexpected argument '6'|\
+    plan --svg p : unexpected argument '--svg'|\
     plan --workers 17 : <error: invalid value '17' for '--workers <N>': 17 is not in 1..=16\n\nFor more information, try '--help'.\n>|\
     resume : <error: unrecognized subcommand 'resume'\n\nUsage: ecplan <COMMAND>\n\nFor more information, try '--help'.\n>";
 
@@ -127,13 +158,18 @@ const HELP: &str = "--help : Usage: ecplan <COMMAND>|\
     -h : Usage: ecplan <COMMAND>|\
     help : Usage: ecplan <COMMAND>|\
     --help : Finds a plan whose busiest tick is least|\
-    cost --help : Usage: ecplan cost|\
-    plan --help : Usage: ecplan plan [OPTIONS]|\
+    --version : <ecplan 0.1.0\n>|\
+    -V : <ecplan 0.1.0\n>|\
+    --help : The units are read from FILE, or from standard input|\
+    --help : 3 refused input|\
+    --help : docs/FORMATS.md|\
+    cost --help : Usage: ecplan cost [OPTIONS] [FILE]|\
+    plan --help : Usage: ecplan plan [OPTIONS] [FILE]|\
     plan --help : [default: 1000000]|\
     plan --workers 1 --help : nodes of the search tree|\
     plan --help : How many workers search, 1 to 16|\
-    check --help : Usage: ecplan check --cert <PATH>|\
-    frames --help : Usage: ecplan frames [OPTIONS]|\
+    check --help : Usage: ecplan check --cert <PATH> [FILE]|\
+    frames --help : Usage: ecplan frames [OPTIONS] [FILE]|\
     frames --help : Where to write the frames as a capture file";
 
 #[test]

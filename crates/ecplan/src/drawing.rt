@@ -1,0 +1,27 @@
+//! The picture of the costs that were told.
+
+use ec_lines::placed_plan;
+use ec_picture::picture;
+use ec_unit_text::read_units;
+use std::alloc::Global;
+use std::io::{ErrorKind, Write};
+use std::rt::Files;
+use std::{fs, io};
+
+/// The units and their picture, of a unit text that was found right: only memory may be wanting.
+fn picture_of(alloc: Global, text: &[u8]) -> io::Result<String> {
+    let Ok(units) = read_units(alloc, text) else {
+        return Err(io::Error::from(ErrorKind::OutOfMemory));
+    };
+    let Ok(plan) = placed_plan(alloc, &units) else {
+        return Err(io::Error::from(ErrorKind::OutOfMemory));
+    };
+    Ok(picture(alloc, &units, &plan)?)
+}
+
+/// Writes the picture of a unit text, whose costs were told, to a path.
+pub(crate) fn draw<R: Files + AllocGlobal>(rt: &R, text: &[u8], path: &str) -> io::Result<()> {
+    let drawn = picture_of(rt.alloc(), text)?;
+    let mut file = fs::create(rt, path)?;
+    file.write_all(drawn.as_bytes())
+}

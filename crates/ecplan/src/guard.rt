@@ -1,0 +1,87 @@
+//! Files that are left as they are: the one that standard output goes to, and one that holds something else than what
+//! would be written there.
+
+use ec_lines::Job;
+use std::io::Read;
+use std::os::unix::fs::MetadataExt;
+use std::rt::Files;
+use std::{fs, io};
+
+/// What a path is written with.
+#[derive(Clone, Copy)]
+pub(crate) enum Content {
+    Certificate,
+    Capture,
+    Picture,
+}
+
+impl Content {
+    /// What a job writes to a path.
+    pub(crate) fn of(job: &Job) -> Content {
+        match job {
+            Job::Capture => Content::Capture,
+            _ => Content::Certificate,
+        }
+    }
+
+    /// How it begins.
+    fn front(self) -> &'static [u8] {
+        match self {
+            Content::Certificate => b"ecplan ",
+            Content::Capture => &[0x4D, 0x3C, 0xB2, 0xA1],
+            Content::Picture => b"<svg ",
+        }
+    }
+
+    /// What is told before the path of a file that is left as it is.
+    pub(crate) fn refusal(self) -> &'static str {
+        match self {
+            Content::Certificate => "The certificate is not written over the file",
+            Content::Capture => "The capture is not written over the file",
+            Content::Picture => "The picture is not written over the file",
+        }
+    }
+}
+
+/// Whether standard output goes to this file.
+fn is_output(files: &impl Files, found: &fs::Metadata) -> bool {
+    match fs::metadata(files, "/dev/stdout") {
+        Ok(output) => output.dev() == found.dev() && output.ino() == found.ino(),
+        Err(_) => false,
+    }
+}
+
+/// Whether the file at a path begins as the content does.
+fn holds<F: Files>(files: &F, path: &str, content: Content) -> io::Result<bool> {
+    let mut front = [0u8; 8];
+    let count = fs::open(files, path)?.read(&mut front)?;
+    Ok(front[..count].starts_with(content.front()))
+}
+
+/// Why what stands at a path is left as it is and not written over. None where nothing is lost: where nothing stands
+/// there, an empty file, one that begins as the content does, or what is no file, as a pipe.
+pub(crate) fn reason_to_keep<F: Files>(
+    files: &F,
+    path: &str,
+    content: Content,
+) -> Option<&'static str> {
+    let Ok(found) = fs::metadata(files, path) else {
+        return None;
+    };
+    if !found.is_file() {
+        return None;
+    }
+    if is_output(files, &found) {
+        return Some("Standard output goes to it: give another path");
+    }
+    if found.len() == 0 {
+        return None;
+    }
+    match holds(files, path, content) {
+        Ok(true) => None,
+        Ok(false) => Some(
+            "It holds something else: give another path, or take the file away first",
+        ),
+        Err(_) => Some("What it holds cannot be read: give another path"),
+    }
+}

@@ -1,0 +1,33 @@
+//! What is told on standard error of a path.
+
+use ec_explain::plain_text;
+use std::alloc::{AllocError, Global};
+
+/// What is told while the units are waited for.
+pub(crate) const WAITING: &str =
+    "ecplan waits for the units on standard input, up to an end of file (Ctrl-D); or name their file as a word.\n";
+
+/// A sentence about a path, and on a line of its own why.
+fn sentence(alloc: Global, words: &str, path: &str, why: &str) -> Result<String, AllocError> {
+    let text = format!(in alloc; "{words} \"{path}\".\n{why}.\n")?;
+    plain_text(alloc, text.as_str())
+}
+
+/// Tells a sentence that ends with a path, and why. Where that can't be written or made, nothing is told.
+pub(crate) fn tell_path<R: AllocGlobal + Eprint>(rt: &R, words: &str, path: &str, why: &str) {
+    if let Ok(text) = sentence(rt.alloc(), words, path, why) {
+        let _ = rt.eprint(text.as_str());
+    }
+}
+
+/// Tells a sentence that ends with a path, and the system's reason.
+pub(crate) fn tell_reason<R: AllocGlobal + Eprint>(
+    rt: &R,
+    words: &str,
+    path: &str,
+    reason: std::io::Error,
+) {
+    if let Ok(why) = reason.to_string(rt.alloc()) {
+        tell_path(rt, words, path, why.as_str());
+    }
+}
