@@ -1,4 +1,4 @@
--- From units, a certificate and what the checker answers to the frames that are written.
+-- From units, a certificate and what the checker answers to the frames, or the play, that are written.
 use Rattle.std.proofs.Common.{◌≡◌, ℕ, List, Option, Some, None, Result, Ok, Err, refl, sym, ap, subst, inl, inr}
 use Rattle.std.specs.Prelude.{◌⊎◌, IfSome, IfOk, IfErr}
 use Rattle.ec_units.specs.declared.slave.Place.{Place}
@@ -20,7 +20,7 @@ use Rattle.ec_lines.specs.declared.refusal.Refusal.{Refusal}
 use Rattle.ec_lines.specs.declared.refusal.Refusal.TheVariants as refusal
 use Rattle.ec_lines.specs.declared.job.Job.TheVariants as job
 use Rattle.ec_lines.specs.Framed.{IsPlacedPlan, IsBestPlanOf, IsCertPlan, IsFramedPlan}
-use Rattle.ec_lines.specs.Output.{Written, IsPlanFrames, IsFramesOutput, IsCertFrames, IsCertFramesOutput, IsFramesFor, IsOutput, Answers, refused, shown}
+use Rattle.ec_lines.specs.Output.{Written, IsBestText, IsOwnText, IsCertText, IsReadText, IsTextFor, IsOutput, Answers, refused, shown}
 use Rattle.ec_lines.specs.Refusals.{out_of_memory, IsFramesMemory}
 use Rattle.ec_answers.specs.Input.{AnswersUnits, ReadsTooMany}
 use Rattle.ec_answers.specs.Captures.{IsFramesFault, FramesFrom}
@@ -34,11 +34,11 @@ best_legal us c places h =
     subst (λ (ps : List Place). IsLegal (loads_of us.units) us.slots ps) (sym h.plan) (subst (IsBestPlan (loads_of us.units) us.slots) h.held h.right.head.best).0
 
 -- there is none
-pub framed_none : (us : Units) (c : CertView) → IsCertified us.units us.slots c → c.best ≡ None → IsCertFrames (units_view us) c (refused refusal.CertHasNoPlan)
-framed_none us c is e = (us, refl, inl (is, subst (λ (o : Option Best). IsPlanFrames (units_view us) o (refused refusal.CertHasNoPlan)) (sym e) refl))
+pub framed_none : (us : Units) (c : CertView) → IsCertified us.units us.slots c → c.best ≡ None → IsCertText IsFramesText (units_view us) c (refused refusal.CertHasNoPlan)
+framed_none us c is e = (us, refl, inl (is, subst (λ (o : Option Best). IsBestText IsFramesText (units_view us) o (refused refusal.CertHasNoPlan)) (sym e) refl))
 
 -- a no, which may be want of memory
-pub framed_no : (us : Units) (c : CertView) (f : CheckFault) → IsFaultOf us.units us.slots c f → IsFramesMemory (refusal.Check f) ⊎ IsCertFrames (units_view us) c (refused (refusal.Check f))
+pub framed_no : (us : Units) (c : CertView) (f : CheckFault) → IsFaultOf us.units us.slots c f → IsFramesMemory (refusal.Check f) ⊎ IsCertText IsFramesText (units_view us) c (refused (refusal.Check f))
 framed_no us c f h = elim (memory_or f) [
   | inl e ↦ inl (inr (inr (inl (ap (λ (g : CheckFault). refusal.Check g) e))))
   | inr other ↦ inr (us, refl, inr (f, other, h, refl))
@@ -53,7 +53,7 @@ pub plan_legal : (us : Units) (c : CertView) (r : Result Plan Refusal) → IfOk 
 plan_legal us c (Ok p) h = best_legal us c p.places h
 plan_legal us c (Err r) h = tt
 
-pub plan_err : (us : Units) (text : List ℕ) (c : CertView) (r : Result Plan Refusal) → cert_reading text ≡ Ok c → IfErr r (λ e. IsFramesMemory e ⊎ IsCertFrames (units_view us) c (refused e)) → IfErr r (λ e. IsFramesMemory e ⊎ IsCertFramesOutput (units_view us) text (refused e))
+pub plan_err : (us : Units) (text : List ℕ) (c : CertView) (r : Result Plan Refusal) → cert_reading text ≡ Ok c → IfErr r (λ e. IsFramesMemory e ⊎ IsCertText IsFramesText (units_view us) c (refused e)) → IfErr r (λ e. IsFramesMemory e ⊎ IsReadText IsFramesText (units_view us) text (refused e))
 plan_err us text c (Ok p) said h = tt
 plan_err us text c (Err e) said (inl memory) = inl memory
 plan_err us text c (Err e) said (inr h) = inr (rw said h)
@@ -71,7 +71,7 @@ pub placed_known : (left : Option (List ℕ)) (us : Units) (plan : Plan) → IfS
 placed_known None us plan read h = tt
 placed_known (Some bytes) us plan read h = (read.0, read.1, h)
 
-pub unplaced_known : (left : Option (List ℕ)) (us : Units) (r : Refusal) (answer : Result (Units × Plan) Refusal) → answer ≡ Err r → IfSome left (AnswersUnits (Ok us)) → (IsFramesMemory r ⊎ IsFramesOutput (units_view us) (refused r)) → IfSome left (FramesFrom None answer)
+pub unplaced_known : (left : Option (List ℕ)) (us : Units) (r : Refusal) (answer : Result (Units × Plan) Refusal) → answer ≡ Err r → IfSome left (AnswersUnits (Ok us)) → (IsFramesMemory r ⊎ IsOwnText IsFramesText (units_view us) (refused r)) → IfSome left (FramesFrom None answer)
 unplaced_known None us r answer is read h = tt
 unplaced_known (Some bytes) us r answer is read (inl memory) = rw is (inl memory)
 unplaced_known (Some bytes) us r answer is read (inr h) = rw is (inr (inl (read.0, rw read.1 h)))
@@ -88,7 +88,7 @@ certified_known (Some bytes) None us plan v read same h = tt
 certified_known (Some bytes) (Some t) us plan v read same h = (read.0, read.1, subst (λ (w : List ℕ). IsCertPlan w (units_view us) plan.places) same h)
 
 pub uncertified_known : (left text : Option (List ℕ)) (us : Units) (v : List ℕ) (r : Refusal) (answer : Result (Units × Plan) Refusal) → answer ≡ Err r → IfSome left (AnswersUnits (Ok us)) → IfSome text (λ all. v ≡ all)
-    → (IsFramesMemory r ⊎ IsCertFramesOutput (units_view us) v (refused r)) → IfSome left (λ bytes. IfSome text (λ t. FramesFrom (Some t) answer bytes))
+    → (IsFramesMemory r ⊎ IsReadText IsFramesText (units_view us) v (refused r)) → IfSome left (λ bytes. IfSome text (λ t. FramesFrom (Some t) answer bytes))
 uncertified_known None text us v r answer is read same h = tt
 uncertified_known (Some bytes) None us v r answer is read same h = tt
 uncertified_known (Some bytes) (Some t) us v r answer is read same (inl memory) = rw is (inl memory)
@@ -109,20 +109,20 @@ unread_units (Some bytes) (Some t) r answer is h = rw is (units_fault (Some t) b
 
 -- ---- what is written for them
 
--- the text of the frames of the plan
-pub framed_for : (cert : Option (List ℕ)) (v : UnitsView) (places : List Place) (w : Written) → IsFramedPlan cert v places → IsFramesText v places w.text → w.code ≡ 0 → IsFramesFor cert v w
-framed_for None v places w plan text code = rw plan.all (inr (
+-- the text of the plan
+pub text_for : (IsText : UnitsView → List Place → List ℕ → Type 0) (cert : Option (List ℕ)) (v : UnitsView) (places : List Place) (w : Written) → IsFramedPlan cert v places → IsText v places w.text → w.code ≡ 0 → IsTextFor IsText cert v w
+text_for IsText None v places w plan text code = rw plan.all (inr (
   subst (λ (ps : List Place). IsLegal (view_loads v.units) v.slots ps) plan.given plan.legal,
-  subst (λ (ps : List Place). IsFramesText v ps w.text) plan.given text,
+  subst (λ (ps : List Place). IsText v ps w.text) plan.given text,
   code,
 ))
-framed_for (Some t) v places w plan text code =
-    let own : IsFramesText (units_view plan.units) plan.plan.best.plan.places w.text =
-    subst (λ (u : UnitsView). IsFramesText u plan.plan.best.plan.places w.text) (sym plan.seen) (subst (λ (ps : List Place). IsFramesText v ps w.text) plan.plan.plan text) in
-    rw plan.said (plan.units, plan.seen, inl (plan.plan.right, subst (λ (o : Option Best). IsPlanFrames (units_view plan.units) o w) (sym plan.plan.held) (own, code)))
+text_for IsText (Some t) v places w plan text code =
+    let own : IsText (units_view plan.units) plan.plan.best.plan.places w.text =
+    subst (λ (u : UnitsView). IsText u plan.plan.best.plan.places w.text) (sym plan.seen) (subst (λ (ps : List Place). IsText v ps w.text) plan.plan.plan text) in
+    rw plan.said (plan.units, plan.seen, inl (plan.plan.right, subst (λ (o : Option Best). IsBestText IsText (units_view plan.units) o w) (sym plan.plan.held) (own, code)))
 
 framed_output : (cert : Option (List ℕ)) (bytes : List ℕ) (us : Units) (plan : Plan) (w : Written) → FramesFrom cert (Ok (us, plan)) bytes → IsFramesText (units_view us) plan.places w.text → w.code ≡ 0 → IsOutput job.Frames bytes cert w
-framed_output cert bytes us plan w from text code = inl (from.0, rw from.1 (framed_for cert (units_view us) plan.places w from.2 text code))
+framed_output cert bytes us plan w from text code = inl (from.0, rw from.1 (text_for IsFramesText cert (units_view us) plan.places w from.2 text code))
 
 answered : (cert : Option (List ℕ)) (bytes : List ℕ) (us : Units) (plan : Plan) (answer : Result Answer Refusal) → FramesFrom cert (Ok (us, plan)) bytes → Answers job.Frames answer (λ w. IsFramesText (units_view us) plan.places w.text × (w.code ≡ 0)) → Answers job.Frames answer (IsOutput job.Frames bytes cert)
 answered cert bytes us plan (Ok a) from h = framed_output cert bytes us plan (shown a) from h.0 h.1

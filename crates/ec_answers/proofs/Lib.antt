@@ -2,3 +2,4 @@ pub mod CaptureLemmas
 pub mod CheckedLemmas
 pub mod FramedLemmas
 pub mod PlanLemmas
+pub mod PlayedLemmas

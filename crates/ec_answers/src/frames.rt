@@ -10,7 +10,8 @@ ghost use Rattle.ec_loads.specs.Held.{no_places};
 ghost use Rattle.ec_loads.specs.Legal.{IsLegal};
 ghost use Rattle.ec_units.specs.Views.{units_view};
 ghost use Rattle.ec_lines.specs.Framed.{IsBestPlanOf, IsCertPlan};
-ghost use Rattle.ec_lines.specs.Output.{Answers, IsCertFrames, IsCertFramesOutput, IsOutput, refused};
+ghost use Rattle.ec_frame_lines.specs.Lines.{IsFramesText};
+ghost use Rattle.ec_lines.specs.Output.{Answers, IsCertText, IsReadText, IsOutput, refused};
 ghost use Rattle.ec_lines.specs.Refusals.{IsFramesMemory};
 ghost use Rattle.ec_lines.specs.declared.job.Job.TheVariants.{Frames};
 
@@ -30,7 +31,7 @@ use std::io::Read;
 fn best_plan(loads: &mut Loads, units: &Units, cert: Cert) -> Result<Plan, Refusal>
     requires { loads.old ≡ record { loads = loads_of units.now.units; slots = units.now.slots; places = no_places (loads_of units.now.units) } }
     ensures ok { IfOk result (λ plan. IsBestPlanOf units.now (cert_view cert) plan.places) }
-    ensures err { IfErr result (λ r. IsFramesMemory r ⊎ IsCertFrames (units_view units.now) (cert_view cert) (refused r)) }
+    ensures err { IfErr result (λ r. IsFramesMemory r ⊎ IsCertText IsFramesText (units_view units.now) (cert_view cert) (refused r)) }
 {
     if let Err(fault) = check_in(loads, units, &cert) {
         return Err(Refusal::Check(fault));
@@ -47,7 +48,7 @@ fn text_plan(alloc: Global, loads: &mut Loads, units: &Units, text: &[u8]) -> Re
     requires { loads.old ≡ record { loads = loads_of units.now.units; slots = units.now.slots; places = no_places (loads_of units.now.units) } }
     ensures ok { IfOk result (λ plan. IsCertPlan text.now (units_view units.now) plan.places) }
     ensures legal { IfOk result (λ plan. IsLegal (loads_of units.now.units) units.now.slots plan.places) }
-    ensures err { IfErr result (λ r. IsFramesMemory r ⊎ IsCertFramesOutput (units_view units.now) text.now (refused r)) }
+    ensures err { IfErr result (λ r. IsFramesMemory r ⊎ IsReadText IsFramesText (units_view units.now) text.now (refused r)) }
 {
     let cert = read_cert(alloc, text)?;
     best_plan(loads, units, cert)

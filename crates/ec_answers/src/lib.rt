@@ -7,9 +7,11 @@ mod cost;
 mod frames;
 mod input;
 mod plan;
+mod play;
 
 pub use capture::{captured_answer, captured_plan};
 pub use check::whole_answer;
 pub use cost::cost_answer;
 pub use frames::{frames_answer, planned_frames};
 pub use plan::{certified_answer, plan_answer};
+pub use play::{planned_play, played_answer};

@@ -12,8 +12,12 @@ use ec_fmmu::Mapping;
 use ec_units::Units;
 use std::alloc::{AllocError, Global};
 
-/// An image of zeros.
-pub(crate) fn blank(alloc: Global, mapping: &Mapping) -> Result<Vec<u8>, AllocError>
+/// An image of zeros: a byte for each process byte of the layout.
+///
+/// # Errors
+///
+/// `AllocError` where memory ran out.
+pub fn blank(alloc: Global, mapping: &Mapping) -> Result<Vec<u8>, AllocError>
     ensures { IfOk result (λ v. v.items ≡ zeros mapping.now) }
 {
     vec![in alloc; 0u8; mapping.total as usize]

@@ -14,17 +14,20 @@ use Rattle.ec_cert_text.specs.Reading.{reading as cert_reading}
 use Rattle.ec_cert.specs.declared.cert.Best.{Best}
 use Rattle.ec_cert.specs.Shapes.{CertView}
 use Rattle.ec_checker.specs.Certified.{verdict_of}
+use Rattle.ec_frame_lines.specs.Lines.{IsFramesText}
 use Rattle.ec_frame_lines.proofs.OnceLemmas.{frames_once}
+use Rattle.ec_play_lines.specs.Plays.{IsPlayText}
+use Rattle.ec_play_lines.proofs.PlayLemmas.{play_once}
 use Rattle.ec_lines.specs.declared.refusal.Refusal.{Refusal}
 use Rattle.ec_lines.specs.declared.refusal.Refusal.TheVariants as refusal
 use Rattle.ec_lines.specs.declared.job.Job.{Job}
 use Rattle.ec_lines.specs.declared.job.Job.TheVariants as job
 use Rattle.ec_lines.specs.Lines.{cost_lines}
-use Rattle.ec_lines.specs.Output.{Written, IsOutput, IsUnitsOutput, IsCheckedOutput, IsPlacedOutput, IsPlacedFrames, IsPlanFrames, IsCertFramesOf, IsCertFrames, IsCostText, refused, verdict_output, first_unplaced, places_of}
+use Rattle.ec_lines.specs.Output.{Written, IsOutput, IsUnitsOutput, IsCheckedOutput, IsPlacedOutput, IsPlacedText, IsBestText, IsCertTextOf, IsCertText, IsTextFor, IsCostText, refused, verdict_output, first_unplaced, places_of}
 use Rattle.ec_lines.specs.Refusals.{refusal_code}
 use Rattle.ec_jobs.proofs.OneCheck.{checked_once}
 use Rattle.ec_jobs.proofs.OneIllegal.{neither_less, illegal_once, legal_none}
-use Rattle.ec_jobs.proofs.SoundLemmas.{code_above}
+use Rattle.ec_lines.proofs.RefusalLemmas.{code_above}
 
 -- there is one first busiest tick
 top_once : (xs : List Item) (n b c t u : ℕ) → IsFirstBusiest xs n b t → IsFirstBusiest xs n c u → (b ≡ c) × (t ≡ u)
@@ -58,21 +61,28 @@ cert_once : (v : UnitsView) (r : Result CertView CertFault) (a b : Written) → 
 cert_once v (Ok c) a b p q = checked_once v c a b p q
 cert_once v (Err f) a b p q = p ∙ sym q
 
-frames_placed : (v : UnitsView) (ps : List Place) (a b : Written) → IsPlacedFrames v ps a → IsPlacedFrames v ps b → a ≡ b
-frames_placed v ps a b (inl p) (inl q) =
+-- a text of units at places that there is once
+abbrev Texts : Type 1
+Texts = UnitsView → List Place → List ℕ → Type 0
+
+abbrev Once : Texts → Type 0
+Once T = (v : UnitsView) (ps : List Place) (a b : List ℕ) → T v ps a → T v ps b → a ≡ b
+
+text_placed : (T : Texts) → Once T → (v : UnitsView) (ps : List Place) (a b : Written) → IsPlacedText T v ps a → IsPlacedText T v ps b → a ≡ b
+text_placed T once v ps a b (inl p) (inl q) =
     p.2 ∙ ap (λ (f : Illegal). refused (refusal.Illegal f)) (illegal_once (view_loads v.units) v.slots ps p.0 q.0 p.1 q.1) ∙ sym q.2
-frames_placed v ps a b (inl p) (inr q) = absurd (legal_none (view_loads v.units) v.slots ps p.0 q.0 p.1)
-frames_placed v ps a b (inr p) (inl q) = absurd (legal_none (view_loads v.units) v.slots ps q.0 p.0 q.1)
-frames_placed v ps a b (inr p) (inr q) =
-    let text : a.text ≡ b.text = frames_once v ps a.text b.text p.1 q.1 in
+text_placed T once v ps a b (inl p) (inr q) = absurd (legal_none (view_loads v.units) v.slots ps p.0 q.0 p.1)
+text_placed T once v ps a b (inr p) (inl q) = absurd (legal_none (view_loads v.units) v.slots ps q.0 p.0 q.1)
+text_placed T once v ps a b (inr p) (inr q) =
+    let text : a.text ≡ b.text = once v ps a.text b.text p.1 q.1 in
     let code : a.code ≡ b.code = p.2 ∙ sym q.2 in
     (λ i. record { text = text i; code = code i })
 
--- the frames of a certificate's plan
-frames_planned : (v : UnitsView) (best : Option Best) (a b : Written) → IsPlanFrames v best a → IsPlanFrames v best b → a ≡ b
-frames_planned v None a b p q = p ∙ sym q
-frames_planned v (Some best) a b p q =
-    let text : a.text ≡ b.text = frames_once v best.plan.places a.text b.text p.0 q.0 in
+-- that of a certificate's plan
+text_planned : (T : Texts) → Once T → (v : UnitsView) (best : Option Best) (a b : Written) → IsBestText T v best a → IsBestText T v best b → a ≡ b
+text_planned T once v None a b p q = p ∙ sym q
+text_planned T once v (Some best) a b p q =
+    let text : a.text ≡ b.text = once v best.plan.places a.text b.text p.0 q.0 in
     let code : a.code ≡ b.code = p.1 ∙ sym q.1 in
     (λ i. record { text = text i; code = code i })
 
@@ -85,21 +95,26 @@ yes_or_no best r e =
     let code : (verdict_output (verdict_of best)).code ≡ refusal_code r = ap (λ (w : Written). w.code) e in
     absurd (omega (arith, code, verdict_code best, code_above r))
 
-certified_of : (v : UnitsView) (c : CertView) (a b : Written) (us vs : Units) → units_view us ≡ v → units_view vs ≡ v → IsCertFramesOf us c a → IsCertFramesOf vs c b → a ≡ b
-certified_of v c a b us vs p q (inl h) (inl k) =
-    frames_planned v c.best a b (subst (λ (x : UnitsView). IsPlanFrames x c.best a) p h.1) (subst (λ (x : UnitsView). IsPlanFrames x c.best b) q k.1)
-certified_of v c a b us vs p q (inl h) (inr k) =
+certified_of : (T : Texts) → Once T → (v : UnitsView) (c : CertView) (a b : Written) (us vs : Units) → units_view us ≡ v → units_view vs ≡ v → IsCertTextOf T us c a → IsCertTextOf T vs c b → a ≡ b
+certified_of T once v c a b us vs p q (inl h) (inl k) =
+    text_planned T once v c.best a b (subst (λ (x : UnitsView). IsBestText T x c.best a) p h.1) (subst (λ (x : UnitsView). IsBestText T x c.best b) q k.1)
+certified_of T once v c a b us vs p q (inl h) (inr k) =
     yes_or_no c.best (refusal.Check k.0) (checked_once v c (verdict_output (verdict_of c.best)) (refused (refusal.Check k.0)) (us, p, inl (h.0, refl)) (vs, q, inr (k.0, k.1, k.2, refl)))
-certified_of v c a b us vs p q (inr h) (inl k) =
+certified_of T once v c a b us vs p q (inr h) (inl k) =
     yes_or_no c.best (refusal.Check h.0) (checked_once v c (verdict_output (verdict_of c.best)) (refused (refusal.Check h.0)) (vs, q, inl (k.0, refl)) (us, p, inr (h.0, h.1, h.2, refl)))
-certified_of v c a b us vs p q (inr h) (inr k) = checked_once v c a b (us, p, inr h) (vs, q, inr k)
+certified_of T once v c a b us vs p q (inr h) (inr k) = checked_once v c a b (us, p, inr h) (vs, q, inr k)
 
-certified_frames : (v : UnitsView) (c : CertView) (a b : Written) → IsCertFrames v c a → IsCertFrames v c b → a ≡ b
-certified_frames v c a b p q = certified_of v c a b p.0 q.0 p.1 q.1 p.2 q.2
+certified_text : (T : Texts) → Once T → (v : UnitsView) (c : CertView) (a b : Written) → IsCertText T v c a → IsCertText T v c b → a ≡ b
+certified_text T once v c a b p q = certified_of T once v c a b p.0 q.0 p.1 q.1 p.2 q.2
 
-cert_frames : (v : UnitsView) (r : Result CertView CertFault) (a b : Written) → MatchResult r (λ c. IsCertFrames v c a) (λ f. a ≡ refused (refusal.Cert f)) → MatchResult r (λ c. IsCertFrames v c b) (λ f. b ≡ refused (refusal.Cert f)) → a ≡ b
-cert_frames v (Ok c) a b p q = certified_frames v c a b p q
-cert_frames v (Err f) a b p q = p ∙ sym q
+cert_text : (T : Texts) → Once T → (v : UnitsView) (r : Result CertView CertFault) (a b : Written) → MatchResult r (λ c. IsCertText T v c a) (λ f. a ≡ refused (refusal.Cert f)) → MatchResult r (λ c. IsCertText T v c b) (λ f. b ≡ refused (refusal.Cert f)) → a ≡ b
+cert_text T once v (Ok c) a b p q = certified_text T once v c a b p q
+cert_text T once v (Err f) a b p q = p ∙ sym q
+
+text_once_for : (T : Texts) → Once T → (cert : Option (List ℕ)) (v : UnitsView) (a b : Written) → IsTextFor T cert v a → IsTextFor T cert v b → a ≡ b
+text_once_for T once None v a b p q =
+    option_once (first_unplaced v.units) (IsPlacedText T v (places_of v.units)) (λ n. refused (refusal.NoPlace n)) (text_placed T once v (places_of v.units)) a b p q
+text_once_for T once (Some text) v a b p q = cert_text T once v (cert_reading text) a b p q
 
 units_once : (j : Job) (cert : Option (List ℕ)) (v : UnitsView) (a b : Written) → IsUnitsOutput j cert v a → IsUnitsOutput j cert v b → a ≡ b
 units_once job.Cost cert v a b p q =
@@ -107,12 +122,9 @@ units_once job.Cost cert v a b p q =
 units_once (job.Plan workers nodes) cert v a b p q = absurd p
 units_once job.Check None v a b p q = absurd p
 units_once job.Check (Some text) v a b p q = cert_once v (cert_reading text) a b p q
-units_once job.Frames None v a b p q =
-    option_once (first_unplaced v.units) (IsPlacedFrames v (places_of v.units)) (λ n. refused (refusal.NoPlace n)) (frames_placed v (places_of v.units)) a b p q
-units_once job.Frames (Some text) v a b p q = cert_frames v (cert_reading text) a b p q
-units_once job.Capture None v a b p q =
-    option_once (first_unplaced v.units) (IsPlacedFrames v (places_of v.units)) (λ n. refused (refusal.NoPlace n)) (frames_placed v (places_of v.units)) a b p q
-units_once job.Capture (Some text) v a b p q = cert_frames v (cert_reading text) a b p q
+units_once job.Frames cert v a b p q = text_once_for IsFramesText frames_once cert v a b p q
+units_once job.Capture cert v a b p q = text_once_for IsFramesText frames_once cert v a b p q
+units_once job.Play cert v a b p q = text_once_for IsPlayText play_once cert v a b p q
 
 result_once : (j : Job) (cert : Option (List ℕ)) (r : Result UnitsView UnitFault) (a b : Written) → MatchResult r (λ v. IsUnitsOutput j cert v a) (λ f. a ≡ refused (refusal.Unit f)) → MatchResult r (λ v. IsUnitsOutput j cert v b) (λ f. b ≡ refused (refusal.Unit f)) → a ≡ b
 result_once j cert (Ok v) a b p q = units_once j cert v a b p q

@@ -20,7 +20,7 @@ use Rattle.ec_lines.specs.Output.{Written, refused}
 use Rattle.ec_lines.specs.Refusals.{refusal_code}
 use Rattle.ec_answers.specs.Planned.{IsPlanWritten, outcome_cert}
 use Rattle.ec_jobs.specs.Sound.{TellsOptimal, TellsWithoutPlan, PlanIsTrue, OneLeastEach}
-use Rattle.ec_jobs.proofs.SoundLemmas.{code_above}
+use Rattle.ec_lines.proofs.RefusalLemmas.{code_above}
 
 abbrev Truth : List ℕ → Written → Option (List ℕ) → Type 0
 Truth bytes w cert = (w.code ≡ 0 → TellsOptimal bytes w cert) × (w.code ≡ 1 → TellsWithoutPlan bytes w cert)

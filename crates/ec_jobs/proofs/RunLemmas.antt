@@ -179,6 +179,7 @@ does_alone (job.Plan workers nodes) units cert out none no_out w h = either_none
 does_alone job.Check units cert out none no_out w h = absurd (either_none cert.old cert.new _ _ none h.0)
 does_alone job.Frames units cert out none no_out w h = either_none cert.old cert.new _ _ none h.0
 does_alone job.Capture units cert out none no_out w h = either_none cert.old cert.new _ _ none (either_none out.old out.new _ _ no_out h)
+does_alone job.Play units cert out none no_out w h = either_none cert.old cert.new _ _ none h.0
 
 -- and with one, of which nothing is known
 away : {R O : Type 0} (asked : Asked) (units : Use R) (out : Use O) (w : Written) → PlansTo asked units out w → PlansAway asked units w
@@ -206,6 +207,7 @@ does_away job.Cost units cert out o none there w h = h.0
 does_away (job.Plan workers nodes) units cert out o none there w h = let to = either_some out.old out.new _ _ o there h.0 in away (asked_for workers nodes) units (used out.tells o to.0) w to.1
 does_away job.Check units cert out o none there w h = absurd (either_none cert.old cert.new _ _ none h.0)
 does_away job.Frames units cert out o none there w h = either_none cert.old cert.new _ _ none h.0
+does_away job.Play units cert out o none there w h = either_none cert.old cert.new _ _ none h.0
 does_away job.Capture units cert out o none there w h =
     let to = either_some out.old out.new _ _ o there h in
     captures_away units (used out.tells o to.0) w (either_none cert.old cert.new _ _ none to.1)

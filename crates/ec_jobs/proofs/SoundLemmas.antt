@@ -2,7 +2,6 @@
 use Rattle.std.proofs.Common.{◌≡◌, ℕ, ◌≤◌, List, Option, Some, None, Result, Ok, Err, refl, ap, subst, inl, inr, arith}
 use Rattle.std.specs.Prelude.{MatchResult}
 use Rattle.ec_unit_text.specs.declared.fault.UnitFault.{UnitFault}
-use Rattle.ec_unit_text.specs.declared.fault.UnitFault.TheVariants as fault
 use Rattle.ec_units.specs.declared.unit.Load.{Load}
 use Rattle.ec_units.specs.declared.units.Units.{Units}
 use Rattle.ec_units.specs.Load.{loads_of}
@@ -12,10 +11,8 @@ use Rattle.ec_units.proofs.Viewed.{loads_of-views}
 use Rattle.ec_loads.specs.Search.{IsLeast, HasNoPlan}
 use Rattle.ec_cert.specs.declared.cert.Best.{Best}
 use Rattle.ec_cert_text.specs.declared.fault.CertFault.{CertFault}
-use Rattle.ec_cert_text.specs.declared.fault.CertFault.TheVariants as cert_fault
 use Rattle.ec_cert_text.specs.Reading.{reading as cert_reading}
 use Rattle.ec_cert.specs.Shapes.{CertView}
-use Rattle.ec_checker.specs.declared.fault.CheckFault.TheVariants as check_fault
 use Rattle.ec_checker.specs.Certified.{IsClaim, verdict_of}
 use Rattle.ec_checker.proofs.CheckLemmas.{claim_from}
 use Rattle.ec_tree.specs.Trees.{TreesBound}
@@ -25,24 +22,8 @@ use Rattle.ec_lines.specs.declared.job.Job.TheVariants as job
 use Rattle.ec_lines.specs.Lines.{least_line, no_plan_line}
 use Rattle.ec_lines.specs.Output.{Written, IsUnitsOutput, IsCheckedOf, IsCheckedOutput, refused, verdict_output}
 use Rattle.ec_lines.specs.Refusals.{refusal_code}
+use Rattle.ec_lines.proofs.RefusalLemmas.{code_above}
 use Rattle.ec_jobs.specs.Sound.{TellsLeast, TellsNoPlan, YesIsTrue}
-
--- a status of 0 or 1 is no refusal's
-pub code_above : (r : Refusal) → 3 ≤ refusal_code r
-code_above (refusal.Unit fault.OutOfMemory) = omega arith
-code_above (refusal.Unit f) = omega arith
-code_above (refusal.Illegal f) = omega arith
-code_above refusal.TooLarge = omega arith
-code_above (refusal.NoPlace n) = omega arith
-code_above refusal.Read = omega arith
-code_above (refusal.Cert cert_fault.OutOfMemory) = omega arith
-code_above (refusal.Cert f) = omega arith
-code_above (refusal.Check check_fault.OutOfMemory) = omega arith
-code_above (refusal.Check f) = omega arith
-code_above (refusal.Solve f) = omega arith
-code_above refusal.Write = omega arith
-code_above refusal.CertHasNoPlan = omega arith
-code_above refusal.FrameMemory = omega arith
 
 -- what is told of units, by what is claimed of their loads
 record Told (loads : List Load) (n : ℕ) (w : Written) : Type 0 where

@@ -155,16 +155,17 @@ pub record CapturesPlan {R C O : Type 0} (units : Use R) (cert : Use C) (out : U
   pub kept : HasFailed units → IsKept cert
   pub first : IfSome (before units) (λ bytes. ¬ (AreUnits bytes) → IsKept cert)
 
--- what frames do with the units and a certificate, if there is one
-abbrev pub TellsFrames : {R C : Type 0} → Use R → Lent C → Written → Type 0
-TellsFrames units cert w = IfLent cert (ForUnits job.Frames units w) (λ c. ForCert job.Frames units c w)
+-- what frames or a play do with the units and a certificate, if there is one
+abbrev pub TellsPlan : {R C : Type 0} → Job → Use R → Lent C → Written → Type 0
+TellsPlan j units cert w = IfLent cert (ForUnits j units w) (λ c. ForCert j units c w)
 
 -- what a job does with what it is lent, and what is to be written for it
 abbrev pub Does : {R C O : Type 0} → Job → Use R → Lent C → Lent O → Written → Type 0
 Does job.Cost units cert out w = Costs units w × IsLeft cert × IsLeft out
 Does job.Check units cert out w = IfLent cert ⊥ (λ c. Checks units c w) × IsLeft out
-Does job.Frames units cert out w = TellsFrames units cert w × IsLeft out
-Does job.Capture units cert out w = IfLent out (TellsFrames units cert w) (λ o. IfLent cert (Captures units o w) (λ c. CapturesPlan units c o w))
+Does job.Frames units cert out w = TellsPlan job.Frames units cert w × IsLeft out
+Does job.Capture units cert out w = IfLent out (TellsPlan job.Frames units cert w) (λ o. IfLent cert (Captures units o w) (λ c. CapturesPlan units c o w))
+Does job.Play units cert out w = TellsPlan job.Play units cert w × IsLeft out
 Does (job.Plan workers nodes) units cert out w = IfLent out (Plans (asked_for workers nodes) units w) (λ o. PlansTo (asked_for workers nodes) units o w) × IsLeft cert
 
 -- a run does its job, and tells what is to be written for it
@@ -190,6 +191,7 @@ DoesAlone (job.Plan workers nodes) units w = Plans (asked_for workers nodes) uni
 DoesAlone job.Check units w = Reads units 1048577 w
 DoesAlone job.Frames units w = ForUnits job.Frames units w
 DoesAlone job.Capture units w = ForUnits job.Frames units w
+DoesAlone job.Play units w = ForUnits job.Play units w
 
 -- and with one
 abbrev pub DoesAway : {R : Type 0} → Job → Use R → Written → Type 0
@@ -198,21 +200,23 @@ DoesAway (job.Plan workers nodes) units w = PlansAway (asked_for workers nodes) 
 DoesAway job.Check units w = Reads units 1048577 w
 DoesAway job.Frames units w = ForUnits job.Frames units w
 DoesAway job.Capture units w = CapturesAway units w
+DoesAway job.Play units w = ForUnits job.Play units w
 
--- frames; of those of a certificate, which isn't known, only what they read
-abbrev pub FramesAt : {R : Type 0} → Option (String Global) → Use R → Written → Type 0
-FramesAt None units w = ForUnits job.Frames units w
-FramesAt (Some path) units w = Reads units 1048577 w
+-- frames or a play; of those of a certificate, which isn't known, only what they read
+abbrev pub PlanAt : {R : Type 0} → Job → Option (String Global) → Use R → Written → Type 0
+PlanAt j None units w = ForUnits j units w
+PlanAt j (Some path) units w = Reads units 1048577 w
 
--- the same with the path of a capture file to write
+-- frames with the path of a capture file to write
 abbrev pub CaptureAt : {R : Type 0} → Option (String Global) → Option (String Global) → Use R → Written → Type 0
-CaptureAt cert None units w = FramesAt cert units w
+CaptureAt cert None units w = PlanAt job.Frames cert units w
 CaptureAt None (Some path) units w = CapturesAway units w
 CaptureAt (Some from) (Some path) units w = Reads units 1048577 w
 
 -- what a command line does with the units, and what is to be written for it: the job, the path of a certificate to read, and of a file to write
 abbrev pub DoesLine : {R : Type 0} → Job → Option (String Global) → Option (String Global) → Use R → Written → Type 0
-DoesLine job.Frames cert out units w = FramesAt cert units w
+DoesLine job.Frames cert out units w = PlanAt job.Frames cert units w
+DoesLine job.Play cert out units w = PlanAt job.Play cert units w
 DoesLine job.Capture cert out units w = CaptureAt cert out units w
 DoesLine j cert None units w = DoesAlone j units w
 DoesLine j cert (Some path) units w = DoesAway j units w
@@ -225,7 +229,7 @@ usage text = record { text = text; code = 5 }
 
 -- ---- what a caller brings
 
--- a check has a reader of a certificate, which has not failed, and frames may have one
+-- a check has a reader of a certificate, which has not failed, and frames and a play may have one
 abbrev pub HasCert : {C : Type 0} → Job → Option (Io C) → Type 0
 HasCert job.Cost cert = Unit {0}
 HasCert (job.Plan workers nodes) cert = Unit {0}
@@ -235,6 +239,8 @@ HasCert job.Frames None = Unit {0}
 HasCert job.Frames (Some cert) = has_failed cert ≡ false
 HasCert job.Capture None = Unit {0}
 HasCert job.Capture (Some cert) = has_failed cert ≡ false
+HasCert job.Play None = Unit {0}
+HasCert job.Play (Some cert) = has_failed cert ≡ false
 
 -- if there is a reader, it has not failed
 abbrev pub NoneFailed : {C : Type 0} → Option (Io C) → Type 0
@@ -248,3 +254,4 @@ HasOut (job.Plan workers nodes) out = Unit {0}
 HasOut job.Check out = Unit {0}
 HasOut job.Frames out = Unit {0}
 HasOut job.Capture out = NoneFailed out
+HasOut job.Play out = Unit {0}

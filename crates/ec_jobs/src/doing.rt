@@ -2,8 +2,9 @@
 
 ghost use Rattle.std.specs.Prelude.{◌≡◌, None, false};
 ghost use Rattle.ec_wire.specs.Stream.{has_failed};
-ghost use Rattle.ec_jobs.specs.Runs.{used, Tells, Reads, Costs, CapturesAway, CaptureAt, FramesAt, DoesAlone, DoesAway, DoesLine};
+ghost use Rattle.ec_jobs.specs.Runs.{used, Tells, Reads, Costs, CapturesAway, CaptureAt, PlanAt, DoesAlone, DoesAway, DoesLine};
 ghost use Rattle.ec_lines.specs.Words.{HasPath, IsPlain, JobFits};
+ghost use Rattle.ec_lines.specs.declared.job.Job.TheVariants.{Frames, Play};
 
 use crate::job::{Status, refuse};
 use crate::late::Late;
@@ -142,7 +143,7 @@ fn frames_line<R: Read, W: Write, F: Files>(
 ) -> Status
     requires units { has_failed units.old ≡ false }
     requires text { has_failed text.old ≡ false }
-    ensures { Tells (FramesAt line.now.cert (used R.remaining units.old units.new)) (used W.contents text.old text.new) result.code }
+    ensures { Tells (PlanAt Frames line.now.cert (used R.remaining units.old units.new)) (used W.contents text.old text.new) result.code }
 {
     match &line.cert {
         Some(path) => frames_at(files, alloc, path.as_str(), units, text),
@@ -171,7 +172,7 @@ fn capture_line<R: Read, W: Write, F: Files>(
     }
 }
 
-/// Does a plan without writing its certificate.
+/// Does a plan without writing its certificate, or a play of the places in the units.
 fn plan_alone<R: Read, W: Write, T: Threads + Wait + Sync>(
     wait: &T,
     alloc: Global,
@@ -212,6 +213,47 @@ fn plan_to<R: Read, W: Write, F: Files, T: Threads + Wait + Sync>(
     run(wait, alloc, job, units, none, text, to)
 }
 
+/// Plays the plan of the certificate at this path, which is opened before the units are read.
+fn play_at<R: Read, W: Write, F: Files, T: Threads + Wait + Sync>(
+    files: &F,
+    wait: &T,
+    alloc: Global,
+    path: &str,
+    units: &mut Io<R>,
+    text: &mut Io<W>,
+) -> Status
+    requires units { has_failed units.old ≡ false }
+    requires text { has_failed text.old ≡ false }
+    ensures { Tells (Reads (used R.remaining units.old units.new) 1048577) (used W.contents text.old text.new) result.code }
+{
+    let Ok(file) = fs::open(files, path) else {
+        return refuse(Refusal::Read, text);
+    };
+    let mut cert = Io::new(file);
+    let nowhere: Option<&mut Io<io::Sink>> = None;
+    let from = Some(&mut cert);
+    run(wait, alloc, &Job::Play, units, from, text, nowhere)
+}
+
+/// Plays the plan that a line names.
+fn play_line<R: Read, W: Write, F: Files, T: Threads + Wait + Sync>(
+    files: &F,
+    wait: &T,
+    alloc: Global,
+    line: &Line,
+    units: &mut Io<R>,
+    text: &mut Io<W>,
+) -> Status
+    requires units { has_failed units.old ≡ false }
+    requires text { has_failed text.old ≡ false }
+    ensures { Tells (PlanAt Play line.now.cert (used R.remaining units.old units.new)) (used W.contents text.old text.new) result.code }
+{
+    match &line.cert {
+        Some(path) => play_at(files, wait, alloc, path.as_str(), units, text),
+        None => plan_alone(wait, alloc, &Job::Play, units, text),
+    }
+}
+
 /// Does what a command line says, on these units and to this text, and says with which status the program ends.
 pub fn do_line<R: Read, W: Write, F: Files, T: Threads + Wait + Sync>(
     files: &F,
@@ -239,5 +281,6 @@ pub fn do_line<R: Read, W: Write, F: Files, T: Threads + Wait + Sync>(
         },
         Job::Frames => frames_line(files, alloc, line, units, text),
         Job::Capture => capture_line(files, alloc, line, units, text),
+        Job::Play => play_line(files, wait, alloc, line, units, text),
     }
 }

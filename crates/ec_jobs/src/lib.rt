@@ -8,6 +8,7 @@ mod job;
 mod late;
 mod law;
 mod plain;
+mod playing;
 mod running;
 mod usage;
 

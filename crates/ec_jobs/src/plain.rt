@@ -8,7 +8,8 @@ ghost use Rattle.ec_lines.specs.Words.{IsPlain};
 use crate::capturing::{run_capture, run_captured_plan};
 use crate::framing::{run_frames, run_planned};
 use crate::job::{Status, run_check, run_cost};
-use ec_lines::Job;
+use crate::playing::{run_planned_play, run_played};
+use ec_lines::{Alone, Job};
 use ec_wire::Io;
 use std::alloc::Global;
 use std::io::{Read, Write};
@@ -52,6 +53,10 @@ pub fn run_plain<R: Read, C: Read, W: Write, O: Write>(
                 Some(plan) => run_planned(alloc, units, plan, text),
                 None => run_frames(alloc, units, text),
             },
+        },
+        Job::Play => match cert {
+            Some(plan) => run_planned_play(&Alone, alloc, units, plan, text),
+            None => run_played(&Alone, alloc, units, text),
         },
     }
 }

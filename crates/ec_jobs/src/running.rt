@@ -8,7 +8,8 @@ ghost use Rattle.ec_lines.specs.Words.{JobFits};
 use crate::capturing::{run_capture, run_captured_plan};
 use crate::framing::{run_frames, run_planned};
 use crate::job::{Status, run_check, run_cost, run_plan, run_plan_to};
-use ec_lines::Job;
+use crate::playing::{run_planned_play, run_played};
+use ec_lines::{Job, Together};
 use ec_wire::Io;
 use std::alloc::Global;
 use std::io::{Read, Write};
@@ -59,6 +60,10 @@ pub fn run<R: Read, C: Read, W: Write, O: Write, T: Threads + Wait + Sync>(
                 Some(plan) => run_planned(alloc, units, plan, text),
                 None => run_frames(alloc, units, text),
             },
+        },
+        Job::Play => match cert {
+            Some(plan) => run_planned_play(&Together(rt), alloc, units, plan, text),
+            None => run_played(&Together(rt), alloc, units, text),
         },
     }
 }

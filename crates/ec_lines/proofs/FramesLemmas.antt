@@ -9,11 +9,12 @@ use Rattle.ec_units.proofs.Viewed.{loads_of-views}
 use Rattle.ec_loads.specs.declared.plan.Illegal.{Illegal}
 use Rattle.ec_loads.specs.Legal.{IsLegal, IsIllegalBy}
 use Rattle.ec_lines.specs.declared.refusal.Refusal.TheVariants as refusal
+use Rattle.ec_frame_lines.specs.Lines.{IsFramesText}
 use Rattle.ec_lines.specs.Framed.{IsPlacedPlan}
-use Rattle.ec_lines.specs.Output.{refused, first_unplaced, places_of, IsFramesOutput}
+use Rattle.ec_lines.specs.Output.{refused, first_unplaced, places_of, IsOwnText}
 
 -- the plan of units that all have a place is not legal
-pub illegal_frames : (us : Units) (ps : List Place) (f : Illegal) → first_unplaced (units_view us).units ≡ None → ps ≡ places_of (units_view us).units → IsIllegalBy (loads_of us.units) us.slots ps f → IsFramesOutput (units_view us) (refused (refusal.Illegal f))
+pub illegal_frames : (us : Units) (ps : List Place) (f : Illegal) → first_unplaced (units_view us).units ≡ None → ps ≡ places_of (units_view us).units → IsIllegalBy (loads_of us.units) us.slots ps f → IsOwnText IsFramesText (units_view us) (refused (refusal.Illegal f))
 illegal_frames us ps f none given h =
     let at : IsIllegalBy (view_loads (units_view us).units) us.slots (places_of (units_view us).units) f =
     subst (λ (ls : List Load). IsIllegalBy ls us.slots (places_of (units_view us).units) f) (loads_of-views us.units)

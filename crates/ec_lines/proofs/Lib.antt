@@ -3,3 +3,4 @@ pub mod KeyLemmas
 pub mod LineLemmas
 pub mod OutputLemmas
 pub mod PlaceLemmas
+pub mod RefusalLemmas

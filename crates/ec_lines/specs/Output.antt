@@ -22,6 +22,7 @@ use Rattle.ec_checker.specs.declared.fault.Verdict.{Verdict}
 use Rattle.ec_checker.specs.declared.fault.Verdict.TheVariants as verdict
 use Rattle.ec_checker.specs.Certified.{IsCertified, IsFaultOf, verdict_of}
 use Rattle.ec_frame_lines.specs.Lines.{IsFramesText}
+use Rattle.ec_play_lines.specs.Plays.{IsPlayText}
 use Rattle.ec_lines.specs.declared.answer.Answer.{Answer}
 use Rattle.ec_lines.specs.declared.refusal.Refusal.{Refusal}
 use Rattle.ec_lines.specs.declared.refusal.Refusal.TheVariants as refusal
@@ -90,40 +91,43 @@ IsCheckedOutput v c w = (us : Units) × (units_view us ≡ v) × IsCheckedOf us.
 abbrev pub IsCheckOutput : UnitsView → List ℕ → Written → Type 0
 IsCheckOutput v text w = MatchResult (cert_reading text) (λ c. IsCheckedOutput v c w) (λ f. w ≡ refused (refusal.Cert f))
 
--- what is written for units that all have a place: the fault of their plan, or its frames
-abbrev pub IsPlacedFrames : UnitsView → List Place → Written → Type 0
-IsPlacedFrames v places w =
-    ((f : Illegal) × IsIllegalBy (view_loads v.units) v.slots places f × (w ≡ refused (refusal.Illegal f)))
-    ⊎ (IsLegal (view_loads v.units) v.slots places × IsFramesText v places w.text × (w.code ≡ 0))
+-- ---- what is told of a plan: the text of units at these places, which is that of its frames or of a play
 
--- what is written for units and their own places
-abbrev pub IsFramesOutput : UnitsView → Written → Type 0
-IsFramesOutput v w =
-    MatchOption (first_unplaced v.units) (IsPlacedFrames v (places_of v.units) w) (λ n. w ≡ refused (refusal.NoPlace n))
+module _ (IsText : UnitsView → List Place → List ℕ → Type 0) where
+  -- what is written for units that all have a place: the fault of their plan, or its text
+  abbrev pub IsPlacedText : UnitsView → List Place → Written → Type 0
+  IsPlacedText v places w =
+      ((f : Illegal) × IsIllegalBy (view_loads v.units) v.slots places f × (w ≡ refused (refusal.Illegal f)))
+      ⊎ (IsLegal (view_loads v.units) v.slots places × IsText v places w.text × (w.code ≡ 0))
 
--- what is written for the best plan of a certificate, if there is one
-abbrev pub IsPlanFrames : UnitsView → Option Best → Written → Type 0
-IsPlanFrames v None w = w ≡ refused refusal.CertHasNoPlan
-IsPlanFrames v (Some b) w = IsFramesText v b.plan.places w.text × (w.code ≡ 0)
+  -- what is written for units and their own places
+  abbrev pub IsOwnText : UnitsView → Written → Type 0
+  IsOwnText v w =
+      MatchOption (first_unplaced v.units) (IsPlacedText v (places_of v.units) w) (λ n. w ≡ refused (refusal.NoPlace n))
 
--- what is written for these units and a certificate: the frames of its plan where it is certified, or its first fault
-abbrev pub IsCertFramesOf : Units → CertView → Written → Type 0
-IsCertFramesOf us c w =
-    (IsCertified us.units us.slots c × IsPlanFrames (units_view us) c.best w)
-    ⊎ ((f : CheckFault) × (f ≢ check.OutOfMemory) × IsFaultOf us.units us.slots c f × (w ≡ refused (refusal.Check f)))
+  -- what is written for the best plan of a certificate, if there is one
+  abbrev pub IsBestText : UnitsView → Option Best → Written → Type 0
+  IsBestText v None w = w ≡ refused refusal.CertHasNoPlan
+  IsBestText v (Some b) w = IsText v b.plan.places w.text × (w.code ≡ 0)
 
--- the same of units as plain data
-abbrev pub IsCertFrames : UnitsView → CertView → Written → Type 0
-IsCertFrames v c w = (us : Units) × (units_view us ≡ v) × IsCertFramesOf us c w
+  -- what is written for these units and a certificate: the text of its plan where it is certified, or its first fault
+  abbrev pub IsCertTextOf : Units → CertView → Written → Type 0
+  IsCertTextOf us c w =
+      (IsCertified us.units us.slots c × IsBestText (units_view us) c.best w)
+      ⊎ ((f : CheckFault) × (f ≢ check.OutOfMemory) × IsFaultOf us.units us.slots c f × (w ≡ refused (refusal.Check f)))
 
--- what is written for units and a certificate's text
-abbrev pub IsCertFramesOutput : UnitsView → List ℕ → Written → Type 0
-IsCertFramesOutput v text w = MatchResult (cert_reading text) (λ c. IsCertFrames v c w) (λ f. w ≡ refused (refusal.Cert f))
+  -- the same of units as plain data
+  abbrev pub IsCertText : UnitsView → CertView → Written → Type 0
+  IsCertText v c w = (us : Units) × (units_view us ≡ v) × IsCertTextOf us c w
 
--- the text of frames, of the places of the units or of a certificate's plan
-abbrev pub IsFramesFor : Option (List ℕ) → UnitsView → Written → Type 0
-IsFramesFor None v w = IsFramesOutput v w
-IsFramesFor (Some text) v w = IsCertFramesOutput v text w
+  -- what is written for units and a certificate's text
+  abbrev pub IsReadText : UnitsView → List ℕ → Written → Type 0
+  IsReadText v text w = MatchResult (cert_reading text) (λ c. IsCertText v c w) (λ f. w ≡ refused (refusal.Cert f))
+
+  -- the text of the places of the units, or of a certificate's plan
+  abbrev pub IsTextFor : Option (List ℕ) → UnitsView → Written → Type 0
+  IsTextFor None v w = IsOwnText v w
+  IsTextFor (Some text) v w = IsReadText v text w
 
 -- what a job that searches for nothing writes for units, and for the bytes of a certificate where it reads one
 abbrev pub IsUnitsOutput : Job → Option (List ℕ) → UnitsView → Written → Type 0
@@ -131,8 +135,9 @@ IsUnitsOutput job.Cost cert v w = IsCostOutput v w
 IsUnitsOutput (job.Plan workers nodes) cert v w = ⊥
 IsUnitsOutput job.Check None v w = ⊥
 IsUnitsOutput job.Check (Some text) v w = IsCheckOutput v text w
-IsUnitsOutput job.Frames cert v w = IsFramesFor cert v w
-IsUnitsOutput job.Capture cert v w = IsFramesFor cert v w
+IsUnitsOutput job.Frames cert v w = IsTextFor IsFramesText cert v w
+IsUnitsOutput job.Capture cert v w = IsTextFor IsFramesText cert v w
+IsUnitsOutput job.Play cert v w = IsTextFor IsPlayText cert v w
 
 -- what is written for a unit text of at most 1,048,576 bytes
 abbrev pub IsTextOutput : Job → Option (List ℕ) → List ℕ → Written → Type 0

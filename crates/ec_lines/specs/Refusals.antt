@@ -12,6 +12,9 @@ use Rattle.ec_checker.specs.declared.fault.CheckFault.{CheckFault}
 use Rattle.ec_checker.specs.declared.fault.CheckFault.TheVariants as check
 use Rattle.ec_workers.specs.declared.outcome.SolveFault.{SolveFault}
 use Rattle.ec_workers.specs.declared.outcome.SolveFault.TheVariants as solve
+use Rattle.ec_frames.specs.FaultTexts.{frame_fault_text}
+use Rattle.ec_play.specs.declared.faults.PlayFault.{PlayFault}
+use Rattle.ec_play.specs.declared.faults.PlayFault.TheVariants as play
 use Rattle.ec_lines.specs.declared.refusal.Refusal.{Refusal}
 use Rattle.ec_lines.specs.declared.refusal.Refusal.TheVariants as refusal
 use Rattle.ec_lines.specs.declared.job.Job.{Job}
@@ -76,6 +79,17 @@ abbrev pub solve_text : SolveFault → List ℕ
 solve_text solve.OutOfMemory = codes "S1 OutOfMemory"
 solve_text solve.Spawn = codes "S2 Spawn"
 
+-- why a plan isn't played to its end; the first faulty frame of slaves that aren't modelled ones is told too
+abbrev pub play_fault_text : PlayFault → List ℕ
+play_fault_text play.OutOfMemory = codes "P1 OutOfMemory"
+play_fault_text (play.Counter tick slot datagram want got) =
+    codes "P2 Counter " ++ (decimal tick ++ (codes " " ++ (decimal slot ++ (codes " " ++ (decimal datagram ++ (codes " " ++ (decimal want ++ (codes " " ++ decimal got))))))))
+play_fault_text (play.Frame f) = codes "P3 Frame " ++ frame_fault_text f
+play_fault_text play.Ring = codes "P4 Ring"
+play_fault_text play.Spawn = codes "P5 Spawn"
+play_fault_text (play.StartCounter frame want got) = codes "P6 StartCounter " ++ (decimal frame ++ (codes " " ++ (decimal want ++ (codes " " ++ decimal got))))
+play_fault_text (play.Reply frame) = codes "P7 Reply " ++ decimal frame
+
 -- what is refused
 abbrev pub reason_text : Refusal → List ℕ
 reason_text (refusal.Unit f) = fault_text f
@@ -88,7 +102,7 @@ reason_text (refusal.Check f) = check_text f
 reason_text (refusal.Solve f) = solve_text f
 reason_text refusal.Write = codes "E4 Write"
 reason_text refusal.CertHasNoPlan = codes "E5 CertHasNoPlan"
-reason_text refusal.FrameMemory = codes "P1 OutOfMemory"
+reason_text (refusal.Play f) = play_fault_text f
 
 -- the line that refuses
 abbrev pub refusal_line : Refusal → List ℕ
@@ -109,26 +123,38 @@ refusal_code (refusal.Check f) = 3
 refusal_code (refusal.Solve f) = 4
 refusal_code refusal.Write = 4
 refusal_code refusal.CertHasNoPlan = 3
-refusal_code refusal.FrameMemory = 4
+refusal_code (refusal.Play play.OutOfMemory) = 4
+refusal_code (refusal.Play play.Ring) = 4
+refusal_code (refusal.Play play.Spawn) = 4
+refusal_code (refusal.Play f) = 3
 
 abbrev pub out_of_memory : Refusal
 out_of_memory = refusal.Unit fault.OutOfMemory
+
+-- over the layout of a plan, its frames, an image or a slave
+abbrev pub frame_memory : Refusal
+frame_memory = refusal.Play play.OutOfMemory
 
 -- want of memory in a plan: before the search, or while its text is made
 abbrev pub IsPlanMemory : Refusal → Type 0
 IsPlanMemory r = (r ≡ out_of_memory) ⊎ (r ≡ refusal.Solve solve.OutOfMemory)
 
--- want of memory over frames: over the units or a text, the certificate, the check, or the layout and the frames
+-- want of memory over frames: over the units or a text, the certificate, the check, or the layout, the frames and what they are played with
 abbrev pub IsFramesMemory : Refusal → Type 0
-IsFramesMemory r = (r ≡ out_of_memory) ⊎ ((r ≡ refusal.Cert cert.OutOfMemory) ⊎ ((r ≡ refusal.Check check.OutOfMemory) ⊎ (r ≡ refusal.FrameMemory)))
+IsFramesMemory r = (r ≡ out_of_memory) ⊎ ((r ≡ refusal.Cert cert.OutOfMemory) ⊎ ((r ≡ refusal.Check check.OutOfMemory) ⊎ (r ≡ frame_memory)))
 
--- want of memory, which may be answered in place of anything else; a plan, a check and the frames say who met it
+-- a ring between two threads couldn't be made or finished, or a thread not be started
+abbrev pub IsNoThread : Refusal → Type 0
+IsNoThread r = (r ≡ refusal.Play play.Ring) ⊎ (r ≡ refusal.Play play.Spawn)
+
+-- want of memory, and in a play of rings and threads, which may be answered in place of anything else; a plan, a check and the frames say who met it
 abbrev pub IsMemory : Job → Refusal → Type 0
 IsMemory job.Cost r = r ≡ out_of_memory
 IsMemory (job.Plan workers nodes) r = IsPlanMemory r
 IsMemory job.Check r = (r ≡ out_of_memory) ⊎ ((r ≡ refusal.Cert cert.OutOfMemory) ⊎ (r ≡ refusal.Check check.OutOfMemory))
 IsMemory job.Frames r = IsFramesMemory r
 IsMemory job.Capture r = IsFramesMemory r
+IsMemory job.Play r = IsFramesMemory r ⊎ IsNoThread r
 
 -- what can be wrong with reading: memory, a read that failed, or too many bytes
 abbrev pub IsReadFault : Refusal → Type 0

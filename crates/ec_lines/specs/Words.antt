@@ -11,8 +11,9 @@ JobFits (job.Plan workers nodes) = (1 ≤ workers) × (workers ≤ 16) × (1 ≤
 JobFits job.Check = Unit {0}
 JobFits job.Frames = Unit {0}
 JobFits job.Capture = Unit {0}
+JobFits job.Play = Unit {0}
 
--- a check has the path of a certificate to read, frames may have one, captured or not, and no other job has one
+-- a check has the path of a certificate to read, frames, captured or not, and a play may have one, and no other job has one
 abbrev pub HasPath : Job → Option (String Global) → Type 0
 HasPath job.Cost cert = cert ≡ None
 HasPath (job.Plan workers nodes) cert = cert ≡ None
@@ -20,6 +21,7 @@ HasPath job.Check None = ⊥
 HasPath job.Check (Some path) = Unit {0}
 HasPath job.Frames cert = Unit {0}
 HasPath job.Capture cert = Unit {0}
+HasPath job.Play cert = Unit {0}
 
 -- a plan may have the path of a certificate to write, a capture has that of its file, and no other job has one
 abbrev pub MayHaveOut : Job → Option (String Global) → Type 0
@@ -29,6 +31,7 @@ MayHaveOut job.Check out = out ≡ None
 MayHaveOut job.Frames out = out ≡ None
 MayHaveOut job.Capture None = ⊥
 MayHaveOut job.Capture (Some path) = Unit {0}
+MayHaveOut job.Play out = out ≡ None
 
 -- the job searches for nothing
 abbrev pub IsPlain : Job → Type 0
@@ -37,3 +40,4 @@ IsPlain (job.Plan workers nodes) = ⊥
 IsPlain job.Check = Unit {0}
 IsPlain job.Frames = Unit {0}
 IsPlain job.Capture = Unit {0}
+IsPlain job.Play = Unit {0}

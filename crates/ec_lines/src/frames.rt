@@ -7,7 +7,7 @@ ghost use Rattle.ec_loads.specs.Legal.{IsLegal};
 ghost use Rattle.ec_frame_lines.specs.Lines.{IsFramesText};
 ghost use Rattle.ec_frame_lines.specs.Captures.{IsCapture};
 ghost use Rattle.ec_lines.specs.Framed.{IsPlacedPlan};
-ghost use Rattle.ec_lines.specs.Output.{IsFramesOutput, Answers, refused};
+ghost use Rattle.ec_lines.specs.Output.{IsOwnText, Answers, refused};
 ghost use Rattle.ec_lines.specs.Refusals.{IsFramesMemory};
 ghost use Rattle.ec_lines.specs.declared.job.Job.TheVariants.{Frames};
 
@@ -17,6 +17,7 @@ use crate::refusal::Refusal;
 use ec_fmmu::layout;
 use ec_frame_lines::{capture_of, frames_text};
 use ec_loads::{Plan, is_legal};
+use ec_play::PlayFault;
 use ec_units::Units;
 use std::alloc::Global;
 
@@ -33,7 +34,7 @@ pub fn plan_frames(alloc: Global, units: &Units, plan: &Plan) -> Result<Answer, 
     ensures { Answers Frames result (λ w. IsFramesText (units_view units.now) plan.now.places w.text × (w.code ≡ 0)) }
 {
     let Ok(mapping) = layout(alloc, units, plan) else {
-        return Err(Refusal::FrameMemory);
+        return Err(Refusal::Play(PlayFault::OutOfMemory));
     };
     let text = frames_text(alloc, units, &mapping)?;
     Ok(Answer { text, code: 0 })
@@ -48,7 +49,7 @@ pub fn plan_capture(alloc: Global, units: &Units, plan: &Plan) -> Result<Capture
     ensures err { IfErr result IsFramesMemory }
 {
     let Ok(mapping) = layout(alloc, units, plan) else {
-        return Err(Refusal::FrameMemory);
+        return Err(Refusal::Play(PlayFault::OutOfMemory));
     };
     let text = frames_text(alloc, units, &mapping)?;
     let file = capture_of(alloc, units, &mapping)?;
@@ -66,7 +67,7 @@ pub fn plan_capture(alloc: Global, units: &Units, plan: &Plan) -> Result<Capture
 pub fn placed_plan(alloc: Global, units: &Units) -> Result<Plan, Refusal>
     ensures ok { IfOk result (λ plan. IsPlacedPlan (units_view units.now) plan.places) }
     ensures legal { IfOk result (λ plan. IsLegal (loads_of units.now.units) units.now.slots plan.places) }
-    ensures err { IfErr result (λ r. IsFramesMemory r ⊎ IsFramesOutput (units_view units.now) (refused r)) }
+    ensures err { IfErr result (λ r. IsFramesMemory r ⊎ IsOwnText IsFramesText (units_view units.now) (refused r)) }
 {
     let plan = plan_of(alloc, units)?;
     match is_legal(units, &plan) {

@@ -13,6 +13,8 @@ pub enum Job {
     Frames,
     /// Tells them too, and writes these frames as a capture file.
     Capture,
+    /// Plays a certificate's plan, or that of the placed units, through modelled slaves for a hyperperiod.
+    Play,
 }
 
 /// A command line: the job, the path of a certificate to read, and the path of what a plan or a capture writes.

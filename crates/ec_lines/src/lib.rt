@@ -1,4 +1,4 @@
-//! What the program writes: the lines of a cost, of a plan, of a certificate and of frames, and the line that refuses;
+//! What the program writes: the lines of a cost, of a plan, of a certificate, of frames and of a play, and the line that refuses;
 //! and the jobs and command lines for which it does.
 #![tactic(auto)]
 
@@ -7,6 +7,7 @@ mod cost;
 mod frames;
 mod job;
 mod outcome;
+mod play;
 mod reason;
 mod refusal;
 mod verdict;
@@ -16,6 +17,7 @@ pub use cost::cost_of;
 pub use frames::{Captured, placed_plan, plan_capture, plan_frames};
 pub use job::{Job, Line};
 pub use outcome::outcome_answer;
+pub use play::{Alone, Player, Together};
 pub use reason::refusal_line;
 pub use refusal::Refusal;
 pub use verdict::verdict_answer;

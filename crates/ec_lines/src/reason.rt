@@ -1,15 +1,18 @@
 //! The line that refuses, made on the stack.
 
-ghost use Rattle.std.specs.Prelude.{◌≡◌, ◌+◌, ◌≤◌, ◌++◌, length, codes};
+ghost use Rattle.std.specs.Prelude.{◌≡◌, ◌+◌, ◌<◌, ◌≤◌, ◌++◌, length, codes};
 ghost use Rattle.std.specs.Fmt.{decimal};
 ghost use Rattle.ec_unit_text.specs.FaultText.{key_text, index_text, spot_text};
-ghost use Rattle.ec_lines.specs.Refusals.{fault_text, illegal_text, cert_text, check_text, solve_text, reason_text, refusal_line as refusal_spec};
+ghost use Rattle.ec_frames.specs.FaultTexts.{frame_fault_text};
+ghost use Rattle.ec_lines.specs.Refusals.{fault_text, illegal_text, cert_text, check_text, solve_text, play_fault_text, reason_text, refusal_line as refusal_spec};
 
 use crate::refusal::Refusal;
 use ec_cert_text::CertFault;
 use ec_checker::CheckFault;
 use ec_digits::{LineText, push_bytes, push_number};
+use ec_frames::FrameFault;
 use ec_loads::Illegal;
+use ec_play::PlayFault;
 use ec_unit_text::{Key, Spot, UnitFault};
 use ec_workers::SolveFault;
 
@@ -77,6 +80,16 @@ fn push_three(line: &mut LineText, name: &[u8], first: usize, second: usize, thi
 {
     push_two(line, name, first, second);
     push_one(line, b" ", third);
+}
+
+/// A space and a number of 16 bits.
+fn push_short(line: &mut LineText, number: u16)
+    requires { length line.old.items ≤ 75 }
+    ensures items { line.new.items ≡ line.old.items ++ (codes " " ++ decimal number) }
+    ensures len { length line.new.items ≤ length line.old.items + 6 }
+{
+    push_bytes(line, b" ");
+    push_number(line, usize::from(number));
 }
 
 /// A fault of a unit text: code, name and fields.
@@ -188,6 +201,81 @@ fn push_solve(line: &mut LineText, fault: SolveFault)
     }
 }
 
+/// What a frame that came back is no frame for: code, name and field.
+fn push_frame_fault(line: &mut LineText, fault: FrameFault)
+    requires { length line.old.items ≤ 20 }
+    ensures items { line.new.items ≡ line.old.items ++ frame_fault_text fault }
+    ensures len { length line.new.items ≤ 95 }
+{
+    match fault {
+        FrameFault::Short => push_bytes(line, b"F4 Short"),
+        FrameFault::NotEtherCat => push_bytes(line, b"F5 NotEtherCat"),
+        FrameFault::FrameType(kind) => push_one(line, b"F6 FrameType ", usize::from(kind)),
+        FrameFault::Length => push_bytes(line, b"F7 Length"),
+        FrameFault::UnknownCommand(code) => push_one(
+            line,
+            b"F8 UnknownCommand ",
+            usize::from(code),
+        ),
+        FrameFault::DataPastEnd => push_bytes(line, b"F9 DataPastEnd"),
+        FrameFault::MoreAtEnd => push_bytes(line, b"F10 MoreAtEnd"),
+        FrameFault::RestAfterLast => push_bytes(line, b"F11 RestAfterLast"),
+    }
+}
+
+/// The counter that is wanted of a datagram, and the one with which it came back.
+fn push_pair(line: &mut LineText, want: u16, got: u16)
+    requires { length line.old.items ≤ 69 }
+    ensures items { line.new.items ≡ line.old.items ++ (codes " " ++ (decimal want ++ (codes " " ++ decimal got))) }
+    ensures len { length line.new.items ≤ length line.old.items + 12 }
+{
+    push_short(line, want);
+    push_short(line, got);
+}
+
+/// The datagram of a frame in a tick, with the code and the name of a wrong counter.
+fn push_datagram(line: &mut LineText, tick: u32, slot: u8, datagram: usize)
+    requires { length line.old.items ≤ 8 }
+    ensures items { line.new.items ≡ line.old.items ++ (codes "P2 Counter " ++ (decimal tick ++ (codes " " ++ (decimal slot ++ (codes " " ++ decimal datagram))))) }
+    ensures len { length line.new.items ≤ 66 }
+{
+    push_one(line, b"P2 Counter ", tick as usize);
+    push_short(line, u16::from(slot));
+    push_one(line, b" ", datagram);
+}
+
+/// Why a plan isn't played to its end: code, name and fields.
+fn push_play(line: &mut LineText, fault: PlayFault)
+    requires { length line.old.items ≤ 8 }
+    ensures items { line.new.items ≡ line.old.items ++ play_fault_text fault }
+    ensures len { length line.new.items ≤ 95 }
+{
+    match fault {
+        PlayFault::OutOfMemory => push_bytes(line, b"P1 OutOfMemory"),
+        PlayFault::Counter {
+            tick,
+            slot,
+            datagram,
+            want,
+            got,
+        } => {
+            push_datagram(line, tick, slot, datagram);
+            push_pair(line, want, got);
+        }
+        PlayFault::Frame(fault) => {
+            push_bytes(line, b"P3 Frame ");
+            push_frame_fault(line, fault);
+        }
+        PlayFault::Ring => push_bytes(line, b"P4 Ring"),
+        PlayFault::Spawn => push_bytes(line, b"P5 Spawn"),
+        PlayFault::StartCounter { frame, want, got } => {
+            push_one(line, b"P6 StartCounter ", frame as usize);
+            push_pair(line, want, got);
+        }
+        PlayFault::Reply { frame } => push_one(line, b"P7 Reply ", frame as usize),
+    }
+}
+
 /// What is refused: code, name and fields.
 fn push_reason(line: &mut LineText, refusal: Refusal)
     requires { length line.old.items ≤ 8 }
@@ -205,7 +293,7 @@ fn push_reason(line: &mut LineText, refusal: Refusal)
         Refusal::Solve(fault) => push_solve(line, fault),
         Refusal::Write => push_bytes(line, b"E4 Write"),
         Refusal::CertHasNoPlan => push_bytes(line, b"E5 CertHasNoPlan"),
-        Refusal::FrameMemory => push_bytes(line, b"P1 OutOfMemory"),
+        Refusal::Play(fault) => push_play(line, fault),
     }
 }
 

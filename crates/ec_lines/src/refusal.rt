@@ -1,7 +1,7 @@
 //! What the program refuses.
 
 ghost use Rattle.std.specs.Prelude.{◌≡◌};
-ghost use Rattle.ec_lines.specs.Memory.{text_memory};
+ghost use Rattle.ec_lines.specs.Memory.{text_memory, play_memory};
 ghost use Rattle.ec_lines.specs.Refusals.{refusal_code, out_of_memory};
 ghost use Rattle.ec_lines.specs.declared.refusal.Refusal.TheVariants.{Unit as UnitRefusal, Illegal as IllegalRefusal, Cert as CertRefusal, Solve as SolveRefusal, Write as WriteRefusal};
 
@@ -9,6 +9,8 @@ use ec_cert_text::CertFault;
 use ec_checker::CheckFault;
 use ec_frame_lines::TextFault;
 use ec_loads::Illegal;
+use ec_play::PlayFault;
+use ec_play_lines::PlayTextFault;
 use ec_unit_text::UnitFault;
 use ec_wire::WriteFault;
 use ec_workers::SolveFault;
@@ -37,8 +39,8 @@ pub enum Refusal {
     Write,
     /// The certificate is right, and says that there is no plan.
     CertHasNoPlan,
-    /// Memory ran out over the layout of a plan or its frames.
-    FrameMemory,
+    /// The plan isn't played to its end, or memory ran out over its layout or its frames.
+    Play(PlayFault),
 }
 
 impl Refusal {
@@ -53,14 +55,15 @@ impl Refusal {
             | Refusal::Solve(_)
             | Refusal::Read
             | Refusal::Write
-            | Refusal::FrameMemory => 4,
+            | Refusal::Play(PlayFault::OutOfMemory | PlayFault::Ring | PlayFault::Spawn) => 4,
             Refusal::Unit(_)
             | Refusal::Illegal(_)
             | Refusal::TooLarge
             | Refusal::NoPlace(_)
             | Refusal::Cert(_)
             | Refusal::Check(_)
-            | Refusal::CertHasNoPlan => 3,
+            | Refusal::CertHasNoPlan
+            | Refusal::Play(_) => 3,
         }
     }
 }
@@ -126,8 +129,19 @@ impl From<TextFault> for Refusal {
 
     fn from(fault: TextFault) -> Refusal {
         match fault {
-            TextFault::Frames => Refusal::FrameMemory,
+            TextFault::Frames => Refusal::Play(PlayFault::OutOfMemory),
             TextFault::Text => Refusal::Unit(UnitFault::OutOfMemory),
+        }
+    }
+}
+
+impl From<PlayTextFault> for Refusal {
+    ghost from_gives = { λ f r. r ≡ play_memory f };
+
+    fn from(fault: PlayTextFault) -> Refusal {
+        match fault {
+            PlayTextFault::Play(fault) => Refusal::Play(fault),
+            PlayTextFault::Text => Refusal::Unit(UnitFault::OutOfMemory),
         }
     }
 }

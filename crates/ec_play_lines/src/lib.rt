@@ -1,7 +1,10 @@
-//! What is told of a play: its start frames, a line for each tick, and that it went to its end.
+//! What is told of a play: its start frames, a line for each tick, and that it went to its end; and the plays of which this is
+//! told.
 #![tactic(auto)]
 
 mod counters;
 mod lines;
+mod played;
 
 pub use lines::play_text;
+pub use played::{PlayTextFault, played_text, played_together};

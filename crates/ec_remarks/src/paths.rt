@@ -48,7 +48,11 @@ pub(crate) fn words_of(code: &str) -> &'static str {
             "Memory ran out over the check: nothing is said of the certificate. Run it with more memory.\n",
         "S1" =>
             "Memory ran out before the search began. Run it with more memory, or with fewer workers.\n",
-        "P1" => "Memory ran out over the frames. Run it with more memory.\n",
+        "P1" => "Memory ran out over the frames or the slaves. Run it with more memory.\n",
+        "P4" =>
+            "No ring of frames could be made between two threads, or one was lost. Run it again, with more memory.\n",
+        "P5" =>
+            "No thread could be started for a slave: a play takes one for each of at most 16 slaves. Run it where that many may be started.\n",
         "S2" =>
             "No thread could be started for a worker. Run it with --workers 1, which needs none.\n",
         "E1" =>

@@ -1,4 +1,4 @@
-//! Does the frames of a row without a certificate, by each of the ways that there are.
+//! Does the frames, or the play, of a row without a certificate, by each of the ways that there are.
 
 use crate::jobs::{Failed, Told};
 use crate::row::Row;
@@ -11,7 +11,7 @@ use std::io;
 use std::sync::Wait;
 use std::thread::Threads;
 
-/// What frames left, with this status.
+/// What frames or a play left, with this status.
 fn told_of(alloc: Global, held: Vec<u8>, code: u8, units: bool, text: bool) -> Told {
     let failed = Failed {
         units,
@@ -28,35 +28,43 @@ fn told_of(alloc: Global, held: Vec<u8>, code: u8, units: bool, text: bool) -> T
     }
 }
 
-/// Frames without a runtime.
-pub(crate) fn frames_plain(alloc: Global, row: &Row<'_>) -> Told {
+/// Frames or a play without a runtime.
+pub(crate) fn alone_plain(alloc: Global, row: &Row<'_>) -> Told {
     let mut units = Io::new(FailsAt::new(row.units, row.calls.units));
     let mut held = Slow::new(alloc, row.calls.text);
     let mut text = Io::new(&mut held);
     let none: Option<&mut Io<io::Empty>> = None;
     let nowhere: Option<&mut Io<io::Sink>> = None;
-    let status = run_plain(alloc, &Job::Frames, &mut units, none, &mut text, nowhere);
+    let status = if row.job == "play" {
+        run_plain(alloc, &Job::Play, &mut units, none, &mut text, nowhere)
+    } else {
+        run_plain(alloc, &Job::Frames, &mut units, none, &mut text, nowhere)
+    };
     let failed = text.failed();
     drop(text);
     told_of(alloc, held.held, status.code, units.failed(), failed)
 }
 
-/// Frames by the call that does any job.
-pub(crate) fn frames_any(rt: &(impl Threads + Wait + Sync), alloc: Global, row: &Row<'_>) -> Told {
+/// Frames or a play by the call that does any job.
+pub(crate) fn alone_any(rt: &(impl Threads + Wait + Sync), alloc: Global, row: &Row<'_>) -> Told {
     let mut units = Io::new(FailsAt::new(row.units, row.calls.units));
     let mut held = Slow::new(alloc, row.calls.text);
     let mut text = Io::new(&mut held);
     let none: Option<&mut Io<io::Empty>> = None;
     let nowhere: Option<&mut Io<io::Sink>> = None;
-    let status = run(
-        rt,
-        alloc,
-        &Job::Frames,
-        &mut units,
-        none,
-        &mut text,
-        nowhere,
-    );
+    let status = if row.job == "play" {
+        run(rt, alloc, &Job::Play, &mut units, none, &mut text, nowhere)
+    } else {
+        run(
+            rt,
+            alloc,
+            &Job::Frames,
+            &mut units,
+            none,
+            &mut text,
+            nowhere,
+        )
+    };
     let failed = text.failed();
     drop(text);
     told_of(alloc, held.held, status.code, units.failed(), failed)

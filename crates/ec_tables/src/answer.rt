@@ -1,6 +1,6 @@
 //! What a row's job answers, as one text.
 
-use crate::alone::{frames_any, frames_plain};
+use crate::alone::{alone_any, alone_plain};
 use crate::captures::{capture, captured};
 use crate::jobs::{Told, any, is_alike, is_same, plain, planned};
 use crate::row::{ALL, Row};
@@ -102,7 +102,7 @@ fn add_check(
 /// What frames with a capture file left, and whether the text is that of frames alone.
 fn captured_twice(alloc: Global, row: &Row<'_>) -> (Told, bool) {
     let (told, other) = if row.job == "capture" {
-        (capture(alloc, row), frames_plain(alloc, row))
+        (capture(alloc, row), alone_plain(alloc, row))
     } else {
         (captured(alloc, row), plain(alloc, row))
     };
@@ -114,9 +114,9 @@ fn captured_twice(alloc: Global, row: &Row<'_>) -> (Told, bool) {
 /// What the row's job left, and whether the other call that does it leaves the same; of a plan, text and status, and
 /// where several workers make it, status and first line.
 fn told_twice(rt: &(impl Threads + Wait + Sync), alloc: Global, row: &Row<'_>) -> (Told, bool) {
-    if row.job == "frames" {
-        let told = frames_plain(alloc, row);
-        let other = frames_any(rt, alloc, row);
+    if row.job == "frames" || row.job == "play" {
+        let told = alone_plain(alloc, row);
+        let other = alone_any(rt, alloc, row);
         let same = is_same(&told, &other);
         return (told, same);
     }

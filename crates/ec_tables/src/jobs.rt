@@ -59,11 +59,12 @@ fn plain_job(row: &Row<'_>) -> Job
     match row.job {
         "cost" => Job::Cost,
         "framed" | "captured" => Job::Frames,
+        "played" => Job::Play,
         _ => Job::Check,
     }
 }
 
-/// A cost, a check or the frames of a certificate's plan, without a runtime.
+/// A cost, a check, or the frames or the play of a certificate's plan, without a runtime.
 pub(crate) fn plain(alloc: Global, row: &Row<'_>) -> Told {
     let mut units = Io::new(FailsAt::new(row.units, row.calls.units));
     let mut cert = Io::new(FailsAt::new(row.cert, row.calls.cert));
@@ -127,6 +128,9 @@ fn job_of(row: &Row<'_>) -> Job
     }
     if row.job == "framed" {
         return Job::Frames;
+    }
+    if row.job == "played" {
+        return Job::Play;
     }
     let workers = row.workers.clamp(1, 16);
     let nodes = row.nodes.clamp(1, 10_000_000);

@@ -17,3 +17,4 @@ HasNumbersOf m (job.Plan workers nodes) = IsSaidBy m (codes "workers") workers Ã
 HasNumbersOf m job.Check = Unit {0}
 HasNumbersOf m job.Frames = Unit {0}
 HasNumbersOf m job.Capture = Unit {0}
+HasNumbersOf m job.Play = Unit {0}

@@ -11,3 +11,4 @@ MayHavePicture (job.Plan workers nodes) picture = picture ≡ None
 MayHavePicture job.Check picture = picture ≡ None
 MayHavePicture job.Frames picture = picture ≡ None
 MayHavePicture job.Capture picture = picture ≡ None
+MayHavePicture job.Play picture = picture ≡ None

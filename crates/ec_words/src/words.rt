@@ -43,7 +43,7 @@ const AFTER_HELP: &str =
     "The units are read from FILE, or from standard input where FILE is - or isn't given.\n\
 The text goes to standard output, and what a refusal means to standard error.\n\n\
 Exit statuses: 0 optimal, least or done; 1 no plan; 2 unproved; 3 refused input;\n\
-4 reading, writing or memory failed; 5 words that are no command, or this help.\n\n\
+4 reading, writing, memory, a ring or a thread failed; 5 words that are no command, or this help.\n\n\
 docs/FORMATS.md describes the unit text, what each command writes, and each refusal.\n";
 
 /// The path of the units.
@@ -129,6 +129,21 @@ fn frames_command<'a>(alloc: Global) -> Result<Command<'a>, AllocError> {
         .arg(file_arg(alloc))
 }
 
+/// The command `play`.
+fn play_command<'a>(alloc: Global) -> Result<Command<'a>, AllocError> {
+    let cert = Arg::new(alloc, "cert")
+        .long("cert")
+        .value_name("PATH")
+        .action(ArgAction::Set)
+        .help("The certificate whose plan is played; without it the places in the units are");
+    Command::new(alloc, "play")
+        .about(
+            "Plays a plan through modelled slaves: start-up, and each tick's frames and counters",
+        )
+        .arg(cert)?
+        .arg(file_arg(alloc))
+}
+
 /// All commands.
 fn all_commands<'a>(alloc: Global) -> Result<Command<'a>, AllocError> {
     Command::new(alloc, "ecplan")
@@ -141,7 +156,8 @@ fn all_commands<'a>(alloc: Global) -> Result<Command<'a>, AllocError> {
         .subcommand(cost_command(alloc)?)?
         .subcommand(plan_command(alloc)?)?
         .subcommand(check_command(alloc)?)?
-        .subcommand(frames_command(alloc)?)
+        .subcommand(frames_command(alloc)?)?
+        .subcommand(play_command(alloc)?)
 }
 
 /// A refusal with this text, unless memory ran out.
@@ -237,6 +253,23 @@ fn frames_line(alloc: Global, matches: &ArgMatches<'_>) -> Result<Line, LineFaul
     }
 }
 
+/// The line of a play with these options.
+fn play_line(alloc: Global, matches: &ArgMatches<'_>) -> Result<Line, LineFault>
+    ensures within { IfOk result (λ line. JobFits line.job) }
+    ensures paths { IfOk result (λ line. HasPath line.job line.cert) }
+    ensures out { IfOk result (λ line. MayHaveOut line.job line.out) }
+{
+    let cert = match matches.get_str("cert") {
+        Some(path) => Some(String::from_str(alloc, path)?),
+        None => None,
+    };
+    Ok(Line {
+        job: Job::Play,
+        cert,
+        out: None,
+    })
+}
+
 /// The line of a command with these options.
 fn line_of(alloc: Global, command: &str, matches: &ArgMatches<'_>) -> Result<Line, LineFault>
     ensures within { IfOk result (λ line. JobFits line.job) }
@@ -252,6 +285,7 @@ fn line_of(alloc: Global, command: &str, matches: &ArgMatches<'_>) -> Result<Lin
         "plan" => plan_line(alloc, matches),
         "check" => check_line(alloc, matches),
         "frames" => frames_line(alloc, matches),
+        "play" => play_line(alloc, matches),
         _ => Err(refused(alloc, "error: no command\n")),
     }
 }
@@ -278,8 +312,8 @@ fn picture_path(
     Ok(Some(String::from_str(alloc, path)?))
 }
 
-/// Reads the words after the program's name: `cost`, `plan`, `check` or `frames`, with its options and the path of the
-/// units.
+/// Reads the words after the program's name: `cost`, `plan`, `check`, `frames` or `play`, with its options and the path of
+/// the units.
 pub fn read_words(alloc: Global, words: &[String]) -> Result<Words, LineFault>
     ensures within { IfOk result (λ words. JobFits words.line.job) }
     ensures paths { IfOk result (λ words. HasPath words.line.job words.line.cert) }

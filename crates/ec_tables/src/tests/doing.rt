@@ -109,27 +109,55 @@ fn answers_of<F: Files>(
 #[test]
 fn a_path_that_cannot_be_opened(rt: HostRuntime) -> Result<(), Fail> {
     let lines =
-        "plan --out /tmp/no-such-directory-of-ecplan/c\nplan --nodes 8 --out /tmp/no-such-directory-of-ecplan/c\ncheck --cert /tmp/no-such-directory-of-ecplan/c\n";
+        "plan --out /tmp/no-such-directory-of-ecplan/c\nplan --nodes 8 --out /tmp/no-such-directory-of-ecplan/c\ncheck --cert /tmp/no-such-directory-of-ecplan/c\nframes --cert /tmp/no-such-directory-of-ecplan/c\nplay --cert /tmp/no-such-directory-of-ecplan/c\nplay\n";
     let told = answers_of(&rt, &rt, rt.alloc(), lines)?;
     let shown = format!(in rt.alloc();
-        "refused E4 Write\nstatus 4, 2 reads\nunproved 464\ncut budget\n{PLACES}status 2, 2 reads\nrefused E3 Read\nstatus 4, 0 reads\n"
+        "refused E4 Write\nstatus 4, 2 reads\nunproved 464\ncut budget\n{PLACES}status 2, 2 reads\nrefused E3 Read\nstatus 4, 0 reads\nrefused E3 Read\nstatus 4, 0 reads\nrefused E3 Read\nstatus 4, 0 reads\nrefused E2 NoPlace 0\nstatus 3, 2 reads\n"
     )?;
     assert_eq!(rt; told.as_str(), shown.as_str());
     Ok(())
 }
 
+/// What is told of a play of their plan.
+const PLAY: &str =
+    "start 5\ntick 0 frames 1 bytes 464 counters 2,2\ntick 1 frames 0 bytes 0 counters -\ntick 2 frames 1 bytes 252 counters 2\ntick 3 frames 1 bytes 252 counters 2\ntick 4 frames 1 bytes 252 counters 2\ntick 5 frames 0 bytes 0 counters -\ndone\n";
+
 #[test]
-fn a_check_with_its_path(rt: HostRuntime) -> Result<(), Fail> {
+fn a_check_and_a_play_with_their_path(rt: HostRuntime) -> Result<(), Fail> {
     let path = "/tmp/ecplan-check-in.cert";
     fs::write(&rt, path, CERT)?;
+    let lines = "check --cert /tmp/ecplan-check-in.cert\nplay --cert /tmp/ecplan-check-in.cert\n";
+    let told = answers_of(&rt, &rt, rt.alloc(), lines)?;
+    fs::remove_file(&rt, path)?;
+    let shown = format!(in rt.alloc(); "least 464\nstatus 0, 2 reads\n{PLAY}status 0, 2 reads\n")?;
+    assert_eq!(rt; told.as_str(), shown.as_str());
+    Ok(())
+}
+
+/// Frames with their paths, and whether their text with a capture file is that without one; and the bytes of the file.
+#[test]
+fn a_capture_with_its_path(rt: HostRuntime) -> Result<(), Fail> {
+    let path = "/tmp/ecplan-capture-in.cert";
+    fs::write(&rt, path, CERT)?;
+    let alone = said_by(
+        &rt,
+        &rt,
+        rt.alloc(),
+        "frames --cert /tmp/ecplan-capture-in.cert",
+    )?;
     let told = said_by(
         &rt,
         &rt,
         rt.alloc(),
-        "check --cert /tmp/ecplan-check-in.cert",
+        "frames --cert /tmp/ecplan-capture-in.cert --pcap /tmp/ecplan-capture-out.pcap",
     )?;
+    let file = fs::read(&rt, "/tmp/ecplan-capture-out.pcap")?;
     fs::remove_file(&rt, path)?;
-    assert_eq!(rt; told.as_str(), "least 464\nstatus 0, 2 reads\n");
+    fs::remove_file(&rt, "/tmp/ecplan-capture-out.pcap")?;
+    let same = told.as_str() == alone.as_str() && told.as_str().ends_with("status 0, 2 reads\n");
+    let len = file.len();
+    let shown = format!(in rt.alloc(); "{same} {len}")?;
+    assert_eq!(rt; shown.as_str(), "true 1212");
     Ok(())
 }
 

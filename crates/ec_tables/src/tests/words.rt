@@ -37,6 +37,7 @@ fn line_text(alloc: Global, line: &Line) -> Result<String, AllocError> {
         Job::Check => format!(in alloc; "<check {cert} {out}>"),
         Job::Frames => format!(in alloc; "<frames {cert} {out}>"),
         Job::Capture => format!(in alloc; "<capture {cert} {out}>"),
+        Job::Play => format!(in alloc; "<play {cert} {out}>"),
     }
 }
 
@@ -84,6 +85,10 @@ const LINES: &str = "cost : <cost - ->|\
     frames --pcap line.pcap : <capture - line.pcap>|\
     frames --pcap=p --cert q : <capture q p>|\
     frames --cert=p --pcap=q : <capture p q>|\
+    play : <play - ->|\
+    play --cert line.cert : <play line.cert ->|\
+    play --cert=p q : <play p -> q -|\
+    play - : <play - ->|\
     plan : <plan 1 1000000 - ->|\
     plan --workers 1 : <plan 1 1000000 - ->|\
     plan --workers 16 : <plan 16 1000000 - ->|\
@@ -123,6 +128,11 @@ const REFUSED: &str = " : requires a subcommand|\
     check --cert p --pcap q : unexpected argument '--pcap'|\
     plan --pcap p : unexpected argument '--pcap'|\
     frames p q : unexpected argument 'q'|\
+    play p q : unexpected argument 'q'|\
+    play --cert : a value is required for '--cert <PATH>'|\
+    play --cert p --cert q : '--cert <PATH>' cannot be used multiple times|\
+    play --pcap p : unexpected argument '--pcap'|\
+    play --workers 2 : unexpected argument '--workers'|\
     frames --svg p : unexpected argument '--svg'|\
     cost p q : unexpected argument 'q'|\
     cost --svg : a value is required for '--svg <PATH>'|\
@@ -170,7 +180,9 @@ const HELP: &str = "--help : Usage: ecplan <COMMAND>|\
     plan --help : How many workers search, 1 to 16|\
     check --help : Usage: ecplan check --cert <PATH> [FILE]|\
     frames --help : Usage: ecplan frames [OPTIONS] [FILE]|\
-    frames --help : Where to write the frames as a capture file";
+    frames --help : Where to write the frames as a capture file|\
+    play --help : Usage: ecplan play [OPTIONS] [FILE]|\
+    play --help : The certificate whose plan is played";
 
 #[test]
 fn words_and_their_answers(rt: HostRuntime) -> Result<(), AllocError> {

@@ -50,3 +50,15 @@ returns-after-cert-3 g c =
 
 pub returns-in-Some-cert-4 : goal.returns-in-Some-cert-4
 returns-in-Some-cert-4 g c = tells_more (λ w h. rw (c.in-Capture.is, c.in-None-out.is, c.in-Some-cert-4.is) h) c.run_planned-in-Some-cert-4.ensures
+
+pub returns-in-Some-cert-5 : goal.returns-in-Some-cert-5
+returns-in-Some-cert-5 g c = tells_more (λ w h. rw (c.in-Play.is, c.in-Some-cert-5.is) (
+  h,
+  elim (option_cases c.args.out) [ inl e ↦ rw e refl | inr p ↦ rw p.1 refl ],
+)) c.run_planned_play.ensures
+
+pub returns-in-None-cert-5 : goal.returns-in-None-cert-5
+returns-in-None-cert-5 g c = tells_more (λ w h. rw (c.in-Play.is, c.in-None-cert-5.is) (
+  h,
+  elim (option_cases c.args.out) [ inl e ↦ rw e refl | inr p ↦ rw p.1 refl ],
+)) c.run_played.ensures
