@@ -31,6 +31,7 @@ impl Front {
 pub(crate) struct Kept<T> {
     inner: T,
     front: Front,
+    tried: Front,
     fault: Option<ErrorKind>,
 }
 
@@ -43,6 +44,10 @@ impl<T> Kept<T> {
                 bytes: Vec::new(alloc),
                 room,
             },
+            tried: Front {
+                bytes: Vec::new(alloc),
+                room,
+            },
             fault: None,
         }
     }
@@ -50,6 +55,15 @@ impl<T> Kept<T> {
     /// What was kept.
     pub(crate) fn front(&self) -> &[u8] {
         self.front.bytes.as_slice()
+    }
+
+    /// What was kept; of a writer to which nothing could be written, what was first to be.
+    pub(crate) fn meant(&self) -> &[u8] {
+        if self.front.bytes.is_empty() {
+            self.tried.bytes.as_slice()
+        } else {
+            self.front()
+        }
     }
 
     /// Why a read or a write failed last, if one did.
@@ -85,6 +99,7 @@ impl<W: Write> Write for Kept<W> {
                 Ok(count)
             }
             Err(error) => {
+                self.tried.keep(bytes);
                 self.fault = Some(error.kind());
                 Err(error)
             }

@@ -2,6 +2,7 @@
 //! are, and the text goes to standard output. What a refusal means is told on standard error.
 #![tactic(auto)]
 
+mod aside;
 mod drawing;
 mod guard;
 mod job;

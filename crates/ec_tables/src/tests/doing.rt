@@ -49,7 +49,7 @@ fn said_by<F: Files>(
         rest: MEETING.as_bytes(),
         calls: 0,
     };
-    let mut held = Slow::new(alloc, 99);
+    let mut held = Slow::new(alloc, 999);
     let mut units = Io::new(&mut bytes);
     let mut text = Io::new(&mut held);
     let status = do_line(files, wait, alloc, &asked.line, &mut units, &mut text);
