@@ -20,8 +20,20 @@ fn gives_way<F: Files>(files: &F, path: &str) -> bool {
     }
 }
 
+/// Whether a file can be made at a path, and taken away again; what an interrupted run left there goes.
+fn can_be_made<F: Files>(files: &F, path: &str) -> bool {
+    match fs::OpenOptions::new()
+        .write(true)
+        .create(true)
+        .open(files, path)
+    {
+        Ok(_) => fs::remove_file(files, path).is_ok(),
+        Err(_) => false,
+    }
+}
+
 /// Where the file of a path is made until it is whole. None where it is written in place, also where something else stands
-/// there, or memory ran out.
+/// there, or no file can be made there, or memory ran out.
 pub(crate) fn beside<R: Files + AllocGlobal>(
     rt: &R,
     path: &str,
@@ -31,9 +43,11 @@ pub(crate) fn beside<R: Files + AllocGlobal>(
         return None;
     }
     let made = format!(in rt.alloc(); "{path}.part").ok()?;
-    match reason_to_keep(rt, made.as_str(), content) {
-        Some(_) => None,
-        None => Some(made),
+    let is_free = reason_to_keep(rt, made.as_str(), content).is_none();
+    if is_free && can_be_made(rt, made.as_str()) {
+        Some(made)
+    } else {
+        None
     }
 }
 
