@@ -1,8 +1,8 @@
 -- The last trees in place of the open leaves, from the last report to the first.
 use Rattle.std.proofs.Common.{◌≡◌, ◌≢◌, ℕ, zero, suc, ◌+◌, ◌<◌, ◌≤◌, ◌==◌, Bool, true, false, eqb, if◌then◌else◌, List, [], ◌∷◌, ◌++◌, length, set, get_or, slice_get, take, drop, replicate, Some, refl, sym, ap, ◌∙◌, subst, arith, not-suc-le-zero, le_of_suc-le-suc, add-one, rules}
-use Rattle.ec_loads.specs.Shape.{Shape, tick, full, split, leaf, open_leaf, more}
+use Rattle.ec_loads.specs.Shape.{Shape, tick, full, weighted, split, leaf, open_leaf, more}
 use Rattle.ec_loads.specs.Search.{open_count, open_counts, node_count, node_counts}
-use Rattle.ec_cert.specs.declared.tree.Tree.{Tree, TickLeaf, FullLeaf, OpenLeaf, the_lemmas}
+use Rattle.ec_cert.specs.declared.tree.Tree.{Tree, TickLeaf, FullLeaf, Weights, OpenLeaf, the_lemmas}
 use Rattle.ec_cert.specs.Shapes.{shape_of, shapes_of}
 use Rattle.ec_book.specs.declared.report.Report.{Report}
 use Rattle.ec_book.specs.Numbered.{Numbered, Numbereds, branch, closed, gap, last, next, numbered, all_numbered, fill, fills, plug, draw, draws}
@@ -60,6 +60,9 @@ shape_of-TickLeaf t = search (rules, the_lemmas)
 
 pub shape_of-FullLeaf : (t s : ℕ) → shape_of (FullLeaf t s) ≡ leaf (full t s)
 shape_of-FullLeaf t s = search (rules, the_lemmas)
+
+pub shape_of-Weights : (w : List ℕ) → shape_of (Weights w) ≡ leaf (weighted w)
+shape_of-Weights w = search (rules, the_lemmas)
 
 pub shape_at-open : (k m : ℕ) → shape_at (replicate k OpenLeaf) m ≡ open_leaf
 shape_at-open zero m = refl

@@ -2,7 +2,7 @@
 use Rattle.std.specs.Prelude.{◌≡◌, ◌≢◌, ℕ, ◌+◌, ◌<◌, ◌≤◌, List, Option, Some, length, slice_get, All}
 use Rattle.ec_units.specs.declared.slave.Place.{Place}
 use Rattle.ec_loads.specs.Held.{Held, no_places}
-use Rattle.ec_loads.specs.Line.{slots_alone, Line, line_by}
+use Rattle.ec_loads.specs.Line.{turned_time, Line, line_by}
 use Rattle.ec_cert.specs.declared.cert.Best.{Best}
 use Rattle.ec_cert.specs.BestPlan.{value_of, IsBestPlan}
 use Rattle.ec_symmetry.specs.Orders.{IsOrder, IsReachedPrefix}
@@ -47,4 +47,4 @@ pub record IsKept (held : Held) (order : List ℕ) (nodes : ℕ) (pieces : List 
     (spent granted taken low : ℕ) (log : List Step) (room : ℕ) : Type 0 where
   pub for : IsFor held order best
   pub counted : IsCounted nodes pieces (value_of best) spent granted taken low log room
-  pub grown : IsGrown (line_by slots_alone held.loads held.slots) order pieces prefixes reports (value_of best) spent
+  pub grown : IsGrown (line_by turned_time held.loads held.slots) order pieces prefixes reports (value_of best) spent

@@ -2,7 +2,7 @@
 
 ghost use Rattle.std.specs.Prelude.{◌≡◌, ◌≢◌, ℕ, ◌==◌, IsTrue, MatchBool, ◌+◌, ◌<◌, ◌≤◌, ◌^◌, ◌++◌, ◌∷◌, [], IfOk, IfSome, IfErr, OnOk, OnErr, OnSome, IsSome, IfNone, ◌↔◌, MatchOption, None, Some, length, slice_get, replicate, drop, vec_capacity, vec_len};
 ghost use Rattle.ec_units.specs.Load.{loads_of};
-ghost use Rattle.ec_loads.specs.Line.{slots_alone, line_by};
+ghost use Rattle.ec_loads.specs.Line.{turned_time, line_by};
 ghost use Rattle.ec_loads.specs.Search.{IsPartialTree, node_count as node_count_of};
 ghost use Rattle.ec_cert.specs.Shapes.{shape_of};
 ghost use Rattle.ec_symmetry.specs.Orders.{IsOrder, prefix_of};
@@ -375,10 +375,10 @@ impl Book {
         prefix: &[Place],
         sub: Subtree,
     ) -> Result<(), (BookFault, Subtree)>
-        requires tree { IsPartialTree (line_by slots_alone self.old.loads self.old.slots) sub.threshold (shape_of sub.tree) (prefix_of self.old.loads self.old.order prefix.now) (drop (length prefix.now) self.old.order) }
+        requires tree { IsPartialTree (line_by turned_time self.old.loads self.old.slots) sub.threshold (shape_of sub.tree) (prefix_of self.old.loads self.old.order prefix.now) (drop (length prefix.now) self.old.order) }
         requires some { 0 < node_count_of (shape_of sub.tree) }
         ensures welcome { OnOk result ((g : ℕ) × IsWelcome self.old.pieces self.old.prefixes (value_of self.old.best) worker piece prefix.now sub.threshold (node_count_of (shape_of sub.tree)) g) }
-        ensures ok { OnOk result (self.new ≡ after_report self.old worker piece (node_count_of (shape_of sub.tree)) (open_places (line_by slots_alone self.old.loads self.old.slots) self.old.order (shape_of sub.tree) prefix.now)) }
+        ensures ok { OnOk result (self.new ≡ after_report self.old worker piece (node_count_of (shape_of sub.tree)) (open_places (line_by turned_time self.old.loads self.old.slots) self.old.order (shape_of sub.tree) prefix.now)) }
         ensures err { IfErr result (λ e. IsReportFault self.old.pieces self.old.prefixes (value_of self.old.best) worker piece prefix.now sub.threshold (node_count_of (shape_of sub.tree)) e.0
             × (e.1 ≡ sub) × (self.new ≡ self.old)) }
     {
@@ -400,12 +400,12 @@ impl Book {
         prefix: &[Place],
         counted: Counted,
     ) -> Result<(), (BookFault, Counted)>
-        requires tree { IsPartialTree (line_by slots_alone self.old.loads self.old.slots) counted.sub.threshold (shape_of counted.sub.tree) (prefix_of self.old.loads self.old.order prefix.now) (drop (length prefix.now) self.old.order) }
+        requires tree { IsPartialTree (line_by turned_time self.old.loads self.old.slots) counted.sub.threshold (shape_of counted.sub.tree) (prefix_of self.old.loads self.old.order prefix.now) (drop (length prefix.now) self.old.order) }
         requires some { 0 < node_count_of (shape_of counted.sub.tree) }
-        requires opened { AreOpened (line_by slots_alone self.old.loads self.old.slots) self.old.order (shape_of counted.sub.tree) prefix.now counted.opened }
+        requires opened { AreOpened (line_by turned_time self.old.loads self.old.slots) self.old.order (shape_of counted.sub.tree) prefix.now counted.opened }
         ensures known { OnOk result (IsSome counted.opened) }
         ensures welcome { OnOk result ((g : ℕ) × IsWelcome self.old.pieces self.old.prefixes (value_of self.old.best) worker piece prefix.now counted.sub.threshold (node_count_of (shape_of counted.sub.tree)) g) }
-        ensures ok { OnOk result (self.new ≡ after_report self.old worker piece (node_count_of (shape_of counted.sub.tree)) (open_places (line_by slots_alone self.old.loads self.old.slots) self.old.order (shape_of counted.sub.tree) prefix.now)) }
+        ensures ok { OnOk result (self.new ≡ after_report self.old worker piece (node_count_of (shape_of counted.sub.tree)) (open_places (line_by turned_time self.old.loads self.old.slots) self.old.order (shape_of counted.sub.tree) prefix.now)) }
         ensures err { IfErr result (λ e. IsReportFault self.old.pieces self.old.prefixes (value_of self.old.best) worker piece prefix.now counted.sub.threshold (node_count_of (shape_of counted.sub.tree)) e.0
             × (e.1.sub ≡ counted.sub) × (self.new ≡ self.old)) }
     {

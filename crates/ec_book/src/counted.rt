@@ -1,7 +1,7 @@
 //! Subtrees that are counted before they are reported.
 
 ghost use Rattle.std.specs.Prelude.{◌≡◌, min, length, None};
-ghost use Rattle.ec_loads.specs.Line.{slots_alone, line_of};
+ghost use Rattle.ec_loads.specs.Line.{turned_time, line_of};
 ghost use Rattle.ec_loads.specs.Search.{node_count as node_count_of};
 ghost use Rattle.ec_cert.specs.Shapes.{shape_of};
 ghost use Rattle.ec_symmetry.specs.Orders.{IsOrder};
@@ -31,7 +31,7 @@ impl Counted {
     pub fn of(alloc: Global, loads: &Loads, order: &[u8], prefix: &[Place], sub: Subtree) -> Counted
         requires order { IsOrder (length loads.now.loads) order.now }
         ensures sub { result.sub ≡ sub }
-        ensures opened { AreOpened (line_of slots_alone loads.now) order.now (shape_of sub.tree) prefix.now result.opened }
+        ensures opened { AreOpened (line_of turned_time loads.now) order.now (shape_of sub.tree) prefix.now result.opened }
     {
         let nodes = node_count(&sub.tree);
         let opened = if prefix.len() <= order.len() {

@@ -1,7 +1,7 @@
 //! The prefixes of a tree's open leaves.
 
 ghost use Rattle.std.specs.Prelude.{◌≡◌, ℕ, ◌≤◌, ◌++◌, length, OnOk, IfOk};
-ghost use Rattle.ec_loads.specs.Line.{slots_alone, line_of};
+ghost use Rattle.ec_loads.specs.Line.{turned_time, line_of};
 ghost use Rattle.ec_cert.specs.Shapes.{shape_of};
 ghost use Rattle.ec_symmetry.specs.Orders.{IsOrder};
 ghost use Rattle.ec_book.specs.Open.{open_places};
@@ -25,7 +25,7 @@ pub(crate) fn add_open(
     requires order { IsOrder (length loads.now.loads) order.now }
     requires long { length path.old.items ≤ length order.now }
     ensures path { OnOk result (path.new.items ≡ path.old.items) }
-    ensures out { OnOk result (out.new.items ≡ out.old.items ++ open_places (line_of slots_alone loads.now) order.now (shape_of tree.now) path.old.items) }
+    ensures out { OnOk result (out.new.items ≡ out.old.items ++ open_places (line_of turned_time loads.now) order.now (shape_of tree.now) path.old.items) }
 {
     match tree {
         Tree::Split(trees) => {
@@ -33,7 +33,7 @@ pub(crate) fn add_open(
                 return Ok(());
             }
             let unit = usize::from(order[path.len()]);
-            let mut places = children_after(loads, order, path.as_slice(), false);
+            let mut places = children_after(loads, order, path.as_slice(), true);
             for i in 0..trees.len() {
                 let Some(place) = places.next() else {
                     return Ok(());
@@ -65,7 +65,7 @@ pub(crate) fn opened_by(
 ) -> Result<Vec<Places>, AllocError>
     requires order { IsOrder (length loads.now.loads) order.now }
     requires long { length prefix.now ≤ length order.now }
-    ensures { IfOk result (λ v. v.items ≡ open_places (line_of slots_alone loads.now) order.now (shape_of tree.now) prefix.now) }
+    ensures { IfOk result (λ v. v.items ≡ open_places (line_of turned_time loads.now) order.now (shape_of tree.now) prefix.now) }
 {
     let mut path = Vec::from_slice(alloc, prefix)?;
     let mut out = Vec::new(alloc);

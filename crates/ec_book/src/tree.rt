@@ -18,6 +18,7 @@ pub(crate) fn is_closed_leaf(tree: &Tree) -> bool
         Tree::TickLeaf(_) => true,
         Tree::FullLeaf(_, _) => true,
         Tree::Average => true,
+        Tree::Weights(_) => true,
         Tree::OpenLeaf | Tree::Split(_) => false,
     }
 }
@@ -44,6 +45,7 @@ pub(crate) fn filled(tree: Tree, built: &mut Vec<Tree>) -> Tree
             Some(tree) => tree,
             None => unreachable!(),
         },
+        Tree::Weights(weights) => Tree::Weights(weights),
         closed => closed,
     }
 }

@@ -9,11 +9,12 @@ use Rattle.ec_loads.specs.Cost.{plan_items}
 use Rattle.ec_loads.specs.Held.{AreLoads}
 use Rattle.ec_loads.specs.Legal.{IsLegal}
 use Rattle.ec_loads.specs.Search.{Prefix, Extends, TickHolds, FullHolds, AverageHolds, HasTick, IsAtMost}
-use Rattle.ec_loads.specs.Shape.{tick, full, average}
+use Rattle.ec_loads.specs.Shape.{tick, full, average, weighted}
 use Rattle.ec_bounds.specs.Laws.{LeavesBound, LeavesFall}
 use Rattle.ec_loads.proofs.ItemLemmas.{DivideAll-loads}
-use Rattle.ec_bounds.proofs.SubLemmas.{Sub-items, payload-Sub, tick_cost-Sub}
+use Rattle.ec_bounds.proofs.SubLemmas.{Sub-items, payload-Sub, tick_cost-Sub, below_some}
 use Rattle.ec_bounds.proofs.AverageLemmas.{AreWhole, average-bounds}
+use Rattle.ec_bounds.proofs.WeightLemmas.{weights-bound, weights-fall}
 
 tick-bounds : (loads : List Load) (n : ℕ) (v : Option ℕ) (ps : Prefix) (plan : List Place) → Extends ps (map Some plan) → (t : ℕ) → TickHolds loads n v ps t → HasTick loads n v plan
 tick-bounds loads n v ps plan e t h = (h.0, h.1, t, le_trans h.2 (tick_cost-Sub _ _ n t (Sub-items loads e)))
@@ -37,14 +38,7 @@ pub leaf-bounds : LeavesBound
 leaf-bounds line v ps (tick t) plan within e legal h = tick-bounds line.loads line.slots v ps plan e t h
 leaf-bounds line v ps (full t s) plan within e legal h = absurd (full-bounds line.loads line.slots ps plan e legal t s h)
 leaf-bounds line v ps average plan within e legal h = average_leaf-bounds line.loads line.slots v ps plan within e legal h
-
--- a value that is at most a number is one
-pub below_some : (v w : Option ℕ) (b : ℕ) → v ≡ Some b → IsAtMost w v → (a : ℕ) × (w ≡ Some a) × (a ≤ b)
-below_some v w b is low = at w (subst (IsAtMost w) is low)
-  where
-    at : (w : Option ℕ) → IsAtMost w (Some b) → (a : ℕ) × (w ≡ Some a) × (a ≤ b)
-    at (Some a) h = (a, refl, h)
-    at None h = absurd h
+leaf-bounds line v ps (weighted w) plan within e legal h = weights-bound line.loads line.slots v ps w plan e legal h
 
 pub leaf-falls : LeavesFall
 leaf-falls line v w ps (tick t) low (b, some, under) =
@@ -55,3 +49,4 @@ leaf-falls line v w ps average low (b, some, under) =
     let (a, is, less) = below_some v w b some low in
     let times : a * lcm_of (periods_of line.loads) ≤ b * lcm_of (periods_of line.loads) = mul-le-mul_right (lcm_of (periods_of line.loads)) less in
     (a, is, omega (arith, times, under))
+leaf-falls line v w ps (weighted weights) low h = weights-fall line.loads line.slots v w ps weights low h

@@ -1,5 +1,5 @@
 -- A plan that extends another costs at least as much in each tick.
-use Rattle.std.proofs.Common.{◌≡◌, ℕ, zero, suc, ◌<◌, ◌≤◌, ◌||◌, true, false, cond, List, [], ◌∷◌, map, sum_by, All, Some, None, ap, arith, inl, inr}
+use Rattle.std.proofs.Common.{◌≡◌, ℕ, zero, suc, ◌<◌, ◌≤◌, ◌||◌, true, false, cond, List, [], ◌∷◌, map, sum_by, All, Option, Some, None, refl, subst, ap, arith, inl, inr}
 use Rattle.std.specs.List.{list_any}
 use Rattle.std.proofs.lemmas.Bool.{or_cases, or_right, cases_Bool, cond_both}
 use Rattle.std.proofs.lemmas.List.Sums.{sum_by-cons}
@@ -7,7 +7,7 @@ use Rattle.std.proofs.lemmas.List.Elements.{All-head, All-tail, All-cons}
 use Rattle.ec_units.specs.declared.unit.Load.{Load}
 use Rattle.ec_loads.specs.declared.item.Item.{Item}
 use Rattle.ec_loads.specs.Cost.{items, is_sent, group, same_group, carried, different, payload, slot_cost, sum_below, tick_cost}
-use Rattle.ec_loads.specs.Search.{Prefix, Extends, done, free, same}
+use Rattle.ec_loads.specs.Search.{Prefix, Extends, done, free, same, IsAtMost}
 use Rattle.ec_bounds.proofs.SetLemmas.{Group, mem, different-subset}
 
 -- xs is ys without some of its items
@@ -90,3 +90,11 @@ pub All-Sub : {xs ys : List Item} (P : Item → Type 0) → Sub xs ys → All P 
 All-Sub P none h = h
 All-Sub P (skip {xs} {ys} {y} r) h = All-Sub P r (All-tail P y ys h)
 All-Sub P (keep {xs} {ys} {x} r) h = All-cons P x xs (All-head P x ys h) (All-Sub P r (All-tail P x ys h))
+
+-- a value that is at most a number is one
+pub below_some : (v w : Option ℕ) (b : ℕ) → v ≡ Some b → IsAtMost w v → (a : ℕ) × (w ≡ Some a) × (a ≤ b)
+below_some v w b is low = at w (subst (IsAtMost w) is low)
+  where
+    at : (w : Option ℕ) → IsAtMost w (Some b) → (a : ℕ) × (w ≡ Some a) × (a ≤ b)
+    at (Some a) h = (a, refl, h)
+    at None h = absurd h

@@ -12,16 +12,13 @@ use Rattle.ec_units.specs.declared.unit.Load.{Load}
 use Rattle.ec_units.specs.Load.{periods_of}
 use Rattle.ec_loads.specs.declared.item.Item.{Item}
 use Rattle.ec_loads.specs.Cost.{items, plan_items, sum_below, tick_cost, raw_cost}
-use Rattle.ec_loads.specs.Held.{AreLoads}
 use Rattle.ec_loads.specs.Legal.{IsLegal}
-use Rattle.ec_loads.specs.Search.{Prefix, Extends, free, same, HasTick}
+use Rattle.ec_loads.specs.Search.{Prefix, Extends, free, same, HasTick, IsAtMost}
 use Rattle.ec_loads.specs.Weights.{weight_of, total_weight, weight_at, least_below, least_weight, weighted_raw, weighted_demand, WeightsHold}
 use Rattle.ec_loads.proofs.CellLemmas.{one_remainder}
 use Rattle.ec_bounds.specs.Left.{weighted_left}
-use Rattle.ec_bounds.specs.Laws.{WeightsBound, WeightsFall}
-use Rattle.ec_bounds.proofs.SubLemmas.{Sub-items, All-Sub, sum_below-le}
+use Rattle.ec_bounds.proofs.SubLemmas.{Sub-items, All-Sub, sum_below-le, below_some}
 use Rattle.ec_bounds.proofs.AverageLemmas.{sum_below-add, sum_below-agree, sum_below-none, sum_below-split, sends, moved, heads, heads-Sub, raw_cost-parts, raw_cost-le, above_or_all}
-use Rattle.ec_bounds.proofs.LeafLemmas.{below_some}
 use Rattle.ec_bounds.proofs.LeftLemmas.{some_same, below_from, below_to}
 
 -- sums
@@ -123,11 +120,12 @@ weights-at (suc b) loads n v ps w plan e legal is above =
     ]
 
 -- weights that hold bound every legal plan that extends the prefix
-pub weights-bound : WeightsBound
-weights-bound = λ loads n v ps w plan within e legal h. weights-at h.0 loads n v ps w plan e legal h.1 h.4
+pub weights-bound : (loads : List Load) (n : ℕ) (v : Option ℕ) (ps : Prefix) (w : List ℕ) (plan : List Place) → Extends ps (map Some plan) → IsLegal loads n plan → WeightsHold loads n v ps w → HasTick loads n v plan
+weights-bound loads n v ps w plan e legal h = weights-at h.0 loads n v ps w plan e legal h.1 h.4
 
-pub weights-fall : WeightsFall
-weights-fall = λ loads n v below ps w low h.
+-- and hold at each smaller value
+pub weights-fall : (loads : List Load) (n : ℕ) (v below : Option ℕ) (ps : Prefix) (w : List ℕ) → IsAtMost below v → WeightsHold loads n v ps w → WeightsHold loads n below ps w
+weights-fall loads n v below ps w low h =
     let (a, at, less) = below_some v below h.0 h.1 low in
     let times = mul-le-mul_right (total_weight w (lcm_of (periods_of loads))) less in
     (a, at, h.2, h.3, omega (arith, times, h.4))

@@ -9,7 +9,6 @@ use Rattle.ec_loads.specs.Legal.{IsLegal}
 use Rattle.ec_loads.specs.Line.{Line}
 use Rattle.ec_loads.specs.Search.{Prefix, Extends, FullHolds, LeafHolds, HasTick, IsAtMost}
 use Rattle.ec_loads.specs.Shape.{Leaf}
-use Rattle.ec_loads.specs.Weights.{WeightsHold}
 
 -- where a leaf holds, every legal plan that extends the prefix has a tick that costs at least the value; at no value, none is legal
 abbrev pub LeavesBound : Type 0
@@ -20,16 +19,6 @@ LeavesBound =
 -- a leaf that holds at a value holds at every smaller one
 abbrev pub LeavesFall : Type 0
 LeavesFall = (line : Line) (v w : Option ℕ) (ps : Prefix) (l : Leaf) → IsAtMost w v → LeafHolds line v ps l → LeafHolds line w ps l
-
--- where weights hold, every legal plan that extends the prefix has a tick that costs at least the value
-abbrev pub WeightsBound : Type 0
-WeightsBound =
-    (loads : List Load) (n : ℕ) (v : Option ℕ) (ps : Prefix) (w : List ℕ) (plan : List Place) → AreLoads loads → Extends ps (map Some plan) → IsLegal loads n plan →
-    WeightsHold loads n v ps w → HasTick loads n v plan
-
--- weights that hold at a value hold at every smaller one
-abbrev pub WeightsFall : Type 0
-WeightsFall = (loads : List Load) (n : ℕ) (v below : Option ℕ) (ps : Prefix) (w : List ℕ) → IsAtMost below v → WeightsHold loads n v ps w → WeightsHold loads n below ps w
 
 -- what a tick costs without the padding is at most what it costs
 abbrev pub RawAtMostCost : Type 0

@@ -1,6 +1,6 @@
 //! What a leaf that holds means.
 
-ghost use Rattle.ec_bounds.specs.Laws.{LeavesBound, LeavesFall, WeightsBound, WeightsFall, RawAtMostCost};
+ghost use Rattle.ec_bounds.specs.Laws.{LeavesBound, LeavesFall, RawAtMostCost};
 
 /// Every legal plan that extends a prefix at which a leaf holds has a tick that costs at least the value; at no
 /// value, no plan that extends it is legal. A slot that is too full holds at every value, and at none, too.
@@ -11,16 +11,6 @@ pub fn leaves_bound()
 /// A leaf that holds at a value holds at every smaller one. None is above every number.
 pub fn leaves_fall()
     ensures { LeavesFall }
-{}
-
-/// Every legal plan that extends a prefix at which weights hold has a tick that costs at least the value.
-pub fn weights_bound()
-    ensures { WeightsBound }
-{}
-
-/// Weights that hold at a value hold at every smaller one. None is above every number.
-pub fn weights_fall()
-    ensures { WeightsFall }
 {}
 
 /// What a tick costs without the padding is at most what it costs.

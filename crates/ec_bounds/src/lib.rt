@@ -7,6 +7,6 @@ mod rest;
 mod weight;
 
 pub use bound::{average_bound, full_bound, tick_bound};
-pub use law::{leaves_bound, leaves_fall, raw_at_most_cost, weights_bound, weights_fall};
+pub use law::{leaves_bound, leaves_fall, raw_at_most_cost};
 pub use rest::Rest;
 pub use weight::weight_bound;

@@ -1,5 +1,5 @@
 -- Leaves that close a prefix at a value, and at each value below it.
-use Rattle.std.proofs.Common.{◌≡◌, ℕ, ◌%◌, ◌<◌, ◌≤◌, inl, inr, List, Option, Some, None, MatchOption, refl, sym, ◌∙◌, subst, arith, rules}
+use Rattle.std.proofs.Common.{◌≡◌, ℕ, ◌%◌, ◌<◌, ◌≤◌, inl, inr, All, List, length, Option, Some, None, MatchOption, refl, sym, ◌∙◌, subst, arith, rules}
 use Rattle.std.proofs.lemmas.Bool.{cases_lt}
 use Rattle.std.proofs.lemmas.Nat.{mod_below}
 use Rattle.ec_hyper.specs.Lcm.{lcm_of}
@@ -10,19 +10,25 @@ use Rattle.ec_loads.specs.Held.{Held, AreLoads, items_of}
 use Rattle.ec_loads.specs.Legal.{Fits}
 use Rattle.ec_loads.specs.Line.{Line}
 use Rattle.ec_loads.specs.Search.{Prefix, TickHolds, FullHolds, AverageHolds, LeafHolds, HasShortTick}
-use Rattle.ec_loads.specs.Shape.{Leaf, tick, average, leaf}
+use Rattle.ec_loads.specs.Shape.{Leaf, tick, average, weighted, leaf}
+use Rattle.ec_loads.specs.Weights.{WeightsHold}
 use Rattle.ec_loads.proofs.CostLemmas.{tick_cost-mod, payload-mod}
 use Rattle.ec_loads.proofs.ItemLemmas.{DivideAll-loads}
 use Rattle.ec_bounds.specs.Laws.{IsFirstFullLeaf}
 use Rattle.ec_bounds.proofs.LeafLemmas.{leaf-falls}
 use Rattle.ec_cert.specs.Shapes.{shape_of}
-use Rattle.ec_cert.specs.declared.tree.Tree.{TickLeaf, Average, the_lemmas}
+use Rattle.ec_cert.specs.declared.tree.Tree.{TickLeaf, Average, Weights, the_lemmas}
 use Rattle.ec_branch.specs.Walks.{IsClosing}
 
 -- what an answer says, said otherwise
 pub match_map : {A : Type 0} {P Q : Type 0} {F G : A → Type 0} (r : Option A) → (P → Q) → ((a : A) → F a → G a) → MatchOption r P F → MatchOption r Q G
 match_map None none some h = none h
 match_map (Some a) none some h = some a h
+
+-- what an answer that gives nothing says
+pub at_none : {A : Type 0} {P : Type 0} (F : A → Type 0) (r : Option A) → ((a : A) → r ≡ Some a → ⊥) → MatchOption r P F → P
+at_none F None never h = h
+at_none F (Some a) never h = absurd (never a refl)
 
 -- the first tick of what repeats is below the hyperperiod
 first_below : (P : ℕ → Type 0) (h t : ℕ) → 0 < h → ((i : ℕ) → P i → P (i % h)) → P t → ((i : ℕ) → i < t → ¬ (P i)) → t < h
@@ -83,6 +89,13 @@ shape_of-Average = search (rules, the_lemmas)
 
 pub shape_of-TickLeaf : (t : ℕ) → shape_of (TickLeaf t) ≡ leaf (tick t)
 shape_of-TickLeaf t = search (rules, the_lemmas)
+
+pub shape_of-Weights : (w : List ℕ) → shape_of (Weights w) ≡ leaf (weighted w)
+shape_of-Weights w = search (rules, the_lemmas)
+
+-- weights as a leaf in memory
+pub weights_leaf : (line : Line) (v : Option ℕ) (ps : Prefix) (w : List ℕ) → WeightsHold line.loads line.slots v ps w → length w ≤ 1024 → All (λ x. x ≤ 65535) w → IsClosing line v ps (shape_of (Weights w))
+weights_leaf line v ps w h few each = subst (IsClosing line v ps) (sym (shape_of-Weights w)) (closing_leaf line v ps (weighted w) h (few, each))
 
 -- the average as a leaf in memory
 pub average_leaf : (line : Line) (v : Option ℕ) (ps : Prefix) → AverageHolds line.loads line.slots v ps → IsClosing line v ps (shape_of Average)

@@ -4,7 +4,7 @@ use Rattle.std.proofs.lemmas.List.{append_assoc, append-nil, reverse-append, len
 use Rattle.std.proofs.lemmas.Option.{slice_get_within}
 use Rattle.ec_units.specs.declared.slave.Place.{Place}
 use Rattle.ec_loads.specs.Held.{Held}
-use Rattle.ec_loads.specs.Line.{slots_alone, Line, line_of}
+use Rattle.ec_loads.specs.Line.{turned_time, Line, line_of}
 use Rattle.ec_loads.specs.Search.{Prefix, children, IsAtMost}
 use Rattle.ec_loads.specs.Shape.{open_leaf}
 use Rattle.ec_bounds.specs.Left.{Left, IsRestOf}
@@ -171,15 +171,15 @@ on_later task ls held left now turn order k on same is =
     let all = ap length same in
     (omega (arith, count, long, all, is), take_all (length order - k) (drop k order) (omega (arith, length-drop k order)) ∙ (λ j. drop ((is ∙ sym long) j) (same j)) ∙ at.1)
 
-line_loads : (held : Held) (line : Line) → line_of slots_alone held ≡ line → held.loads ≡ line.loads
+line_loads : (held : Held) (line : Line) → line_of turned_time held ≡ line → held.loads ≡ line.loads
 line_loads held line e = ap (λ (l : Line). l.loads) e
 
-line_slots : (held : Held) (line : Line) → line_of slots_alone held ≡ line → held.slots ≡ line.slots
+line_slots : (held : Held) (line : Line) → line_of turned_time held ≡ line → held.slots ≡ line.slots
 line_slots held line e = ap (λ (l : Line). l.slots) e
 
 -- one unit more or less has a place
-pub line_after : (held placed : Held) (u : ℕ) (o : Option Place) (line : Line) → line_of slots_alone held ≡ line → placed ≡ with_place held u o → line_of slots_alone placed ≡ line
-line_after held placed u o line e made = ap (λ (h : Held). line_of slots_alone h) made ∙ e
+pub line_after : (held placed : Held) (u : ℕ) (o : Option Place) (line : Line) → line_of turned_time held ≡ line → placed ≡ with_place held u o → line_of turned_time placed ≡ line
+line_after held placed u o line e made = ap (λ (h : Held). line_of turned_time h) made ∙ e
 
 -- a walk that is ready at a node
 pub on_ready : (task : Task) (ls : Vec Level Global) (held : Held) (left : Left) (now : State) (turn : Turn) (order : List ℕ) → (on : IsOn task ls held left now turn) → order ≡ on.later → IsReadyFor held.loads held.slots held.places order
@@ -198,7 +198,7 @@ for_slots task ls held left now turn order frame on is = is.slots ∙ sym (line_
 pub on_leaf :
     (task : Task) (ls : Vec Level Global) (held : Held) (left : Left) (old now : State) (order : List ℕ) (floor : ℕ) (tree : Tree) →
     (on : IsOn task ls held left old Enter) → order ≡ on.later → floor ≡ task.floor →
-    IsExplored (line_of slots_alone held) floor held.places order old now (shape_of tree) → IsOn task ls held left now (Up tree)
+    IsExplored (line_of turned_time held) floor held.places order old now (shape_of tree) → IsOn task ls held left now (Up tree)
 on_leaf task ls held left old now order floor tree on same floor_is explored = record {
   line = on.line;
   rest = on.rest;
@@ -218,7 +218,7 @@ on_leaf task ls held left old now order floor tree on same floor_is explored = r
 pub on_split :
     (task : Task) (ls : Vec Level Global) (held : Held) (left : Left) (old now : State) (order : List ℕ) (floor : ℕ) (level : Level) →
     (on : IsOn task ls held left old Enter) → order ≡ on.later → floor ≡ task.floor →
-    IsOpened (line_of slots_alone held) floor held.places order old now level → IsPaused task ls held left now level
+    IsOpened (line_of turned_time held) floor held.places order old now level → IsPaused task ls held left now level
 on_split task ls held left old now order floor level on same floor_is opened =
     let next : on.later ≡ level.unit ∷ opened.later = sym same ∙ opened.next in
     let long = ap length next in
@@ -318,9 +318,9 @@ paused_next task ls ls2 held held2 left left2 now level p places paused steps pu
 -- the place of the innermost level is taken back
 pub taken_back :
     (task : Task) (ls : List Level) (level : Level) (held held2 : Held) (left left2 : Left) (later : List ℕ) (from : State) →
-    line_of slots_alone held ≡ task.line → IsRestOf left held → (stack : IsStack task (level ∷ ls) held.places later from) →
+    line_of turned_time held ≡ task.line → IsRestOf left held → (stack : IsStack task (level ∷ ls) held.places later from) →
     held2 ≡ with_place held level.unit None → left2 ≡ with_flag left level.unit true →
-    (line_of slots_alone held2 ≡ task.line) × IsRestOf left2 held2 × (held2.places ≡ stack.0)
+    (line_of turned_time held2 ≡ task.line) × IsRestOf left2 held2 × (held2.places ≡ stack.0)
 taken_back task ls level held held2 left left2 later from line rest (before, entered, top, stack) made flagged =
     let u = level.unit in
     let under : Held = record { loads = held.loads; slots = held.slots; places = before } in
@@ -418,12 +418,12 @@ within_end task ls held left at none =
     record { line = at.line; rest = at.rest; places = stack.0 }
 
 -- all is as it was
-pub held_same : (a b : Held) → line_of slots_alone a ≡ line_of slots_alone b → a.places ≡ b.places → a ≡ b
+pub held_same : (a b : Held) → line_of turned_time a ≡ line_of turned_time b → a.places ≡ b.places → a ≡ b
 held_same a b line places = λ j. record { loads = (ap (λ (l : Line). l.loads) line) j; slots = (ap (λ (l : Line). l.slots) line) j; places = places j }
 
 -- the walk over all that the loads leave
 abbrev pub walk_task : Held → List ℕ → Frame → State → Task
-walk_task held order frame first = record { line = line_of slots_alone held; floor = frame.floor; places = held.places; order = order; first = first }
+walk_task held order frame first = record { line = line_of turned_time held; floor = frame.floor; places = held.places; order = order; first = first }
 
 pub for_walk : (held : Held) (order : List ℕ) (first now : Frame) (s : State) → now ≡ first → first.loads ≡ held.loads → first.slots ≡ held.slots → IsFor (walk_task held order first s) order now
 for_walk held order first now s same loads slots = record {

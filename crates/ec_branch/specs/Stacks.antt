@@ -3,7 +3,7 @@ use Rattle.std.specs.Prelude.{◌≡◌, ℕ, suc, ◌+◌, ◌*◌, ◌^◌, �
 use Rattle.std.proofs.Common.{Vec, Global, vec_capacity}
 use Rattle.ec_units.specs.declared.slave.Place.{Place}
 use Rattle.ec_loads.specs.Held.{Held}
-use Rattle.ec_loads.specs.Line.{slots_alone, Line, line_of}
+use Rattle.ec_loads.specs.Line.{turned_time, Line, line_of}
 use Rattle.ec_loads.specs.Search.{Prefix, children, IsAtMost}
 use Rattle.ec_loads.specs.Shape.{Shape}
 use Rattle.ec_bounds.specs.Left.{Left, IsRestOf}
@@ -94,7 +94,7 @@ IsTurn task ps later from now (Up tree) = IsExplored task.line task.floor ps lat
 
 -- where a walk is
 pub record IsOn (task : Task) (ls : Vec Level Global) (held : Held) (left : Left) (now : State) (turn : Turn) : Type 0 where
-  pub line : line_of slots_alone held ≡ task.line
+  pub line : line_of turned_time held ≡ task.line
   pub rest : IsRestOf left held
   pub later : List ℕ
   pub ready : IsReadyFor task.line.loads task.line.slots held.places later
@@ -105,7 +105,7 @@ pub record IsOn (task : Task) (ls : Vec Level Global) (held : Held) (left : Left
 
 -- the same between two children of a split
 pub record IsPaused (task : Task) (ls : Vec Level Global) (held : Held) (left : Left) (now : State) (level : Level) : Type 0 where
-  pub line : line_of slots_alone held ≡ task.line
+  pub line : line_of turned_time held ≡ task.line
   pub rest : IsRestOf left held
   pub later : List ℕ
   pub ready : IsReadyFor task.line.loads task.line.slots held.places (level.unit ∷ later)
@@ -119,7 +119,7 @@ pub record IsPaused (task : Task) (ls : Vec Level Global) (held : Held) (left : 
 
 -- the places are those that the levels, the innermost first, lead to
 pub record IsWithin (task : Task) (ls : List Level) (held : Held) (left : Left) : Type 0 where
-  pub line : line_of slots_alone held ≡ task.line
+  pub line : line_of turned_time held ≡ task.line
   pub rest : IsRestOf left held
   pub later : List ℕ
   pub from : State
@@ -127,7 +127,7 @@ pub record IsWithin (task : Task) (ls : List Level) (held : Held) (left : Left) 
 
 -- the places are as they were when the walk began
 pub record IsBack (task : Task) (held : Held) (left : Left) : Type 0 where
-  pub line : line_of slots_alone held ≡ task.line
+  pub line : line_of turned_time held ≡ task.line
   pub rest : IsRestOf left held
   pub places : held.places ≡ task.places
 

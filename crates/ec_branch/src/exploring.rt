@@ -3,7 +3,7 @@
 ghost use Rattle.std.specs.Prelude.{◌≡◌, ℕ, ◌<◌, ◌≤◌, IfOk, All, length, drop, false, Some};
 ghost use Rattle.ec_units.specs.Load.{loads_of};
 ghost use Rattle.ec_loads.specs.Held.{no_places};
-ghost use Rattle.ec_loads.specs.Line.{slots_alone, line_by, line_of};
+ghost use Rattle.ec_loads.specs.Line.{turned_time, line_by, line_of};
 ghost use Rattle.ec_loads.specs.Search.{Prefix, IsAtMost, IsPartialTree, node_count, open_count};
 ghost use Rattle.ec_symmetry.specs.Orders.{IsOrder, AreChildren, IsReachedPrefix, with_places, prefix_of};
 ghost use Rattle.ec_bounds.specs.Left.{IsRestOf};
@@ -42,7 +42,7 @@ fn remove_all(loads: &mut Loads, rest: &mut Rest, order: &[u8], prefix: &[Place]
     requires below { All (λ u. u < length loads.old.places) order.now }
     requires left { IsRestOf rest.old loads.old }
     ensures removed { (before : Prefix) → IsReadyFor loads.old.loads loads.old.slots before order.now →
-        AreChildren (line_of slots_alone loads.old) before order.now prefix.now → loads.old.places ≡ with_places before order.now prefix.now →
+        AreChildren (line_of turned_time loads.old) before order.now prefix.now → loads.old.places ≡ with_places before order.now prefix.now →
         loads.new ≡ record loads.old { places = before } }
     ensures left { IsRestOf rest.new loads.new }
 {
@@ -68,7 +68,7 @@ pub fn explore_in<G: Guide>(
     requires empty { loads.old.places ≡ no_places loads.old.loads }
     requires left { IsRestOf rest.old loads.old }
     requires order { IsOrder (length loads.old.loads) order.now }
-    requires reached { IsReachedPrefix (line_of slots_alone loads.old) order.now prefix.now }
+    requires reached { IsReachedPrefix (line_of turned_time loads.old) order.now prefix.now }
     requires loads { (G.frame guide.old).loads ≡ loads.old.loads }
     requires slots { (G.frame guide.old).slots ≡ loads.old.slots }
     requires running { G.halted guide.old ≡ false }
@@ -76,7 +76,7 @@ pub fn explore_in<G: Guide>(
     ensures same { loads.new ≡ loads.old }
     ensures left { IsRestOf rest.new loads.new }
     ensures frame { G.frame guide.new ≡ G.frame guide.old }
-    ensures partial { IfOk result (λ sub. IsPartialTree (line_of slots_alone loads.old) sub.threshold (shape_of sub.tree) (prefix_of loads.old.loads order.now prefix.now) (drop (length prefix.now) order.now)) }
+    ensures partial { IfOk result (λ sub. IsPartialTree (line_of turned_time loads.old) sub.threshold (shape_of sub.tree) (prefix_of loads.old.loads order.now prefix.now) (drop (length prefix.now) order.now)) }
     ensures least { IfOk result (λ sub. IsFair (G.frame guide.old).floor loads.old.loads loads.old.slots sub.threshold) }
     ensures known { IfOk result (λ sub. sub.threshold ≡ G.known guide.new) }
     ensures upper { IfOk result (λ sub. IsAtMost sub.threshold (G.known guide.old)) }
@@ -114,13 +114,13 @@ pub fn explore<G: Guide>(
     grant: u32,
 ) -> Result<Subtree, AllocError>
     requires order { IsOrder (length units.now.units) order.now }
-    requires reached { IsReachedPrefix (line_by slots_alone (loads_of units.now.units) units.now.slots) order.now prefix.now }
+    requires reached { IsReachedPrefix (line_by turned_time (loads_of units.now.units) units.now.slots) order.now prefix.now }
     requires loads { (G.frame guide.old).loads ≡ loads_of units.now.units }
     requires slots { (G.frame guide.old).slots ≡ units.now.slots }
     requires running { G.halted guide.old ≡ false }
     requires some { 1 ≤ grant }
     ensures frame { G.frame guide.new ≡ G.frame guide.old }
-    ensures partial { IfOk result (λ sub. IsPartialTree (line_by slots_alone (loads_of units.now.units) units.now.slots) sub.threshold (shape_of sub.tree) (prefix_of (loads_of units.now.units) order.now prefix.now) (drop (length prefix.now) order.now)) }
+    ensures partial { IfOk result (λ sub. IsPartialTree (line_by turned_time (loads_of units.now.units) units.now.slots) sub.threshold (shape_of sub.tree) (prefix_of (loads_of units.now.units) order.now prefix.now) (drop (length prefix.now) order.now)) }
     ensures least { IfOk result (λ sub. IsFair (G.frame guide.old).floor (loads_of units.now.units) units.now.slots sub.threshold) }
     ensures known { IfOk result (λ sub. sub.threshold ≡ G.known guide.new) }
     ensures upper { IfOk result (λ sub. IsAtMost sub.threshold (G.known guide.old)) }

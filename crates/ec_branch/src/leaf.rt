@@ -1,18 +1,20 @@
 //! The leaf that closes a prefix.
 
-ghost use Rattle.std.specs.Prelude.{◌≡◌, ℕ, ◌≤◌, MatchOption};
+ghost use Rattle.std.specs.Prelude.{◌≡◌, ℕ, ◌≤◌, IfOk, MatchOption};
 ghost use Rattle.ec_loads.specs.Cost.{IsFirstBusiest};
 ghost use Rattle.ec_loads.specs.Held.{items_of};
 ghost use Rattle.ec_loads.specs.Legal.{Fits};
-ghost use Rattle.ec_loads.specs.Line.{slots_alone, line_of};
+ghost use Rattle.ec_loads.specs.Line.{turned_time, line_of};
 ghost use Rattle.ec_loads.specs.Search.{TickHolds, FullHolds};
 ghost use Rattle.ec_bounds.specs.Left.{IsRestOf};
 ghost use Rattle.ec_cert.specs.Shapes.{shape_of};
 ghost use Rattle.ec_branch.specs.Walks.{IsClosing};
 
+use crate::weighted::weighted_leaf;
 use ec_bounds::{Rest, average_bound, full_bound, tick_bound};
 use ec_cert::Tree;
 use ec_loads::Loads;
+use std::alloc::{AllocError, Global};
 
 /// The least tick, and in it the least slot, whose payload is too large.
 fn full_leaf(loads: &Loads) -> Option<(u32, u8)>
@@ -41,13 +43,13 @@ pub(crate) fn top_of(loads: &Loads) -> (u64, u32)
     loads.top()
 }
 
-/// The leaf that closes the places so far at a value: a payload that is too large, else a tick that costs at least
-/// the value, else the average; none where the places are to be split or are a better plan.
-pub(crate) fn leaf_of(loads: &Loads, rest: &Rest, value: Option<u64>) -> Option<Tree>
+/// The leaf without weights that closes the places so far at a value: a payload that is too large, else a tick that
+/// costs at least the value, else the average.
+fn plain_leaf(loads: &Loads, rest: &Rest, value: Option<u64>) -> Option<Tree>
     requires { IsRestOf rest.now loads.now }
     ensures { MatchOption result
         (Fits (items_of loads.now) loads.now.slots × ((t : ℕ) → ¬ (TickHolds loads.now.loads loads.now.slots value loads.now.places t)))
-        (λ tree. IsClosing (line_of slots_alone loads.now) value loads.now.places (shape_of tree)) }
+        (λ tree. IsClosing (line_of turned_time loads.now) value loads.now.places (shape_of tree)) }
 {
     if let Some((tick, slot)) = full_leaf(loads) {
         return Some(Tree::FullLeaf(tick, slot));
@@ -59,4 +61,24 @@ pub(crate) fn leaf_of(loads: &Loads, rest: &Rest, value: Option<u64>) -> Option<
         return Some(Tree::Average);
     }
     None
+}
+
+/// The leaf that closes the places so far at a value: a payload that is too large, else a tick that costs at least
+/// the value, else the average, else the average weighted by what the ticks cost; none where the places are to be
+/// split or are a better plan.
+pub(crate) fn leaf_of(
+    alloc: Global,
+    loads: &Loads,
+    rest: &Rest,
+    value: Option<u64>,
+) -> Result<Option<Tree>, AllocError>
+    requires { IsRestOf rest.now loads.now }
+    ensures { IfOk result (λ leaf. MatchOption leaf
+        (Fits (items_of loads.now) loads.now.slots × ((t : ℕ) → ¬ (TickHolds loads.now.loads loads.now.slots value loads.now.places t)))
+        (λ tree. IsClosing (line_of turned_time loads.now) value loads.now.places (shape_of tree))) }
+{
+    match plain_leaf(loads, rest, value) {
+        None => weighted_leaf(alloc, loads, rest, value),
+        leaf => Ok(leaf),
+    }
 }

@@ -12,6 +12,7 @@ mod order;
 mod plan;
 mod value;
 mod walk;
+mod weighted;
 
 pub use exploring::{explore, explore_in};
 pub use first_plan::greedy;

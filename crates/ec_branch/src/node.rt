@@ -1,7 +1,7 @@
 //! A node: closed, told to the guide, or split.
 
 ghost use Rattle.std.specs.Prelude.{◌≡◌, IfOk, true};
-ghost use Rattle.ec_loads.specs.Line.{slots_alone, line_of};
+ghost use Rattle.ec_loads.specs.Line.{turned_time, line_of};
 ghost use Rattle.ec_bounds.specs.Left.{IsRestOf};
 ghost use Rattle.ec_branch.specs.Frames.{Frame};
 ghost use Rattle.ec_branch.specs.Stacks.{IsEntered, state_of};
@@ -43,13 +43,13 @@ pub(crate) fn enter<G: Guide>(
     requires slots { (G.frame guide.old).slots ≡ loads.now.slots }
     ensures frame { G.frame guide.new ≡ G.frame guide.old }
     ensures stays { G.halted guide.old ≡ true → G.halted guide.new ≡ true }
-    ensures entered { IfOk result (λ node. IsEntered (line_of slots_alone loads.now) (G.frame guide.old).floor loads.now.places order.now (state_of search.old (G.halted guide.old) (G.known guide.old)) (state_of search.new (G.halted guide.new) (G.known guide.new)) node) }
+    ensures entered { IfOk result (λ node. IsEntered (line_of turned_time loads.now) (G.frame guide.old).floor loads.now.places order.now (state_of search.old (G.halted guide.old) (G.known guide.old)) (state_of search.new (G.halted guide.new) (G.known guide.new)) node) }
 {
     if search.left == 0 || guide.stopped() {
         return Ok(Entered::Leaf(Tree::OpenLeaf));
     }
     search.value = lesser(search.value, guide.bound());
-    if let Some(leaf) = leaf_of(loads, rest, search.value) {
+    if let Some(leaf) = leaf_of(alloc, loads, rest, search.value)? {
         search.left -= 1;
         return Ok(Entered::Leaf(leaf));
     }
@@ -69,7 +69,7 @@ pub(crate) fn enter<G: Guide>(
         Some((unit, _)) => {
             let unit = usize::from(*unit);
             search.left -= 1;
-            let places = children_of(loads, unit, false);
+            let places = children_of(loads, unit, true);
             let trees = Vec::with_capacity(alloc, places.len())?;
             Ok(Entered::Split(Level {
                 unit,

@@ -1,7 +1,7 @@
 //! The walk over the prefixes.
 
 ghost use Rattle.std.specs.Prelude.{◌≡◌, ℕ, ◌<◌, IfOk, IfErr, true, reverse};
-ghost use Rattle.ec_loads.specs.Line.{slots_alone, line_of};
+ghost use Rattle.ec_loads.specs.Line.{turned_time, line_of};
 ghost use Rattle.ec_bounds.specs.Left.{IsRestOf};
 ghost use Rattle.ec_cert.specs.Shapes.{shape_of};
 ghost use Rattle.ec_branch.specs.Frames.{Frame};
@@ -97,7 +97,7 @@ pub(crate) fn walk<G: Guide>(
     ensures frame { G.frame guide.new ≡ G.frame guide.old }
     ensures stays { G.halted guide.old ≡ true → G.halted guide.new ≡ true }
     ensures known { IfOk result (λ _. FollowsGuide search.old.left (G.halted guide.old) search.old.value (G.known guide.old) search.new.value (G.known guide.new)) }
-    ensures walked { IfOk result (λ tree. IsWalked (line_of slots_alone loads.old) (G.frame guide.old).floor loads.old.places order.now search.old.value search.old.left search.new.value search.new.left (G.halted guide.new) (shape_of tree)) }
+    ensures walked { IfOk result (λ tree. IsWalked (line_of turned_time loads.old) (G.frame guide.old).floor loads.old.places order.now search.old.value search.old.left search.new.value search.new.left (G.halted guide.new) (shape_of tree)) }
 {
     let mut levels = Vec::with_capacity(alloc, order.len())?;
     let mut turn = Turn::Enter;

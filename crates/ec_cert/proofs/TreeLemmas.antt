@@ -21,16 +21,16 @@ pub shapes_of-drop : (ts : List Tree) (i : ℕ) (d : Tree) → i < length ts →
 shapes_of-drop ts i d h = ap shapes_of (drop_more ts i d h)
 
 -- what has been looked at has the levels, so the rest decides
-abbrev pub SameLevels : ℕ → List Tree → ℕ → Type 0
-SameLevels d ts i = HaveLevels d (shapes_of (drop i ts)) ↔ HaveLevels d (shapes_of ts)
+abbrev pub SameLevels : ℕ → ℕ → List Tree → ℕ → Type 0
+SameLevels version d ts i = HaveLevels version d (shapes_of (drop i ts)) ↔ HaveLevels version d (shapes_of ts)
 
-pub levels_split : (d : ℕ) (t : Tree) (v : Vec Tree Global) → (0 < d) → t ≡ Split v
-    → HasLevels d (shape_of t) ↔ ((1 ≤ length v.items) × (length v.items ≤ 480) × HaveLevels (d - 1) (shapes_of v.items))
-levels_split zero t v pos is = absurd (omega arith)
-levels_split (suc d) t v pos is =
+pub levels_split : (version d : ℕ) (t : Tree) (v : Vec Tree Global) → (0 < d) → t ≡ Split v
+    → HasLevels version d (shape_of t) ↔ ((1 ≤ length v.items) × (length v.items ≤ 480) × HaveLevels version (d - 1) (shapes_of v.items))
+levels_split version zero t v pos is = absurd (omega arith)
+levels_split version (suc d) t v pos is =
     let e : shape_of t ≡ split (shapes_of v.items) = ap shape_of is ∙ shape_of-Split v in
     let n : shape_count (shapes_of v.items) ≡ length v.items = shape_count-shapes_of v.items in
     let down : suc d - 1 ≡ d = omega arith in (
-      λ has. let (low, high, all) = subst (HasLevels (suc d)) e has in (omega arith, omega arith, rw down all),
-      λ parts. let below : HaveLevels d (shapes_of v.items) = subst (λ k. HaveLevels k (shapes_of v.items)) down parts.2 in subst (HasLevels (suc d)) (sym e) (omega arith, omega arith, below),
+      λ has. let (low, high, all) = subst (HasLevels version (suc d)) e has in (omega arith, omega arith, rw down all),
+      λ parts. let below : HaveLevels version d (shapes_of v.items) = subst (λ k. HaveLevels version k (shapes_of v.items)) down parts.2 in subst (HasLevels version (suc d)) (sym e) (omega arith, omega arith, below),
     )

@@ -1,3 +1,4 @@
 pub mod BestPlan
 pub mod Shapes
+pub mod Versions
 pub mod WellFormed

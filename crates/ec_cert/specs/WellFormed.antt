@@ -1,30 +1,37 @@
 -- Which certificates have a text.
-use Rattle.std.specs.Prelude.{◌≡◌, ℕ, zero, suc, ◌<◌, ◌≤◌, true, length, Option, None, Some}
+use Rattle.std.specs.Prelude.{◌≡◌, ℕ, zero, suc, ◌<◌, ◌≤◌, true, List, length, Option, None, Some}
 use Rattle.std.specs.List.{All}
 use Rattle.ec_units.specs.Names.{is_name}
 use Rattle.ec_units.specs.declared.slave.Place.{Place}
-use Rattle.ec_loads.specs.Shape.{Leaf, tick, full, average, Shape, split, leaf, open_leaf, Shapes, no_shapes, more, shape_count}
+use Rattle.ec_loads.specs.Shape.{Leaf, tick, full, average, weighted, Shape, split, leaf, open_leaf, Shapes, no_shapes, more, shape_count}
 use Rattle.ec_cert.specs.declared.lists.UnitLine.{UnitLine}
 use Rattle.ec_cert.specs.declared.cert.Best.{Best}
 use Rattle.ec_cert.specs.Shapes.{CertView}
 
--- the numbers of a leaf are in range
-abbrev pub IsLeafLine : Leaf → Type 0
-IsLeafLine (tick t) = t ≤ 1023
-IsLeafLine (full t s) = (t ≤ 1023) × (s ≤ 7)
-IsLeafLine average = Unit {0}
+-- there are 1 to 1024 weights, none above 65535
+pub record AreWeights (w : List ℕ) : Type 0 where
+  pub least : 1 ≤ length w
+  pub most : length w ≤ 1024
+  pub each : All (λ x. x ≤ 65535) w
 
--- the numbers of a tree are in range, no leaf is open, and the tree has at most so many levels
+-- the numbers of a leaf are in range, and certificates of this version have such leaves
+abbrev pub IsLeafLine : ℕ → Leaf → Type 0
+IsLeafLine version (tick t) = t ≤ 1023
+IsLeafLine version (full t s) = (t ≤ 1023) × (s ≤ 7)
+IsLeafLine version average = Unit {0}
+IsLeafLine version (weighted w) = (2 ≤ version) × AreWeights w
+
+-- the numbers of a tree are in range, certificates of this version have such leaves, and the tree has at most so many levels
 abbrev mutual
-  pub HasLevels : ℕ → Shape → Type 0
-  HasLevels zero s = ⊥
-  HasLevels (suc d) (split ss) = (1 ≤ shape_count ss) × (shape_count ss ≤ 480) × HaveLevels d ss
-  HasLevels (suc d) (leaf l) = IsLeafLine l
-  HasLevels (suc d) open_leaf = ⊥
+  pub HasLevels : ℕ → ℕ → Shape → Type 0
+  HasLevels version zero s = ⊥
+  HasLevels version (suc d) (split ss) = (1 ≤ shape_count ss) × (shape_count ss ≤ 480) × HaveLevels version d ss
+  HasLevels version (suc d) (leaf l) = IsLeafLine version l
+  HasLevels version (suc d) open_leaf = ⊥
 
-  pub HaveLevels : ℕ → Shapes → Type 0
-  HaveLevels d no_shapes = Unit {0}
-  HaveLevels d (more s ss) = HasLevels d s × HaveLevels d ss
+  pub HaveLevels : ℕ → ℕ → Shapes → Type 0
+  HaveLevels version d no_shapes = Unit {0}
+  HaveLevels version d (more s ss) = HasLevels version d s × HaveLevels version d ss
 
 pub record IsUnitLine (u : UnitLine) : Type 0 where
   pub name : is_name u.name ≡ true
@@ -47,9 +54,10 @@ abbrev pub IsBestOrNone : ℕ → Option Best → Type 0
 IsBestOrNone units None = Unit {0}
 IsBestOrNone units (Some b) = IsBest units b
 
--- a certificate that has a text: its parts are in the ranges of the text and of version 1, its counts agree, and no node has more than 48 splits above it
+-- a certificate that has a text: its parts are in the ranges of the text and of its version, its counts agree, and no node has more than 48 splits above it
 pub record IsWellFormed (c : CertView) : Type 0 where
-  pub version : c.version ≡ 1
+  pub least_version : 1 ≤ c.version
+  pub most_version : c.version ≤ 2
   pub least_slots : 1 ≤ c.slots
   pub most_slots : c.slots ≤ 8
   pub least_units : 1 ≤ length c.units
@@ -58,4 +66,4 @@ pub record IsWellFormed (c : CertView) : Type 0 where
   pub order_count : length c.order ≡ length c.units
   pub order : All (λ i. i < length c.units) c.order
   pub best : IsBestOrNone (length c.units) c.best
-  pub tree : HasLevels 49 c.tree
+  pub tree : HasLevels c.version 49 c.tree

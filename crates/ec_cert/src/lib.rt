@@ -6,9 +6,11 @@ mod lists;
 mod order;
 mod ranges;
 mod tree;
+mod weights;
 
 pub use cert::{Best, Cert, Subtree};
 pub use lists::{UnitLine, UnitLines};
 pub use order::Order;
 pub use ranges::{LEVELS, is_name, well_formed};
 pub use tree::Tree;
+pub use weights::Weights;

@@ -4,7 +4,7 @@ ghost use Rattle.std.specs.Prelude.{◌≡◌, ℕ, ◌<◌, ◌≤◌, ◌↔�
 ghost use Rattle.std.specs.List.{All, list_all};
 ghost use Rattle.ec_units.specs.Names.{is_name as is_name_spec, is_name_byte as is_name_byte_spec};
 ghost use Rattle.ec_cert.specs.Shapes.{shape_of, shapes_of, cert_view};
-ghost use Rattle.ec_cert.specs.WellFormed.{HasLevels, HaveLevels, IsUnitLine, IsPlaceLine, IsBest, IsBestOrNone, IsWellFormed};
+ghost use Rattle.ec_cert.specs.WellFormed.{HasLevels, HaveLevels, IsUnitLine, IsPlaceLine, AreWeights, IsBest, IsBestOrNone, IsWellFormed};
 
 use crate::cert::{Best, Cert};
 use crate::lists::UnitLine;
@@ -80,37 +80,47 @@ fn is_child_count(count: usize) -> bool
     1 <= count && count <= 480
 }
 
-/// Whether the numbers of a tree are in range, no leaf is open, and it has at most so many levels.
+/// Whether there are 1 to 1024 weights.
+fn are_weights(weights: &[u16]) -> bool
+    ensures { IsTrue result ↔ AreWeights weights.now }
+{
+    1 <= weights.len() && weights.len() <= 1024
+}
+
+/// Whether the numbers of a tree are in range, certificates of this version have such leaves, and it has at most so
+/// many levels.
 #[cycle(levels)]
-fn has_levels(tree: &Tree, levels: u8) -> bool
-    ensures { IsTrue result ↔ HasLevels levels (shape_of tree.now) }
+fn has_levels(version: u8, tree: &Tree, levels: u8) -> bool
+    ensures { IsTrue result ↔ HasLevels version levels (shape_of tree.now) }
 {
     if levels == 0 {
         return false;
     }
     match tree {
-        Tree::Split(trees) => is_child_count(trees.len()) && have_levels(trees, levels - 1),
+        Tree::Split(trees) => is_child_count(trees.len())
+            && have_levels(version, trees, levels - 1),
         Tree::TickLeaf(tick) => *tick <= 1023,
         Tree::FullLeaf(tick, slot) => *tick <= 1023 && *slot <= 7,
         Tree::Average => true,
+        Tree::Weights(weights) => 2 <= version && are_weights(weights.as_slice()),
         Tree::OpenLeaf => false,
     }
 }
 
 #[cycle(levels)]
-fn have_levels(trees: &Vec<Tree>, levels: u8) -> bool
-    ensures { IsTrue result ↔ HaveLevels levels (shapes_of trees.now.items) }
+fn have_levels(version: u8, trees: &Vec<Tree>, levels: u8) -> bool
+    ensures { IsTrue result ↔ HaveLevels version levels (shapes_of trees.now.items) }
 {
     'children: for tree in trees {
-        if !has_levels(tree, levels) {
+        if !has_levels(version, tree, levels) {
             return false;
         }
     }
     true
 }
 
-/// Whether a certificate has a text: its parts are in the ranges of the text and of version 1, its counts agree,
-/// and no node has more than 48 splits above it. Takes no memory.
+/// Whether a certificate has a text: its parts are in the ranges of the text and of its version, its counts
+/// agree, and no node has more than 48 splits above it. Takes no memory.
 pub fn well_formed(cert: &Cert) -> bool
     ensures { IsTrue result ↔ IsWellFormed (cert_view cert.now) }
 {
@@ -120,7 +130,8 @@ pub fn well_formed(cert: &Cert) -> bool
         None => true,
         Some(best) => is_best(best, units.len()),
     };
-    cert.version == 1
+    1 <= cert.version
+        && cert.version <= 2
         && 1 <= cert.slots
         && cert.slots <= 8
         && 1 <= units.len()
@@ -129,5 +140,5 @@ pub fn well_formed(cert: &Cert) -> bool
         && order.len() == units.len()
         && are_below(order, units.len())
         && is_best_right
-        && has_levels(&cert.tree, LEVELS)
+        && has_levels(cert.version, &cert.tree, LEVELS)
 }

@@ -1,5 +1,7 @@
 //! Search trees.
 
+use crate::weights::Weights;
+
 /// A search tree (own profile). Ticks and slots are numbered from 0.
 #[derive(Debug, Drop)]
 pub enum Tree {
@@ -11,6 +13,9 @@ pub enum Tree {
     FullLeaf(u32, u8),
     /// Closed: some tick costs at least the value, by the average of all.
     Average,
-    /// Left open; no text of version 1 has it.
+    /// Closed: some tick costs at least the value, by the average of all with a weight for each tick of the
+    /// hyperperiod; no text of version 1 has it.
+    Weights(Weights),
+    /// Left open; no text has it.
     OpenLeaf,
 }

@@ -8,7 +8,7 @@ use Rattle.std.proofs.lemmas.Bool.{and_parts}
 use Rattle.std.proofs.lemmas.Bool.Decides.{nat_tests}
 use Rattle.ec_units.specs.Names.{is_name_byte}
 use Rattle.ec_units.specs.declared.slave.Place.{Place}
-use Rattle.ec_loads.specs.Shape.{Leaf, tick, full, average, Shape, split, leaf, open_leaf, Shapes, no_shapes, more, shape_count}
+use Rattle.ec_loads.specs.Shape.{Leaf, tick, full, average, weighted, Shape, split, leaf, open_leaf, Shapes, no_shapes, more, shape_count}
 use Rattle.ec_cert_text.specs.declared.fault.CertFault.{CertFault}
 use Rattle.ec_cert.specs.declared.lists.UnitLine.{UnitLine}
 use Rattle.ec_cert.specs.declared.cert.Best.{Best}
@@ -61,41 +61,45 @@ text-unit u f =
 text-place : (p : Place) → IsPlaceLine p → are_text (place_line p) ≡ true
 text-place p f = text-number p.phase _ (omega (arith, f.0)) (text-number p.slot _ (omega (arith, f.1)) refl)
 
-text-index : (units : ℕ) → units ≤ 48 → (i : ℕ) → i < units → are_text (index_word i) ≡ true
-text-index units few i h = text-decimal i (omega arith)
+text-index : (most : ℕ) → most ≤ 65536 → (i : ℕ) → i < most → are_text (index_word i) ≡ true
+text-index most few i h = text-decimal i (omega arith)
+
+text-weight : (i : ℕ) → i ≤ 65535 → are_text (index_word i) ≡ true
+text-weight i h = text-index 65536 (omega arith) i (omega arith)
 
 text-best : (units : ℕ) (b : Option Best) → IsBestOrNone units b → are_text (best_lines b) ≡ true
 text-best units None f = refl
 text-best units (Some b) f =
     text-append (value_line b.busiest) _ (text-number b.busiest _ (omega (arith, f.most)) refl) (text-flat_map place_line IsPlaceLine text-place b.plan.places (Rec-from_All IsPlaceLine b.plan.places f.places))
 
-text-leaf : (l : Leaf) → IsLeafLine l → are_text (leaf_line l) ≡ true
-text-leaf (tick t) f = text-number t _ (omega arith) refl
-text-leaf (full t s) f = text-number t _ (omega (arith, f.0)) (text-number s _ (omega (arith, f.1)) refl)
-text-leaf average f = refl
+text-leaf : (version : ℕ) (l : Leaf) → IsLeafLine version l → are_text (leaf_line l) ≡ true
+text-leaf version (tick t) f = text-number t _ (omega arith) refl
+text-leaf version (full t s) f = text-number t _ (omega (arith, f.0)) (text-number s _ (omega (arith, f.1)) refl)
+text-leaf version average f = refl
+text-leaf version (weighted w) f = text-append (flat_map index_word w) _ (text-flat_map index_word (λ i. i ≤ 65535) text-weight w (Rec-from_All (λ i. i ≤ 65535) w f.1.each)) refl
 
 mutual
-  text-nodes : (d : ℕ) (s : Shape) → HasLevels d s → are_text (node_lines s) ≡ true
-  text-nodes zero s f = absurd f
-  text-nodes (suc d) (split ss) f = text-append (split_line (shape_count ss)) (row_lines ss) (text-number (shape_count ss) _ (omega (arith, f.1)) refl) (text-row d ss f.2)
-  text-nodes (suc d) (leaf l) f = text-leaf l f
-  text-nodes (suc d) open_leaf f = absurd f
+  text-nodes : (version d : ℕ) (s : Shape) → HasLevels version d s → are_text (node_lines s) ≡ true
+  text-nodes version zero s f = absurd f
+  text-nodes version (suc d) (split ss) f = text-append (split_line (shape_count ss)) (row_lines ss) (text-number (shape_count ss) _ (omega (arith, f.1)) refl) (text-row version d ss f.2)
+  text-nodes version (suc d) (leaf l) f = text-leaf version l f
+  text-nodes version (suc d) open_leaf f = absurd f
 
-  text-row : (d : ℕ) (ss : Shapes) → HaveLevels d ss → are_text (row_lines ss) ≡ true
-  text-row d no_shapes f = refl
-  text-row d (more s ss) f = text-append (node_lines s) (row_lines ss) (text-nodes d s f.0) (text-row d ss f.1)
+  text-row : (version d : ℕ) (ss : Shapes) → HaveLevels version d ss → are_text (row_lines ss) ≡ true
+  text-row version d no_shapes f = refl
+  text-row version d (more s ss) f = text-append (node_lines s) (row_lines ss) (text-nodes version d s f.0) (text-row version d ss f.1)
 
 text-order : (units : ℕ) (order : List ℕ) → units ≤ 48 → AllByRecursion (λ i. i < units) order → are_text (order_line order) ≡ true
-text-order units order few h = text-append (flat_map index_word order) _ (text-flat_map index_word (λ i. i < units) (text-index units few) order h) refl
+text-order units order few h = text-append (flat_map index_word order) _ (text-flat_map index_word (λ i. i < units) (text-index units (omega arith)) order h) refl
 
 pub text-certificate : (c : CertView) → IsWellFormed c → are_text (certificate_text c) ≡ true
 text-certificate c f =
-    let tree = text-append (node_lines c.tree) (codes "end\n") (text-nodes 49 c.tree f.tree) refl in
+    let tree = text-append (node_lines c.tree) (codes "end\n") (text-nodes c.version 49 c.tree f.tree) refl in
     let best = text-append (best_lines c.best) (tree_lines c.tree) (text-best (length c.units) c.best f.best) tree in
     let order = text-append (order_line c.order) _ (text-order (length c.units) c.order f.most_units (Rec-from_All (λ i. i < length c.units) c.order f.order)) best in
     let units = text-append (flat_map unit_line c.units) _ (text-flat_map unit_line IsUnitLine text-unit c.units (Rec-from_All IsUnitLine c.units f.units)) order in
     let slots = text-append (slots_line c.slots) _ (text-number c.slots _ (omega (arith, f.most_slots)) refl) units in
-    text-append (version_line c.version) _ (text-number c.version _ (omega (arith, f.version)) refl) slots
+    text-append (version_line c.version) _ (text-number c.version _ (omega (arith, f.most_version)) refl) slots
 
 -- ---- the whole
 

@@ -175,10 +175,10 @@ units_again k (u ∷ us) rest f some few next =
 -- ---- the order
 
 -- a number and the space after it
-abbrev first_word : ℕ → List ℕ
+abbrev pub first_word : ℕ → List ℕ
 first_word i = decimal i ++ 32 ∷ []
 
-abbrev IsBelow : ℕ → ℕ → Type 0
+abbrev pub IsBelow : ℕ → ℕ → Type 0
 IsBelow high i = i ≤ high
 
 index_step : (n high : ℕ) (text : List ℕ) (o : Option (List ℕ × List ℕ)) (x : ℕ × List ℕ) → high < 1000000 → cut 32 text ≡ o → index_from n high o ≡ Ok x → IsBelow high x.0 × (text ≡ first_word x.0 ++ x.1)
@@ -194,7 +194,7 @@ unfolding index_in
 index_found n high small text x h = index_step n high text (cut 32 text) x small refl h
 
 -- the words with the space before each
-words_shift : (is : List ℕ) (last : ℕ) → 32 ∷ (flat_map first_word is ++ decimal last) ≡ flat_map index_word (is ++ last ∷ [])
+pub words_shift : (is : List ℕ) (last : ℕ) → 32 ∷ (flat_map first_word is ++ decimal last) ≡ flat_map index_word (is ++ last ∷ [])
 words_shift [] last = sym (append-nil (32 ∷ decimal last))
 words_shift (i ∷ is) last =
     ap (λ l. 32 ∷ l) (append_assoc (first_word i) (flat_map first_word is) (decimal last) ∙ append_assoc (decimal i) (32 ∷ []) (flat_map first_word is ++ decimal last))
@@ -204,13 +204,13 @@ Below-append : (high : ℕ) (is : List ℕ) (last : ℕ) → AllByRecursion (IsB
 Below-append high [] last h l = (l, tt)
 Below-append high (i ∷ is) last h l = (h.0, Below-append high is last h.1 l)
 
-indexes_found : (n high : ℕ) (text : List ℕ) (order : List ℕ) → high < 1000000 → indexes_in n high text ≡ Ok order → AllByRecursion (IsBelow high) order × (length order ≡ high + 1) × (32 ∷ text ≡ flat_map index_word order)
+pub indexes_found : (n more high : ℕ) (text : List ℕ) (order : List ℕ) → high < 1000000 → indexes_in n more high text ≡ Ok order → AllByRecursion (IsBelow high) order × (length order ≡ more + 1) × (32 ∷ text ≡ flat_map index_word order)
 unfolding indexes_in
-indexes_found n high text order small h =
-    let (is, reads, then) = bind_ok (many_from (index_in n high) high text) _ order h in
+indexes_found n more high text order small h =
+    let (is, reads, then) = bind_ok (many_from (index_in n high) more text) _ order h in
     let (i, said, last) = bind_ok (on_line n (number_in 0 high is.1)) (λ i. Ok (is.0 ++ i ∷ [])) order then in
     let same : is.0 ++ i ∷ [] ≡ order = cc (last) in
-    let (below, count, spelled) = many_found (λ (t : List ℕ). t) first_word (IsBelow high) (index_in n high) (index_found n high small) high text is reads in
+    let (below, count, spelled) = many_found (λ (t : List ℕ). t) first_word (IsBelow high) (index_in n high) (index_found n high small) more text is reads in
     let (word, low, top) = number_found 0 high is.1 i small (on_line_ok n (number_in 0 high is.1) i said) in
     rw (← same) (Below-append high is.0 i below top, length_push is.0 i ∙ ap (λ k. k + 1) count, ap (λ l. 32 ∷ l) (spelled ∙ ap (λ l. flat_map first_word is.0 ++ l) word) ∙ words_shift is.0 i)
 
@@ -219,7 +219,7 @@ unfolding order_in
 order_in_found n units line order some few h =
     let (tests, read) = if_ok _ _ _ order h in
     let (starts, digits) = and_parts (starts_with nat_eq line (codes "order ")) (are_numbers (units - 1) (drop 6 line)) tests in
-    let (below, count, text) = indexes_found n (units - 1) (drop 6 line) order (omega arith) read in
+    let (below, count, text) = indexes_found n (units - 1) (units - 1) (drop 6 line) order (omega arith) read in
     (below, omega (arith, count), begins line (codes "order ") starts ∙ ap (λ l. codes "order" ++ l) text)
 
 pub order_found : (units : ℕ) (p : At) (x : List ℕ × At) → 1 ≤ units → units ≤ 48 → order_at units p ≡ Ok x → AllByRecursion (IsBelow (units - 1)) x.0 × (length x.0 ≡ units) × (p.rest ≡ order_line x.0 ++ x.1.rest)
@@ -236,18 +236,18 @@ pub record HasLast (xs : List ℕ) : Type 0 where
   pub last : ℕ
   pub is : xs ≡ front ++ last ∷ []
 
-last_of : (x : ℕ) (xs : List ℕ) → HasLast (x ∷ xs)
+pub last_of : (x : ℕ) (xs : List ℕ) → HasLast (x ∷ xs)
 last_of x [] = record { front = []; last = x; is = refl }
 last_of x (y ∷ ys) = let h = last_of y ys in record { front = x ∷ h.front; last = h.last; is = ap (λ l. x ∷ l) h.is }
 
-Below-parts : (high : ℕ) (is : List ℕ) (last : ℕ) → AllByRecursion (IsBelow high) (is ++ last ∷ []) → AllByRecursion (IsBelow high) is × (last ≤ high)
+pub Below-parts : (high : ℕ) (is : List ℕ) (last : ℕ) → AllByRecursion (IsBelow high) (is ++ last ∷ []) → AllByRecursion (IsBelow high) is × (last ≤ high)
 Below-parts high [] last h = (tt, h.0)
 Below-parts high (i ∷ is) last h = let rest = Below-parts high is last h.1 in ((h.0, rest.0), rest.1)
 
-word_text : (i : ℕ) (is : List ℕ) (rest : List ℕ) → (first_word i ++ flat_map first_word is) ++ rest ≡ decimal i ++ 32 ∷ (flat_map first_word is ++ rest)
+pub word_text : (i : ℕ) (is : List ℕ) (rest : List ℕ) → (first_word i ++ flat_map first_word is) ++ rest ≡ decimal i ++ 32 ∷ (flat_map first_word is ++ rest)
 word_text i is rest = append_assoc (first_word i) (flat_map first_word is) rest ∙ append_assoc (decimal i) (32 ∷ []) (flat_map first_word is ++ rest)
 
-are_numbers_again : (high : ℕ) (is : List ℕ) (last : ℕ) → high < 1000000 → AllByRecursion (IsBelow high) is → last ≤ high → are_numbers (length is) (flat_map first_word is ++ decimal last) ≡ true
+pub are_numbers_again : (high : ℕ) (is : List ℕ) (last : ℕ) → high < 1000000 → AllByRecursion (IsBelow high) is → last ≤ high → are_numbers (length is) (flat_map first_word is ++ decimal last) ≡ true
 are_numbers_again high [] last small h l = is_number-decimal last (omega arith)
 are_numbers_again high (i ∷ is) last small h l =
     let below : i ≤ high = h.0 in
@@ -262,17 +262,21 @@ indexes_from_again n high (i ∷ is) rest small h =
     let fits : i < 2 ^ 64 = omega arith in
     rw (word_text i is rest, cut_again 32 (decimal i) (flat_map first_word is ++ rest) (decimal_lacks 32 i (omega arith) fits), number_again 0 high i small (omega arith) below, indexes_from_again n high is rest small h.1) refl
 
+pub indexes_again : (n high : ℕ) (is : List ℕ) (last : ℕ) → high < 1000000 → AllByRecursion (IsBelow high) is → last ≤ high → indexes_in n (length is) high (flat_map first_word is ++ decimal last) ≡ Ok (is ++ last ∷ [])
+unfolding indexes_in
+indexes_again n high is last small h l = rw (indexes_from_again n high is (decimal last) small h, number_again 0 high last small (omega arith) l) refl
+
 order_in_again : (n units : ℕ) (is : List ℕ) (last : ℕ) → units ≤ 48 → length is + 1 ≡ units → AllByRecursion (IsBelow (units - 1)) is → last ≤ units - 1
     → order_in n units (codes "order " ++ (flat_map first_word is ++ decimal last)) ≡ Ok (is ++ last ∷ [])
-unfolding order_in indexes_in
+unfolding order_in
 order_in_again n units is last few count h l =
     let high : units - 1 ≡ length is = omega arith in
     let small : length is < 1000000 = omega arith in
     let below : AllByRecursion (IsBelow (length is)) is = subst (λ k. AllByRecursion (IsBelow k) is) high h in
     let top : last ≤ length is = omega arith in
-    rw (high, are_numbers_again (length is) is last small below top, indexes_from_again n (length is) is (decimal last) small below, number_again 0 (length is) last small (omega arith) top) refl
+    rw (high, are_numbers_again (length is) is last small below top) (indexes_again n (length is) is last small below top)
 
-words_lack : (high : ℕ) (is : List ℕ) → high < 1000000 → AllByRecursion (IsBelow high) is → lacks 10 (flat_map index_word is) ≡ true
+pub words_lack : (high : ℕ) (is : List ℕ) → high < 1000000 → AllByRecursion (IsBelow high) is → lacks 10 (flat_map index_word is) ≡ true
 words_lack high [] small h = refl
 words_lack high (i ∷ is) small h =
     let below : i ≤ high = h.0 in

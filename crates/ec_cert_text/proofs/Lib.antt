@@ -12,5 +12,6 @@ pub mod NumberLemmas
 pub mod PartLaws
 pub mod SpelledLaws
 pub mod TextLaws
+pub mod WeightLaws
 pub mod WordLaws
 pub mod WriteLemmas

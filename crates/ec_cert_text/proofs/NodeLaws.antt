@@ -1,50 +1,52 @@
 -- Trees: what is read is spelled so, and is read again.
-use Rattle.std.proofs.Common.{◌≡◌, ℕ, zero, suc, ◌+◌, ◌<◌, Bool, true, false, ◌==◌, cond, nat_eq, List, [], ◌∷◌, ◌++◌, drop, codes, Result, Ok, Err, refl, ap, sym, ◌∙◌, arith, inl, inr, append_assoc}
+use Rattle.std.proofs.Common.{◌≡◌, ℕ, zero, suc, ◌+◌, ◌≤◌, ◌<◌, Bool, true, false, ◌&&◌, ◌==◌, cond, nat_eq, nat_le, List, [], ◌∷◌, ◌++◌, drop, codes, Result, Ok, Err, refl, ap, sym, ◌∙◌, arith, inl, inr, append_assoc}
 use Rattle.std.specs.List.{starts_with, flat_map, AllByRecursion}
 use Rattle.std.specs.Str.{bytes_eq}
 use Rattle.std.specs.Fmt.{decimal}
+use Rattle.std.proofs.lemmas.Bool.{and_parts}
 use Rattle.std.proofs.lemmas.Bool.Decides.{nat_tests}
-use Rattle.ec_loads.specs.Shape.{Leaf, tick, full, average, Shape, split, leaf, open_leaf, Shapes, no_shapes, more, shape_count}
+use Rattle.ec_loads.specs.Shape.{Leaf, tick, full, average, weighted, Shape, split, leaf, open_leaf, Shapes, no_shapes, more, shape_count}
 use Rattle.ec_cert_text.specs.declared.fault.CertFault.{CertFault}
 use Rattle.ec_cert_text.specs.declared.fault.CertFault.TheVariants as fault
 use Rattle.ec_cert_text.specs.declared.words.Wrong.TheVariants as wrong
 use Rattle.ec_cert_text.specs.declared.nodes.Node.{Node}
 use Rattle.ec_cert_text.specs.declared.nodes.Node.TheVariants as node
 use Rattle.ec_cert.specs.Shapes.{shapes}
-use Rattle.ec_cert_text.specs.Reading.{At, line_at, number_in, pair_in, ok_map, on_line, many_from, node_in, node_at, below, tree_at}
+use Rattle.ec_cert_text.specs.Reading.{At, line_at, number_in, pair_in, ok_map, many_from, node_in, weights_in, node_on, node_at, below, tree_at}
 use Rattle.ec_cert.specs.WellFormed.{IsLeafLine, HasLevels, HaveLevels}
 use Rattle.ec_cert_text.specs.NodeWords.{node_words, NodeFits, BeginsWithNode}
-use Rattle.ec_cert_text.specs.Text.{leaf_line, node_lines, row_lines}
+use Rattle.ec_cert_text.specs.Text.{index_word, leaf_line, node_lines, row_lines}
 use Rattle.ec_cert.proofs.TreeLemmas.{shape_count-shapes}
 use Rattle.ec_cert_text.proofs.WordLaws.{if_err, bind_ok, chosen, ok_map_ok, on_line_ok, lacks, lacks-append, decimal_lacks, number_found, number_again, pair_found, pair_again, begins, same_bytes, line_found, line_again}
 use Rattle.ec_cert_text.proofs.ManyLaws.{Spells, many_found}
 use Rattle.ec_cert_text.proofs.HeadLaws.{regroup_1, regroup_2}
+use Rattle.ec_cert_text.proofs.WeightLaws.{weights_found, weights_again, weights_lack}
 
 -- ---- lines of nodes
 
-split_found : (line : List ℕ) (h : Node) → starts_with nat_eq line (codes "S ") ≡ true → ok_map node.Split (number_in 1 480 (drop 2 line)) ≡ Ok h → NodeFits h × (line ≡ node_words h)
+split_found : (line : List ℕ) (h : Node) → starts_with nat_eq line (codes "S ") ≡ true → ok_map node.Split (number_in 1 480 (drop 2 line)) ≡ Ok h → NodeFits 1 h × (line ≡ node_words h)
 split_found line h b e =
     let (n, read, is) = ok_map_ok _ _ h e in
     let (text, low, high) = number_found 1 480 (drop 2 line) n (omega arith) read in
     rw (← is) ((low, high), begins line (codes "S ") b ∙ ap (λ l. codes "S " ++ l) text)
 
-tick_found : (line : List ℕ) (h : Node) → starts_with nat_eq line (codes "T ") ≡ true → ok_map node.TickLeaf (number_in 0 1023 (drop 2 line)) ≡ Ok h → NodeFits h × (line ≡ node_words h)
+tick_found : (line : List ℕ) (h : Node) → starts_with nat_eq line (codes "T ") ≡ true → ok_map node.TickLeaf (number_in 0 1023 (drop 2 line)) ≡ Ok h → NodeFits 1 h × (line ≡ node_words h)
 tick_found line h b e =
     let (n, read, is) = ok_map_ok _ _ h e in
     let (text, low, high) = number_found 0 1023 (drop 2 line) n (omega arith) read in
     rw (← is) (high, begins line (codes "T ") b ∙ ap (λ l. codes "T " ++ l) text)
 
-full_found : (line : List ℕ) (h : Node) → starts_with nat_eq line (codes "F ") ≡ true → ok_map (λ n. node.FullLeaf n.0 n.1) (pair_in 0 1023 7 (drop 2 line)) ≡ Ok h → NodeFits h × (line ≡ node_words h)
+full_found : (line : List ℕ) (h : Node) → starts_with nat_eq line (codes "F ") ≡ true → ok_map (λ n. node.FullLeaf n.0 n.1) (pair_in 0 1023 7 (drop 2 line)) ≡ Ok h → NodeFits 1 h × (line ≡ node_words h)
 full_found line h b e =
     let (n, read, is) = ok_map_ok _ (pair_in 0 1023 7 (drop 2 line)) h e in
     let (text, first, second) = pair_found 0 1023 7 (drop 2 line) n (omega arith) (omega arith) read in
     rw (← is) ((first.1, second.1), begins line (codes "F ") b ∙ ap (λ l. codes "F " ++ l) text)
 
-average_found : (line : List ℕ) (h : Node) (b : Bool) → bytes_eq line (codes "A") ≡ b → cond b (Ok node.Average) (Err wrong.Words) ≡ Ok h → NodeFits h × (line ≡ node_words h)
+average_found : (line : List ℕ) (h : Node) (b : Bool) → bytes_eq line (codes "A") ≡ b → cond b (Ok node.Average) (Err wrong.Words) ≡ Ok h → NodeFits 1 h × (line ≡ node_words h)
 average_found line h true b e = let is : node.Average ≡ h = cc in rw (← is) (tt, same_bytes line (codes "A") b)
 average_found line h false b e = absurd cc
 
-node_in_found : (line : List ℕ) (h : Node) → node_in line ≡ Ok h → NodeFits h × (line ≡ node_words h)
+node_in_found : (line : List ℕ) (h : Node) → node_in line ≡ Ok h → NodeFits 1 h × (line ≡ node_words h)
 unfolding node_in
 node_in_found line h e =
     elim (chosen (starts_with nat_eq line (codes "S ")) _ _ _ e) [
@@ -58,57 +60,94 @@ node_in_found line h e =
       ]
     ]
 
-node_in_again : (h : Node) → NodeFits h → node_in (node_words h) ≡ Ok h
+-- a node that every version has
+fits_each : (version : ℕ) (h : Node) → NodeFits 1 h → NodeFits version h
+fits_each version (node.Split n) f = f
+fits_each version (node.TickLeaf t) f = f
+fits_each version (node.FullLeaf t s) f = f
+fits_each version node.Average f = tt
+fits_each version (node.Weights w) f = absurd (omega (arith, f.0))
+
+node_on_found : (version n : ℕ) (line : List ℕ) (h : Node) → node_on version n line ≡ Ok h → NodeFits version h × (line ≡ node_words h)
+unfolding node_on
+node_on_found version n line h e =
+    elim (chosen (starts_with nat_eq line (codes "W ") && nat_le 2 version) _ _ _ e) [
+      | inl y ↦
+          let (starts, later) = and_parts (starts_with nat_eq line (codes "W ")) (nat_le 2 version) y.0 in
+          let (w, read, is) = ok_map_ok node.Weights (weights_in n (drop 2 line)) h y.1 in
+          let (fits, text) = weights_found n (drop 2 line) w read in
+          let second : 2 ≤ version = grind (arith, nat_tests) in
+          rw (← is) ((second, fits), begins line (codes "W ") starts ∙ ap (λ l. codes "W" ++ l) text)
+      | inr y ↦
+          let (fits, text) = node_in_found line h (on_line_ok n (node_in line) h y.1) in
+          (fits_each version h fits, text)
+    ]
+
+node_in_again : (h : Node) → NodeFits 1 h → node_in (node_words h) ≡ Ok h
 unfolding node_in
 node_in_again (node.Split n) f = rw (number_again 1 480 n (omega arith) f.0 f.1) refl
 node_in_again (node.TickLeaf t) f = rw (number_again 0 1023 t (omega arith) (omega arith) f) refl
 node_in_again (node.FullLeaf t s) f = rw (pair_again 0 1023 7 t s (omega arith) (omega arith) (omega arith) f.0 (omega arith) f.1) refl
 node_in_again node.Average f = refl
+node_in_again (node.Weights w) f = absurd (omega (arith, f.0))
 
-node_lacks : (h : Node) → NodeFits h → lacks 10 (node_words h) ≡ true
-node_lacks (node.Split n) f = decimal_lacks 10 n (omega arith) (omega (arith, f.1))
-node_lacks (node.TickLeaf t) f = decimal_lacks 10 t (omega arith) (omega arith)
-node_lacks (node.FullLeaf t s) f = lacks-append 10 (decimal t) (32 ∷ decimal s) (decimal_lacks 10 t (omega arith) (omega (arith, f.0))) (decimal_lacks 10 s (omega arith) (omega (arith, f.1)))
-node_lacks node.Average f = refl
+node_on_again : (version n : ℕ) (h : Node) → NodeFits version h → node_on version n (node_words h) ≡ Ok h
+unfolding node_on
+node_on_again version n (node.Split k) f = rw (node_in_again (node.Split k) f) refl
+node_on_again version n (node.TickLeaf t) f = rw (node_in_again (node.TickLeaf t) f) refl
+node_on_again version n (node.FullLeaf t s) f = rw (node_in_again (node.FullLeaf t s) f) refl
+node_on_again version n node.Average f = rw (node_in_again node.Average tt) refl
+node_on_again version n (node.Weights w) f =
+    let again = weights_again n w f.1 in
+    let later : nat_le 2 version ≡ true = grind (arith, nat_tests, f.0) in
+    rw (← again.spelled, later, again.read) refl
+
+node_lacks : (version : ℕ) (h : Node) → NodeFits version h → lacks 10 (node_words h) ≡ true
+node_lacks version (node.Split n) f = decimal_lacks 10 n (omega arith) (omega (arith, f.1))
+node_lacks version (node.TickLeaf t) f = decimal_lacks 10 t (omega arith) (omega arith)
+node_lacks version (node.FullLeaf t s) f = lacks-append 10 (decimal t) (32 ∷ decimal s) (decimal_lacks 10 t (omega arith) (omega (arith, f.0))) (decimal_lacks 10 s (omega arith) (omega (arith, f.1)))
+node_lacks version node.Average f = refl
+node_lacks version (node.Weights w) f = weights_lack w f.1
 
 node_no_end : (h : Node) → bytes_eq (node_words h) (codes "end") ≡ false
 node_no_end (node.Split n) = refl
 node_no_end (node.TickLeaf t) = refl
 node_no_end (node.FullLeaf t s) = refl
 node_no_end node.Average = refl
+node_no_end (node.Weights w) = refl
 
-node_found : (d : ℕ) (p : At) (x : Node × At) → node_at d p ≡ Ok x → NodeFits x.0 × (p.rest ≡ node_words x.0 ++ 10 ∷ x.1.rest) × (0 < d)
+node_found : (version d : ℕ) (p : At) (x : Node × At) → node_at version d p ≡ Ok x → NodeFits version x.0 × (p.rest ≡ node_words x.0 ++ 10 ∷ x.1.rest) × (0 < d)
 unfolding node_at
-node_found d p x e =
+node_found version d p x e =
     let (l, read, then) = bind_ok (line_at p) _ x e in
-    let (h, said, rest) = bind_ok (cond (bytes_eq l.0 (codes "end")) (Err (fault.Early p.line)) (on_line p.line (node_in l.0))) _ x then in
+    let (h, said, rest) = bind_ok (cond (bytes_eq l.0 (codes "end")) (Err (fault.Early p.line)) (node_on version p.line l.0)) _ x then in
     let (no_end, head_is) = if_err _ _ _ _ said in
     let (deep, is) = if_err (d == 0) _ _ _ rest in
-    let (fits, line_is) = node_in_found l.0 h (on_line_ok p.line (node_in l.0) h head_is) in
+    let (fits, line_is) = node_on_found version p.line l.0 h head_is in
     let same : (h, l.1) ≡ x = cc (is) in
     rw (← same) (fits, line_found p l read ∙ ap (λ t. t ++ 10 ∷ l.1.rest) line_is, grind (arith, nat_tests))
 
-node_again : (d n : ℕ) (h : Node) (rest : List ℕ) → NodeFits h → node_at (suc d) (record { line = n; rest = node_words h ++ 10 ∷ rest }) ≡ Ok (h, record { line = n + 1; rest = rest })
+node_again : (version d n : ℕ) (h : Node) (rest : List ℕ) → NodeFits version h → node_at version (suc d) (record { line = n; rest = node_words h ++ 10 ∷ rest }) ≡ Ok (h, record { line = n + 1; rest = rest })
 unfolding node_at
-node_again d n h rest f =
+node_again version d n h rest f =
     let deep : (suc d == 0) ≡ false = grind (arith, nat_tests) in
-    rw (line_again n (node_words h) rest (node_lacks h f), node_no_end h, node_in_again h f, deep) refl
+    rw (line_again n (node_words h) rest (node_lacks version h f), node_no_end h, node_on_again version n h f, deep) refl
 
-pub node_spelled : (d n : ℕ) (text rest : List ℕ) (h : Node) → 0 < d → BeginsWithNode text h rest → node_at d (record { line = n; rest = text }) ≡ Ok (h, record { line = n + 1; rest = rest })
-node_spelled zero n text rest h lt b = absurd (omega arith)
-node_spelled (suc d) n text rest h lt b = rw b.1 (node_again d n h rest b.0)
+pub node_spelled : (version d n : ℕ) (text rest : List ℕ) (h : Node) → 0 < d → BeginsWithNode text h rest → node_at version d (record { line = n; rest = text }) ≡ Ok (h, record { line = n + 1; rest = rest })
+node_spelled version zero n text rest h lt b = absurd (omega arith)
+node_spelled version (suc d) n text rest h lt b = rw b.1 (node_again version d n h rest (fits_each version h b.0))
 
 -- the line of a tick's leaf is a tree
-pub tick_spelled : (d n t : ℕ) (text rest : List ℕ) → 0 < d → BeginsWithNode text (node.TickLeaf t) rest → tree_at d (record { line = n; rest = text }) ≡ Ok (leaf (tick t), record { line = n + 1; rest = rest })
+pub tick_spelled : (version d n t : ℕ) (text rest : List ℕ) → 0 < d → BeginsWithNode text (node.TickLeaf t) rest → tree_at version d (record { line = n; rest = text }) ≡ Ok (leaf (tick t), record { line = n + 1; rest = rest })
 unfolding tree_at
-tick_spelled zero n t text rest lt b = absurd (omega arith)
-tick_spelled (suc d) n t text rest lt b = rw (node_spelled (suc d) n text rest (node.TickLeaf t) lt b) refl
+tick_spelled version zero n t text rest lt b = absurd (omega arith)
+tick_spelled version (suc d) n t text rest lt b = rw (node_spelled version (suc d) n text rest (node.TickLeaf t) lt b) refl
 
 -- ---- trees
 
-HaveLevels-shapes : (d : ℕ) (ss : List Shape) → AllByRecursion (HasLevels d) ss → HaveLevels d (shapes ss)
-HaveLevels-shapes d [] h = tt
-HaveLevels-shapes d (s ∷ ss) h = (h.0, HaveLevels-shapes d ss h.1)
+HaveLevels-shapes : (version d : ℕ) (ss : List Shape) → AllByRecursion (HasLevels version d) ss → HaveLevels version d (shapes ss)
+HaveLevels-shapes version d [] h = tt
+HaveLevels-shapes version d (s ∷ ss) h = (h.0, HaveLevels-shapes version d ss h.1)
 
 row_lines-shapes : (ss : List Shape) → row_lines (shapes ss) ≡ flat_map node_lines ss
 row_lines-shapes [] = refl
@@ -123,37 +162,43 @@ tick_text t rest = ap (λ l. codes "T " ++ l) (regroup_1 (decimal t) rest)
 full_text : (t s : ℕ) (rest : List ℕ) → node_words (node.FullLeaf t s) ++ 10 ∷ rest ≡ leaf_line (full t s) ++ rest
 full_text t s rest = ap (λ l. codes "F " ++ l) (regroup_2 (decimal t) (decimal s) rest)
 
+weights_text : (w rest : List ℕ) → node_words (node.Weights w) ++ 10 ∷ rest ≡ leaf_line (weighted w) ++ rest
+weights_text w rest = ap (λ l. codes "W" ++ l) (regroup_1 (flat_map index_word w) rest)
+
 split_text : (n : ℕ) (ss : Shapes) (rest found : List ℕ) → shape_count ss ≡ n → found ≡ row_lines ss ++ rest → node_words (node.Split n) ++ 10 ∷ found ≡ node_lines (split ss) ++ rest
 split_text n ss rest found c e =
     let line : (decimal n ++ 10 ∷ []) ++ (row_lines ss ++ rest) ≡ ((decimal n ++ 10 ∷ []) ++ row_lines ss) ++ rest = sym (append_assoc (decimal n ++ 10 ∷ []) (row_lines ss) rest) in
     rw (e, c) (ap (λ l. codes "S " ++ l) (regroup_1 (decimal n) (row_lines ss ++ rest) ∙ line))
 
-below_found : (d : ℕ) (one : At → Result (Shape × At) CertFault) → Spells at_bytes node_lines (HasLevels d) one → (h : Node) (p : At) (x : Shape × At) → NodeFits h → below one h p ≡ Ok x
-    → HasLevels (suc d) x.0 × (node_words h ++ 10 ∷ p.rest ≡ node_lines x.0 ++ x.1.rest)
-below_found d one law (node.Split n) p x f e =
+below_found : (version d : ℕ) (one : At → Result (Shape × At) CertFault) → Spells at_bytes node_lines (HasLevels version d) one → (h : Node) (p : At) (x : Shape × At) → NodeFits version h → below one h p ≡ Ok x
+    → HasLevels version (suc d) x.0 × (node_words h ++ 10 ∷ p.rest ≡ node_lines x.0 ++ x.1.rest)
+below_found version d one law (node.Split n) p x f e =
     let (ts, reads, last) = bind_ok (many_from one n p) _ x e in
     let is : (split (shapes ts.0), ts.1) ≡ x = cc in
-    let (fit, counted, spelled) = many_found at_bytes node_lines (HasLevels d) one law n p ts reads in
+    let (fit, counted, spelled) = many_found at_bytes node_lines (HasLevels version d) one law n p ts reads in
     let count : shape_count (shapes ts.0) ≡ n = shape_count-shapes ts.0 ∙ counted in
     let text : p.rest ≡ row_lines (shapes ts.0) ++ ts.1.rest = spelled ∙ ap (λ l. l ++ ts.1.rest) (sym (row_lines-shapes ts.0)) in
-    rw (← is) ((omega arith, omega arith, HaveLevels-shapes d ts.0 fit), split_text n (shapes ts.0) ts.1.rest p.rest count text)
-below_found d one law (node.TickLeaf t) p x f e =
+    rw (← is) ((omega arith, omega arith, HaveLevels-shapes version d ts.0 fit), split_text n (shapes ts.0) ts.1.rest p.rest count text)
+below_found version d one law (node.TickLeaf t) p x f e =
     let is : (leaf (tick t), p) ≡ x = cc in
     rw (← is) (f, tick_text t p.rest)
-below_found d one law (node.FullLeaf t s) p x f e =
+below_found version d one law (node.FullLeaf t s) p x f e =
     let is : (leaf (full t s), p) ≡ x = cc in
     rw (← is) (f, full_text t s p.rest)
-below_found d one law node.Average p x f e =
+below_found version d one law node.Average p x f e =
     let is : (leaf average, p) ≡ x = cc in
     rw (← is) (tt, refl)
+below_found version d one law (node.Weights w) p x f e =
+    let is : (leaf (weighted w), p) ≡ x = cc in
+    rw (← is) (f, weights_text w p.rest)
 
-pub tree_found : (d : ℕ) → Spells at_bytes node_lines (HasLevels d) (tree_at d)
+pub tree_found : (version d : ℕ) → Spells at_bytes node_lines (HasLevels version d) (tree_at version d)
 unfolding tree_at
-tree_found zero p x e = let (h, read, then) = bind_ok (node_at 0 p) _ x e in absurd cc
-tree_found (suc d) p x e =
-    let (h, read, then) = bind_ok (node_at (suc d) p) _ x e in
-    let (fits, line_is, deep) = node_found (suc d) p h read in
-    let rest = below_found d (tree_at d) (tree_found d) h.0 h.1 x fits then in
+tree_found version zero p x e = let (h, read, then) = bind_ok (node_at version 0 p) _ x e in absurd cc
+tree_found version (suc d) p x e =
+    let (h, read, then) = bind_ok (node_at version (suc d) p) _ x e in
+    let (fits, line_is, deep) = node_found version (suc d) p h read in
+    let rest = below_found version d (tree_at version d) (tree_found version d) h.0 h.1 x fits then in
     (rest.0, line_is ∙ rest.1)
 
 abbrev pub list_of : Shapes → List Shape
@@ -164,26 +209,27 @@ shapes-list_of : (ss : Shapes) → shapes (list_of ss) ≡ ss
 shapes-list_of no_shapes = refl
 shapes-list_of (more s ss) = ap (more s) (shapes-list_of ss)
 
-leaf_again : (d n : ℕ) (l : Leaf) (rest : List ℕ) → IsLeafLine l → tree_at (suc d) (record { line = n; rest = leaf_line l ++ rest }) ≡ Ok (leaf l, record { line = n + 1; rest = rest })
+leaf_again : (version d n : ℕ) (l : Leaf) (rest : List ℕ) → IsLeafLine version l → tree_at version (suc d) (record { line = n; rest = leaf_line l ++ rest }) ≡ Ok (leaf l, record { line = n + 1; rest = rest })
 unfolding tree_at
-leaf_again d n (tick t) rest f = rw (← tick_text t rest, node_again d n (node.TickLeaf t) rest f) refl
-leaf_again d n (full t s) rest f = rw (← full_text t s rest, node_again d n (node.FullLeaf t s) rest f) refl
-leaf_again d n average rest f = rw (node_again d n node.Average rest tt) refl
+leaf_again version d n (tick t) rest f = rw (← tick_text t rest, node_again version d n (node.TickLeaf t) rest f) refl
+leaf_again version d n (full t s) rest f = rw (← full_text t s rest, node_again version d n (node.FullLeaf t s) rest f) refl
+leaf_again version d n average rest f = rw (node_again version d n node.Average rest tt) refl
+leaf_again version d n (weighted w) rest f = rw (← weights_text w rest, node_again version d n (node.Weights w) rest f) refl
 
 mutual
   unfolding tree_at
 
-  pub tree_again : (d n : ℕ) (s : Shape) (rest : List ℕ) → HasLevels d s → (m : ℕ) × (tree_at d (record { line = n; rest = node_lines s ++ rest }) ≡ Ok (s, record { line = m; rest = rest }))
-  tree_again zero n s rest f = absurd f
-  tree_again (suc d) n (split ss) rest f =
-      let (m, e) = trees_again d (n + 1) ss rest f.2 in
-      (m, rw (← split_text (shape_count ss) ss rest (row_lines ss ++ rest) refl refl, node_again d n (node.Split (shape_count ss)) (row_lines ss ++ rest) (f.0, f.1), e, shapes-list_of ss) refl)
-  tree_again (suc d) n (leaf l) rest f = (n + 1, leaf_again d n l rest f)
-  tree_again (suc d) n open_leaf rest f = absurd f
+  pub tree_again : (version d n : ℕ) (s : Shape) (rest : List ℕ) → HasLevels version d s → (m : ℕ) × (tree_at version d (record { line = n; rest = node_lines s ++ rest }) ≡ Ok (s, record { line = m; rest = rest }))
+  tree_again version zero n s rest f = absurd f
+  tree_again version (suc d) n (split ss) rest f =
+      let (m, e) = trees_again version d (n + 1) ss rest f.2 in
+      (m, rw (← split_text (shape_count ss) ss rest (row_lines ss ++ rest) refl refl, node_again version d n (node.Split (shape_count ss)) (row_lines ss ++ rest) (f.0, f.1), e, shapes-list_of ss) refl)
+  tree_again version (suc d) n (leaf l) rest f = (n + 1, leaf_again version d n l rest f)
+  tree_again version (suc d) n open_leaf rest f = absurd f
 
-  pub trees_again : (d n : ℕ) (ss : Shapes) (rest : List ℕ) → HaveLevels d ss → (m : ℕ) × (many_from (tree_at d) (shape_count ss) (record { line = n; rest = row_lines ss ++ rest }) ≡ Ok (list_of ss, record { line = m; rest = rest }))
-  trees_again d n no_shapes rest f = (n, refl)
-  trees_again d n (more s ss) rest f =
-      let (m, e) = tree_again d n s (row_lines ss ++ rest) f.0 in
-      let (k, es) = trees_again d m ss rest f.1 in
+  pub trees_again : (version d n : ℕ) (ss : Shapes) (rest : List ℕ) → HaveLevels version d ss → (m : ℕ) × (many_from (tree_at version d) (shape_count ss) (record { line = n; rest = row_lines ss ++ rest }) ≡ Ok (list_of ss, record { line = m; rest = rest }))
+  trees_again version d n no_shapes rest f = (n, refl)
+  trees_again version d n (more s ss) rest f =
+      let (m, e) = tree_again version d n s (row_lines ss ++ rest) f.0 in
+      let (k, es) = trees_again version d m ss rest f.1 in
       (k, rw (append_assoc (node_lines s) (row_lines ss) rest, e, es) refl)

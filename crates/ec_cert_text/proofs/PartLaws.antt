@@ -1,11 +1,11 @@
 -- The parts of a certificate's text, each a reader of lines, and the whole.
-use Rattle.std.proofs.Common.{◌≡◌, ℕ, zero, suc, ◌+◌, ◌-◌, ◌≤◌, Bool, true, false, ◌&&◌, ◌==◌, cond, nat_eq, List, [], ◌∷◌, ◌++◌, length, drop, codes, Option, Some, None, Result, Ok, Err, refl, ap, sym, subst, ◌∙◌, arith, inl, inr}
+use Rattle.std.proofs.Common.{◌≡◌, ℕ, zero, suc, ◌+◌, ◌-◌, ◌≤◌, Bool, true, false, ◌&&◌, ◌==◌, cond, nat_eq, nat_le, List, [], ◌∷◌, ◌++◌, length, drop, codes, Option, Some, None, Result, Ok, Err, refl, ap, sym, subst, ◌∙◌, arith, inl, inr}
 use Rattle.std.proofs.Math.Path.{fun_ext}
 use Rattle.std.specs.List.{starts_with}
 use Rattle.std.specs.Str.{bytes_eq}
 use Rattle.std.proofs.lemmas.Bool.{cases_lt}
 use Rattle.std.proofs.lemmas.Bool.Decides.{nat_tests}
-use Rattle.ec_loads.specs.Shape.{tick, full, average, Shape, split, leaf}
+use Rattle.ec_loads.specs.Shape.{tick, full, average, weighted, Shape, split, leaf}
 use Rattle.ec_cert_text.specs.declared.fault.CertFault.{CertFault}
 use Rattle.ec_cert_text.specs.declared.fault.CertFault.TheVariants as fault
 use Rattle.ec_cert_text.specs.declared.words.Wrong.{Wrong}
@@ -15,7 +15,7 @@ use Rattle.ec_cert_text.specs.declared.nodes.Node.TheVariants as node
 use Rattle.ec_cert.specs.declared.lists.UnitLine.{UnitLine}
 use Rattle.ec_cert.specs.declared.cert.Best.{Best}
 use Rattle.ec_cert.specs.Shapes.{CertView, shapes}
-use Rattle.ec_cert_text.specs.Reading.{◌>>=◌, At, cut, line_at, fault_of, on_line, number_in, with_front, slots_in, slots_at, unit_in, unit_at, is_unit_next, units_from, first_unit_at, units_at, are_numbers, many_from, index_from, index_in, indexes_in, order_in, order_at, place_in, place_at, value_in, best_with, best_at, start_at, node_in, node_at, below, tree_at, end_at, parts_at}
+use Rattle.ec_cert_text.specs.Reading.{◌>>=◌, At, cut, line_at, fault_of, ok_map, on_line, number_in, with_front, slots_in, slots_at, unit_in, unit_at, is_unit_next, units_from, first_unit_at, units_at, are_numbers, many_from, index_from, index_in, indexes_in, order_in, order_at, place_in, place_at, value_in, best_with, best_at, start_at, node_in, space_count, weights_in, node_on, node_at, below, tree_at, end_at, parts_at}
 use Rattle.ec_cert_text.specs.Fronts.{feed_count, fault_line}
 use Rattle.ec_cert_text.proofs.FrontLemmas.{at, Goes, Alike, IsReader, IsJudge, alike_none, is_done, is_then, is_many, judged, is_judged}
 use Rattle.ec_cert_text.proofs.CloserLemmas.{IsCloser, is_closed, is_ending}
@@ -41,6 +41,10 @@ said_at n (Err w) = fault_of_line n w
 then_at : {A B : Type 0} (n : ℕ) (r : Result A CertFault) (f : A → Result B CertFault) → AtLine n r → ((x : A) → AtLine n (f x)) → AtLine n (r >>= f)
 then_at n (Ok x) f h g = g x
 then_at n (Err e) f h g = h
+
+map_at : {A B : Type 0} (n : ℕ) (f : A → B) (r : Result A CertFault) → AtLine n r → AtLine n (ok_map f r)
+map_at n f (Ok x) h = tt
+map_at n f (Err e) h = h
 
 chosen_at : {A : Type 0} (n : ℕ) (b : Bool) (u v : Result A CertFault) → AtLine n u → AtLine n v → AtLine n (cond b u v)
 chosen_at n true u v h g = h
@@ -82,13 +86,13 @@ index_in_at : (n high : ℕ) (text : List ℕ) → AtLine n (index_in n high tex
 unfolding index_in
 index_in_at n high text = index_at n high (cut 32 text)
 
-indexes_at : (n high : ℕ) (text : List ℕ) → AtLine n (indexes_in n high text)
+indexes_at : (n more high : ℕ) (text : List ℕ) → AtLine n (indexes_in n more high text)
 unfolding indexes_in
-indexes_at n high text = then_at n (many_from (index_in n high) high text) _ (many_at n (index_in n high) (index_in_at n high) high text) (λ is. then_at n (on_line n (number_in 0 high is.1)) _ (said_at n (number_in 0 high is.1)) (λ i. tt))
+indexes_at n more high text = then_at n (many_from (index_in n high) more text) _ (many_at n (index_in n high) (index_in_at n high) more text) (λ is. then_at n (on_line n (number_in 0 high is.1)) _ (said_at n (number_in 0 high is.1)) (λ i. tt))
 
 order_in_at : (units n : ℕ) (line : List ℕ) → AtLine n (order_in n units line)
 unfolding order_in
-order_in_at units n line = chosen_at n (starts_with nat_eq line (codes "order ") && are_numbers (units - 1) (drop 6 line)) (indexes_in n (units - 1) (drop 6 line)) (Err (fault.BadLine n)) (indexes_at n (units - 1) (drop 6 line)) refl
+order_in_at units n line = chosen_at n (starts_with nat_eq line (codes "order ") && are_numbers (units - 1) (drop 6 line)) (indexes_in n (units - 1) (units - 1) (drop 6 line)) (Err (fault.BadLine n)) (indexes_at n (units - 1) (units - 1) (drop 6 line)) refl
 
 order_reads : (units : ℕ) → IsReader (order_at units)
 unfolding order_at
@@ -207,13 +211,28 @@ start_in n l = due_line (bytes_eq l (codes "tree")) n
 start_reads : IsReader (judged start_in)
 start_reads = is_judged start_in (judge_of start_in (λ n l. chosen_at n (bytes_eq l (codes "tree")) (Ok tt) (Err (fault.BadLine n)) tt refl))
 
-abbrev node_due : ℕ → ℕ → List ℕ → Result Node CertFault
-node_due levels n l = cond (bytes_eq l (codes "end")) (Err (fault.Early n)) (on_line n (node_in l)) >>= (λ h. cond (levels == 0) (Err (fault.TooDeep n)) (Ok h))
+weights_at : (n : ℕ) (text : List ℕ) → AtLine n (weights_in n text)
+unfolding weights_in
+weights_at n text =
+    chosen_at n (nat_le (space_count text) 1023 && are_numbers (space_count text) text) (indexes_in n (space_count text) 65535 text) (Err (fault.BadLine n)) (indexes_at n (space_count text) 65535 text) refl
 
-node_judged : (levels n : ℕ) (l : List ℕ) → AtLine n (node_due levels n l)
-node_judged levels n l =
-    then_at n (cond (bytes_eq l (codes "end")) (Err (fault.Early n)) (on_line n (node_in l))) _ (chosen_at n (bytes_eq l (codes "end")) (Err (fault.Early n)) (on_line n (node_in l)) refl (said_at n (node_in l)))
-    (λ h. chosen_at n (levels == 0) (Err (fault.TooDeep n)) (Ok h) refl tt)
+node_on_at : (version n : ℕ) (line : List ℕ) → AtLine n (node_on version n line)
+unfolding node_on
+node_on_at version n line =
+    chosen_at n (starts_with nat_eq line (codes "W ") && nat_le 2 version) (ok_map node.Weights (weights_in n (drop 2 line))) (on_line n (node_in line)) (map_at n node.Weights (weights_in n (drop 2 line)) (weights_at n (drop 2 line))) (said_at n (node_in line))
+
+-- the node that a line says, unless it is the last line of a text
+abbrev said_node : ℕ → ℕ → List ℕ → Result Node CertFault
+said_node version n l = cond (bytes_eq l (codes "end")) (Err (fault.Early n)) (node_on version n l)
+
+node_said : (version n : ℕ) (l : List ℕ) → AtLine n (said_node version n l)
+node_said version n l = chosen_at n (bytes_eq l (codes "end")) (Err (fault.Early n)) (node_on version n l) refl (node_on_at version n l)
+
+abbrev node_due : ℕ → ℕ → ℕ → List ℕ → Result Node CertFault
+node_due version levels n l = said_node version n l >>= (λ h. cond (levels == 0) (Err (fault.TooDeep n)) (Ok h))
+
+node_judged : (version levels n : ℕ) (l : List ℕ) → AtLine n (node_due version levels n l)
+node_judged version levels n l = then_at n (said_node version n l) _ (node_said version n l) (λ h. chosen_at n (levels == 0) (Err (fault.TooDeep n)) (Ok h) refl tt)
 
 abbrev node_unless : Bool → ℕ → At → Node → Result (Node × At) CertFault
 node_unless deep n q h = cond deep (Err (fault.TooDeep n)) (Ok (h, q))
@@ -223,32 +242,32 @@ node_line_same n q true (Ok h) = refl
 node_line_same n q false (Ok h) = refl
 node_line_same n q deep (Err e) = refl
 
-node_same_by : (levels : ℕ) (p : At) (u : Result (List ℕ × At) CertFault)
-    → (u >>= (λ l. cond (bytes_eq l.0 (codes "end")) (Err (fault.Early p.line)) (on_line p.line (node_in l.0)) >>= node_unless (levels == 0) p.line l.1))
-    ≡ (u >>= (λ l. node_due levels p.line l.0 >>= with_rest l.1))
-node_same_by levels p (Ok l) = node_line_same p.line l.1 (levels == 0) (cond (bytes_eq l.0 (codes "end")) (Err (fault.Early p.line)) (on_line p.line (node_in l.0)))
-node_same_by levels p (Err e) = refl
+node_same_by : (version levels : ℕ) (p : At) (u : Result (List ℕ × At) CertFault)
+    → (u >>= (λ l. said_node version p.line l.0 >>= node_unless (levels == 0) p.line l.1)) ≡ (u >>= (λ l. node_due version levels p.line l.0 >>= with_rest l.1))
+node_same_by version levels p (Ok l) = node_line_same p.line l.1 (levels == 0) (said_node version p.line l.0)
+node_same_by version levels p (Err e) = refl
 
-node_same : (levels : ℕ) (p : At) → node_at levels p ≡ judged (node_due levels) p
+node_same : (version levels : ℕ) (p : At) → node_at version levels p ≡ judged (node_due version levels) p
 unfolding node_at
-node_same levels p = node_same_by levels p (line_at p)
+node_same version levels p = node_same_by version levels p (line_at p)
 
-node_reads : (levels : ℕ) → IsReader (node_at levels)
-node_reads levels = subst (IsReader {X = Node}) (sym (fun_ext (node_same levels))) (is_judged (node_due levels) (judge_of (node_due levels) (node_judged levels)))
+node_reads : (version levels : ℕ) → IsReader (node_at version levels)
+node_reads version levels =
+    subst (IsReader {X = Node}) (sym (fun_ext (node_same version levels))) (is_judged (node_due version levels) (judge_of (node_due version levels) (node_judged version levels)))
 
 below_reads : (one : At → Result (Shape × At) CertFault) → IsReader one → (h : Node) → IsReader (below one h)
 below_reads one r (node.Split n) = is_then (many_from one n) _ (is_many one r n) (λ ts. is_done (split (shapes ts)))
 below_reads one r (node.TickLeaf t) = is_done (leaf (tick t))
 below_reads one r (node.FullLeaf t s) = is_done (leaf (full t s))
 below_reads one r node.Average = is_done (leaf average)
+below_reads one r (node.Weights w) = is_done (leaf (weighted w))
 
 -- a node below the last level is a fault
-abbrev deep_due : ℕ → List ℕ → Result Shape CertFault
-deep_due n l = cond (bytes_eq l (codes "end")) (Err (fault.Early n)) (on_line n (node_in l)) >>= (λ h. Err (fault.TooDeep n))
+abbrev deep_due : ℕ → ℕ → List ℕ → Result Shape CertFault
+deep_due version n l = said_node version n l >>= (λ h. Err (fault.TooDeep n))
 
-deep_judged : (n : ℕ) (l : List ℕ) → AtLine n (deep_due n l)
-deep_judged n l =
-    then_at n (cond (bytes_eq l (codes "end")) (Err (fault.Early n)) (on_line n (node_in l))) _ (chosen_at n (bytes_eq l (codes "end")) (Err (fault.Early n)) (on_line n (node_in l)) refl (said_at n (node_in l))) (λ h. refl)
+deep_judged : (version n : ℕ) (l : List ℕ) → AtLine n (deep_due version n l)
+deep_judged version n l = then_at n (said_node version n l) _ (node_said version n l) (λ h. refl)
 
 abbrev too_deep : {X : Type 0} → ℕ → X → Result (Shape × At) CertFault
 too_deep n x = Err (fault.TooDeep n)
@@ -260,23 +279,22 @@ deep_line_same : (n : ℕ) (q : At) (o : Result Node CertFault) → ((o >>= node
 deep_line_same n q (Ok h) = refl
 deep_line_same n q (Err e) = refl
 
-deep_same_by : (p : At) (u : Result (List ℕ × At) CertFault)
-    → ((u >>= (λ l. cond (bytes_eq l.0 (codes "end")) (Err (fault.Early p.line)) (on_line p.line (node_in l.0)) >>= node_unless true p.line l.1)) >>= too_deep p.line)
-    ≡ (u >>= (λ l. deep_due p.line l.0 >>= with_rest l.1))
-deep_same_by p (Ok l) = deep_line_same p.line l.1 (cond (bytes_eq l.0 (codes "end")) (Err (fault.Early p.line)) (on_line p.line (node_in l.0)))
-deep_same_by p (Err e) = refl
+deep_same_by : (version : ℕ) (p : At) (u : Result (List ℕ × At) CertFault)
+    → ((u >>= (λ l. said_node version p.line l.0 >>= node_unless true p.line l.1)) >>= too_deep p.line) ≡ (u >>= (λ l. deep_due version p.line l.0 >>= with_rest l.1))
+deep_same_by version p (Ok l) = deep_line_same p.line l.1 (said_node version p.line l.0)
+deep_same_by version p (Err e) = refl
 
-deep_same : (p : At) → tree_at 0 p ≡ judged deep_due p
+deep_same : (version : ℕ) (p : At) → tree_at version 0 p ≡ judged (deep_due version) p
 unfolding tree_at node_at
-deep_same p = deep_same_by p (line_at p)
+deep_same version p = deep_same_by version p (line_at p)
 
-deep_reads : IsReader (tree_at 0)
-deep_reads = subst (IsReader {X = Shape}) (sym (fun_ext deep_same)) (is_judged deep_due (judge_of deep_due deep_judged))
+deep_reads : (version : ℕ) → IsReader (tree_at version 0)
+deep_reads version = subst (IsReader {X = Shape}) (sym (fun_ext (deep_same version))) (is_judged (deep_due version) (judge_of (deep_due version) (deep_judged version)))
 
-pub tree_reads : (d : ℕ) → IsReader (tree_at d)
+pub tree_reads : (version d : ℕ) → IsReader (tree_at version d)
 unfolding tree_at
-tree_reads zero = deep_reads
-tree_reads (suc d) = is_then (node_at (suc d)) (below (tree_at d)) (node_reads (suc d)) (below_reads (tree_at d) (tree_reads d))
+tree_reads version zero = deep_reads version
+tree_reads version (suc d) = is_then (node_at version (suc d)) (below (tree_at version d)) (node_reads version (suc d)) (below_reads (tree_at version d) (tree_reads version d))
 
 -- ---- the lines after the first
 
@@ -306,4 +324,4 @@ parts_closed version =
     is_closed units_at _ units_read (λ units.
     is_closed (order_at (length units)) _ (order_reads (length units)) (λ order.
     is_closed (best_at (length units)) _ (best_reads (length units)) (λ best.
-    start_closed _ (is_closed (tree_at 49) (λ tree p. end_at p >>= (λ last. Ok (whole_view version slots units order best tree))) (tree_reads 49) (λ tree. is_ending (whole_view version slots units order best tree)))))))
+    start_closed _ (is_closed (tree_at version 49) (λ tree p. end_at p >>= (λ last. Ok (whole_view version slots units order best tree))) (tree_reads version 49) (λ tree. is_ending (whole_view version slots units order best tree)))))))

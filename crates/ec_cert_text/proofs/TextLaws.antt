@@ -1,16 +1,17 @@
 -- Whole texts: what is read is the text of it, and a text is read again.
-use Rattle.std.proofs.Common.{◌≡◌, ℕ, ◌+◌, ◌-◌, ◌<◌, ◌≤◌, ◌==◌, nat_eq, List, [], ◌∷◌, ◌++◌, length, drop, codes, Result, Ok, Err, refl, ap, sym, subst, ◌∙◌, arith, inl, inr}
+use Rattle.std.proofs.Common.{◌≡◌, ◌⊎◌, ℕ, ◌+◌, ◌-◌, ◌<◌, ◌≤◌, ◌==◌, nat_eq, List, [], ◌∷◌, ◌++◌, length, drop, codes, Result, Ok, Err, refl, ap, sym, subst, ◌∙◌, arith, inl, inr}
 use Rattle.std.specs.List.{starts_with, flat_map, AllByRecursion}
 use Rattle.std.specs.Str.{bytes_eq}
 use Rattle.std.specs.Fmt.{decimal}
 use Rattle.std.proofs.lemmas.Fmt.{decimal_digit}
+use Rattle.std.proofs.lemmas.Bool.{cases_lt}
 use Rattle.std.proofs.lemmas.Bool.Decides.{nat_tests}
 use Rattle.std.proofs.lemmas.List.{nil_from_length}
 use Rattle.ec_cert_text.specs.declared.fault.CertFault.{CertFault}
 use Rattle.ec_cert_text.specs.declared.fault.CertFault.TheVariants as fault
 use Rattle.ec_cert.specs.Shapes.{CertView}
 use Rattle.ec_cert_text.specs.Reading.{◌>>=◌, At, line_at, version_at, slots_at, units_at, order_at, best_at, start_at, tree_at, nothing_at, end_at, parts_at}
-use Rattle.ec_cert.specs.WellFormed.{IsUnitLine, IsWellFormed}
+use Rattle.ec_cert.specs.WellFormed.{HasLevels, IsUnitLine, IsWellFormed}
 use Rattle.ec_cert_text.specs.Text.{version_line, slots_line, unit_line, order_line, best_lines, node_lines, tree_lines, certificate_text}
 use Rattle.ec_cert_text.proofs.WordLaws.{if_ok, bind_ok, chosen, begins, same_bytes, line_found, line_again}
 use Rattle.ec_cert_text.proofs.ManyLaws.{Rec-from_All, All-from_Rec}
@@ -40,19 +41,36 @@ end_again n = rw (line_again n (codes "end") [] refl) refl
 
 -- ---- the first line
 
-version_found : (text : List ℕ) (x : ℕ × At) → version_at text ≡ Ok x → (x.0 ≡ 1) × (text ≡ version_line x.0 ++ x.1.rest)
+abbrev IsKnown : ℕ → Type 0
+IsKnown version = (1 ≤ version) × (version ≤ 2)
+
+version_found : (text : List ℕ) (x : ℕ × At) → version_at text ≡ Ok x → IsKnown x.0 × (text ≡ version_line x.0 ++ x.1.rest)
 unfolding version_at
 version_found text x e =
-    let (tests, last) = if_ok (starts_with nat_eq text (codes "ecplan 1\n")) _ _ x e in
-    let is : (1, record { line = 2; rest = drop 9 text }) ≡ x = cc (last) in
-    let one : decimal 1 ≡ 49 ∷ [] = decimal_digit 1 (omega arith) in
-    rw (← is, one) (refl, begins text (codes "ecplan 1\n") tests)
+    elim (chosen (starts_with nat_eq text (codes "ecplan 1\n")) _ _ _ e) [
+      | inl y ↦
+          let is : (1, record { line = 2; rest = drop 9 text }) ≡ x = cc (y.1) in
+          let one : decimal 1 ≡ 49 ∷ [] = decimal_digit 1 (omega arith) in
+          rw (← is, one) ((omega arith, omega arith), begins text (codes "ecplan 1\n") y.0)
+      | inr y ↦
+          let (tests, last) = if_ok (starts_with nat_eq text (codes "ecplan 2\n")) _ _ x y.1 in
+          let is : (2, record { line = 2; rest = drop 9 text }) ≡ x = cc (last) in
+          let two : decimal 2 ≡ 50 ∷ [] = decimal_digit 2 (omega arith) in
+          rw (← is, two) ((omega arith, omega arith), begins text (codes "ecplan 2\n") tests)
+    ]
 
-version_again : (version : ℕ) (rest : List ℕ) → version ≡ 1 → version_at (version_line version ++ rest) ≡ Ok (1, record { line = 2; rest = rest })
+version_again_by : (version : ℕ) (rest : List ℕ) → (version ≡ 1) ⊎ (version ≡ 2) → version_at (version_line version ++ rest) ≡ Ok (version, record { line = 2; rest = rest })
 unfolding version_at
-version_again version rest is =
+version_again_by version rest (inl is) =
     let one : decimal 1 ≡ 49 ∷ [] = decimal_digit 1 (omega arith) in
     rw (is, one) refl
+version_again_by version rest (inr is) =
+    let two : decimal 2 ≡ 50 ∷ [] = decimal_digit 2 (omega arith) in
+    rw (is, two) refl
+
+version_again : (version : ℕ) (rest : List ℕ) → IsKnown version → version_at (version_line version ++ rest) ≡ Ok (version, record { line = 2; rest = rest })
+version_again version rest known =
+    version_again_by version rest (elim (cases_lt version 2) [ inl one ↦ inl (omega (arith, known.0)) | inr two ↦ inr (omega (arith, known.1)) ])
 
 -- ---- the lines after it
 
@@ -73,7 +91,7 @@ read_as c = Ok c
 read_same : (a b : CertView) → read_as a ≡ read_as b → a ≡ b
 read_same a b e = cc
 
-parts_found : (version : ℕ) (p : At) (c : CertView) → version ≡ 1 → parts_at version p ≡ Ok c → IsWellFormed c × (c.version ≡ version) × (p.rest ≡ parts_text c)
+parts_found : (version : ℕ) (p : At) (c : CertView) → IsKnown version → parts_at version p ≡ Ok c → IsWellFormed c × (c.version ≡ version) × (p.rest ≡ parts_text c)
 unfolding parts_at
 parts_found version p c known e =
     let (slots, read_1, then_1) = bind_ok (slots_at p) _ c e in
@@ -81,7 +99,7 @@ parts_found version p c known e =
     let (order, read_3, then_3) = bind_ok (order_at (length units.0) units.1) _ c then_2 in
     let (best, read_4, then_4) = bind_ok (best_at (length units.0) order.1) _ c then_3 in
     let (start, read_5, then_5) = bind_ok (start_at best.1) _ c then_4 in
-    let (tree, read_6, then_6) = bind_ok (tree_at 49 start) _ c then_5 in
+    let (tree, read_6, then_6) = bind_ok (tree_at version 49 start) _ c then_5 in
     let (last, read_7, then_7) = bind_ok (end_at tree.1) _ c then_6 in
     let view : CertView = record { version = version; slots = slots.0; units = units.0; order = order.0; best = best.0; tree = tree.0 } in
     let is : view ≡ c = read_same view c then_7 in
@@ -90,10 +108,11 @@ parts_found version p c known e =
     let (all_order, each, text_3) = order_found (length units.0) units.1 order count.0 count.1 read_3 in
     let (right, text_4) = best_found (length units.0) order.1 best read_4 in
     let text_5 = start_found best.1 start read_5 in
-    let (levels, text_6) = tree_found 49 start tree read_6 in
+    let (levels, text_6) = tree_found version 49 start tree read_6 in
     let text_7 = end_found tree.1 last read_7 in
     let formed : IsWellFormed view = record {
-      version = known;
+      least_version = known.0;
+      most_version = known.1;
       least_slots = range.0;
       most_slots = range.1;
       least_units = count.0;
@@ -119,7 +138,8 @@ parts_again version n c known f =
     let order = order_again m (length c.units) c.order rest_4 f.least_units f.most_units f.order_count (Below-loose (length c.units) c.order (Rec-from_All (λ i. i < length c.units) c.order f.order)) in
     let (k, best) = best_again (m + 1) (length c.units) c.best rest_5 f.best in
     let start = start_again k (node_lines c.tree ++ codes "end\n") in
-    let (l, tree) = tree_again 49 (k + 1) c.tree (codes "end\n") f.tree in
+    let levels : HasLevels version 49 c.tree = subst (λ v. HasLevels v 49 c.tree) known f.tree in
+    let (l, tree) = tree_again version 49 (k + 1) c.tree (codes "end\n") levels in
     rw (slots_again n c.slots rest_2 f.least_slots f.most_slots, units, order, best, start, tree, end_again l, ← known) refl
 
 -- ---- the whole
@@ -136,8 +156,8 @@ body_found text c e =
 
 pub body_again : (c : CertView) → IsWellFormed c → body (certificate_text c) ≡ Ok c
 body_again c f =
-    let first = version_again c.version (parts_text c) f.version in
-    rw first (parts_again 1 2 c f.version f)
+    let first = version_again c.version (parts_text c) (f.least_version, f.most_version) in
+    rw first (parts_again c.version 2 c refl f)
 
 -- certificates with one text are one certificate
 pub one_text_each : (a b : CertView) → IsWellFormed a → IsWellFormed b → certificate_text a ≡ certificate_text b → a ≡ b

@@ -4,7 +4,7 @@ use Rattle.std.specs.List.{starts_with, list_all}
 use Rattle.std.specs.Str.{all_ascii_digits, bytes_eq}
 use Rattle.ec_units.specs.Names.{is_name}
 use Rattle.ec_units.specs.declared.slave.Place.{Place}
-use Rattle.ec_loads.specs.Shape.{tick, full, average, Shape, split, leaf}
+use Rattle.ec_loads.specs.Shape.{tick, full, average, weighted, Shape, split, leaf}
 use Rattle.ec_cert_text.specs.declared.fault.CertFault.{CertFault}
 use Rattle.ec_cert_text.specs.declared.fault.CertFault.TheVariants as fault
 use Rattle.ec_cert_text.specs.declared.words.Wrong.{Wrong}
@@ -103,9 +103,12 @@ pair_in low high0 high1 text = pair_from low high0 high1 (cut 32 text)
 
 -- ---- the lines of the head
 
--- the first line; only version 1 is known
+-- the first line; versions 1 and 2 are known
 unfoldable pub version_at : List ℕ → Result (ℕ × At) CertFault
-version_at text = if starts_with nat_eq text (codes "ecplan 1\n") then Ok (1, record { line = 2; rest = drop 9 text }) else Err fault.Version
+version_at text =
+    if starts_with nat_eq text (codes "ecplan 1\n") then Ok (1, record { line = 2; rest = drop 9 text })
+    else if starts_with nat_eq text (codes "ecplan 2\n") then Ok (2, record { line = 2; rest = drop 9 text })
+    else Err fault.Version
 
 unfoldable pub slots_in : List ℕ → Result ℕ Wrong
 slots_in line = if starts_with nat_eq line (codes "slots ") then number_in 1 8 (drop 6 line) else Err wrong.Words
@@ -173,14 +176,14 @@ index_from n high (Some x) = on_line n (number_in 0 high x.0) >>= (λ i. Ok (i, 
 unfoldable pub index_in : ℕ → ℕ → List ℕ → Result (ℕ × List ℕ) CertFault
 index_in n high text = index_from n high (cut 32 text)
 
--- the numbers from 0 to this one that so many words and one more are
-unfoldable pub indexes_in : ℕ → ℕ → List ℕ → Result (List ℕ) CertFault
-indexes_in n high text = many_from (index_in n high) high text >>= (λ is. on_line n (number_in 0 high is.1) >>= (λ i. Ok (is.0 ++ i ∷ [])))
+-- the numbers that so many words and one more are, none of them above `high`
+unfoldable pub indexes_in : ℕ → ℕ → ℕ → List ℕ → Result (List ℕ) CertFault
+indexes_in n more high text = many_from (index_in n high) more text >>= (λ is. on_line n (number_in 0 high is.1) >>= (λ i. Ok (is.0 ++ i ∷ [])))
 
 -- a word for each of so many units, each the number of a unit; that they are numbers is judged of all before a range
 unfoldable pub order_in : ℕ → ℕ → List ℕ → Result (List ℕ) CertFault
 order_in n units line =
-    if starts_with nat_eq line (codes "order ") && are_numbers (units - 1) (drop 6 line) then indexes_in n (units - 1) (drop 6 line)
+    if starts_with nat_eq line (codes "order ") && are_numbers (units - 1) (drop 6 line) then indexes_in n (units - 1) (units - 1) (drop 6 line)
     else Err (fault.BadLine n)
 
 unfoldable pub order_at : ℕ → At → Result (List ℕ × At) CertFault
@@ -221,7 +224,7 @@ start_at p = do
   l ← line_at p
   if bytes_eq l.0 (codes "tree") then Ok l.1 else Err (fault.BadLine p.line)
 
--- what a line of a node says
+-- what a line of a node says, of a kind that every version has
 unfoldable pub node_in : List ℕ → Result Node Wrong
 node_in line =
     if starts_with nat_eq line (codes "S ") then ok_map node.Split (number_in 1 480 (drop 2 line))
@@ -230,11 +233,28 @@ node_in line =
     else if bytes_eq line (codes "A") then Ok node.Average
     else Err wrong.Words
 
+-- how many spaces bytes have
+abbrev pub space_count : List ℕ → ℕ
+space_count [] = 0
+space_count (b ∷ bs) = if b == 32 then 1 + space_count bs else space_count bs
+
+-- 1 to 1024 words, each a weight; that they are numbers is judged of all before a range
+unfoldable pub weights_in : ℕ → List ℕ → Result (List ℕ) CertFault
+weights_in n text =
+    if nat_le (space_count text) 1023 && are_numbers (space_count text) text then indexes_in n (space_count text) 65535 text
+    else Err (fault.BadLine n)
+
+-- what a line of a node says in a text of this version
+unfoldable pub node_on : ℕ → ℕ → List ℕ → Result Node CertFault
+node_on version n line =
+    if starts_with nat_eq line (codes "W ") && nat_le 2 version then ok_map node.Weights (weights_in n (drop 2 line))
+    else on_line n (node_in line)
+
 -- the line of a node, where the tree may have so many levels from it on
-unfoldable pub node_at : ℕ → At → Result (Node × At) CertFault
-node_at levels p = do
+unfoldable pub node_at : ℕ → ℕ → At → Result (Node × At) CertFault
+node_at version levels p = do
   l ← line_at p
-  h ← if bytes_eq l.0 (codes "end") then Err (fault.Early p.line) else on_line p.line (node_in l.0)
+  h ← if bytes_eq l.0 (codes "end") then Err (fault.Early p.line) else node_on version p.line l.0
   if levels == 0 then Err (fault.TooDeep p.line) else Ok (h, l.1)
 
 -- a node with what stands below its line
@@ -243,11 +263,12 @@ below one (node.Split n) p = many_from one n p >>= (λ ts. Ok (split (shapes ts.
 below one (node.TickLeaf t) p = Ok (leaf (tick t), p)
 below one (node.FullLeaf t s) p = Ok (leaf (full t s), p)
 below one node.Average p = Ok (leaf average, p)
+below one (node.Weights w) p = Ok (leaf (weighted w), p)
 
 -- a tree of so many levels at most
-unfoldable pub tree_at : ℕ → At → Result (Shape × At) CertFault
-tree_at zero p = node_at 0 p >>= (λ h. Err (fault.TooDeep p.line))
-tree_at (suc d) p = node_at (suc d) p >>= (λ h. below (tree_at d) h.0 h.1)
+unfoldable pub tree_at : ℕ → ℕ → At → Result (Shape × At) CertFault
+tree_at version zero p = node_at version 0 p >>= (λ h. Err (fault.TooDeep p.line))
+tree_at version (suc d) p = node_at version (suc d) p >>= (λ h. below (tree_at version d) h.0 h.1)
 
 -- ---- the whole
 
@@ -269,7 +290,7 @@ parts_at version p = do
   order ← order_at (length units.0) units.1
   best ← best_at (length units.0) order.1
   start ← start_at best.1
-  tree ← tree_at 49 start
+  tree ← tree_at version 49 start
   last ← end_at tree.1
   Ok (record { version = version; slots = slots.0; units = units.0; order = order.0; best = best.0; tree = tree.0 })
 

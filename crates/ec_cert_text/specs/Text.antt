@@ -3,7 +3,7 @@ use Rattle.std.specs.Prelude.{ℕ, List, [], ◌++◌, codes, Option, None, Some
 use Rattle.std.specs.List.{flat_map}
 use Rattle.std.specs.Fmt.{decimal}
 use Rattle.ec_units.specs.declared.slave.Place.{Place}
-use Rattle.ec_loads.specs.Shape.{Leaf, tick, full, average, Shape, split, leaf, open_leaf, Shapes, no_shapes, more, shape_count}
+use Rattle.ec_loads.specs.Shape.{Leaf, tick, full, average, weighted, Shape, split, leaf, open_leaf, Shapes, no_shapes, more, shape_count}
 use Rattle.ec_cert.specs.declared.lists.UnitLine.{UnitLine}
 use Rattle.ec_cert.specs.declared.cert.Best.{Best}
 use Rattle.ec_cert.specs.Shapes.{CertView}
@@ -43,11 +43,15 @@ tick_line t = codes "T " ++ (decimal t ++ codes "\n")
 abbrev pub full_line : ℕ → ℕ → List ℕ
 full_line t s = codes "F " ++ (decimal t ++ (codes " " ++ (decimal s ++ codes "\n")))
 
+abbrev pub weights_line : List ℕ → List ℕ
+weights_line w = codes "W" ++ (flat_map index_word w ++ codes "\n")
+
 -- the line of a leaf, by what closes it
 abbrev pub leaf_line : Leaf → List ℕ
 leaf_line (tick t) = tick_line t
 leaf_line (full t s) = full_line t s
 leaf_line average = codes "A\n"
+leaf_line (weighted w) = weights_line w
 
 -- a line for each node, a node before its children
 abbrev mutual

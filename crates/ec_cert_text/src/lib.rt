@@ -12,6 +12,7 @@ mod nodes;
 mod place;
 mod reading;
 mod spelled;
+mod weights;
 mod words;
 mod writing;
 

@@ -2,7 +2,7 @@
 
 ghost use Rattle.std.specs.Prelude.{◌≡◌, ℕ, ◌<◌, Ok, OnOk, IfSome};
 ghost use Rattle.ec_loads.specs.Shape.{leaf, tick};
-ghost use Rattle.ec_cert_text.specs.Reading.{Gives, node_in as node_in_spec, node_at, tree_at, many_from};
+ghost use Rattle.ec_cert_text.specs.Reading.{Gives, node_in as node_in_spec, node_on as node_on_spec, node_at, tree_at, many_from};
 ghost use Rattle.ec_cert.specs.Shapes.{shape_of};
 ghost use Rattle.ec_cert_text.specs.Views.{at_view, tree_views};
 
@@ -10,20 +10,23 @@ use crate::fault::CertFault;
 use crate::lines::{fault_on, line_of};
 use crate::place::TextPlace;
 use crate::spelled::{spelled_node, spelled_tick};
+use crate::weights::weights_on;
 use crate::words::{Wrong, number, pair};
-use ec_cert::Tree;
+use ec_cert::{Tree, Weights};
 use std::alloc::Global;
 
 /// What a line of a node says.
-#[derive(Clone, Copy, Debug, PartialEq, Eq)]
+#[derive(Debug, Drop)]
 pub(crate) enum Node {
     /// A split with so many children.
     Split(u32),
     TickLeaf(u32),
     FullLeaf(u32, u8),
     Average,
+    Weights(Weights),
 }
 
+/// What a line says, of a node of a kind that every version has.
 #[tactic(auto, unfolding(crate::specs::Reading::node_in))]
 fn node_in(line: &[u8]) -> Result<Node, Wrong>
     ensures { result ≡ node_in_spec line.now }
@@ -44,26 +47,51 @@ fn node_in(line: &[u8]) -> Result<Node, Wrong>
     Err(Wrong::Words)
 }
 
+/// What a line of a node says in a text of this version.
+#[tactic(auto, unfolding(crate::specs::Reading::node_on))]
+fn node_on(alloc: Global, version: u8, number: u32, line: &[u8]) -> Result<Node, CertFault>
+    ensures { Gives (λ x. x) result (node_on_spec version number line.now) }
+{
+    if line.starts_with(b"W ") && 2 <= version {
+        let weights = weights_on(alloc, number, &line[2..])?;
+        return Ok(Node::Weights(Weights::new(weights)));
+    }
+    match node_in(line) {
+        Ok(node) => Ok(node),
+        Err(wrong) => Err(fault_on(number, wrong)),
+    }
+}
+
 /// The node of the next line, or what is wrong with that line.
 #[tactic(auto, unfolding(crate::specs::Reading::node_at))]
-fn judged_node(levels: u8, place: TextPlace<'_>) -> Result<(Node, TextPlace<'_>), CertFault>
-    ensures exact { Gives (λ x. (x.0, at_view x.1)) result (node_at levels (at_view place.entry)) }
+fn judged_node(
+    alloc: Global,
+    version: u8,
+    levels: u8,
+    place: TextPlace<'_>,
+) -> Result<(Node, TextPlace<'_>), CertFault>
+    ensures exact { Gives (λ x. (x.0, at_view x.1)) result (node_at version levels (at_view place.entry)) }
     ensures deep { OnOk result (0 < levels) }
 {
     let (line, rest) = line_of(place)?;
     if line == b"end".as_slice() {
         return Err(CertFault::Early(place.line));
     }
-    match node_in(line) {
-        Err(wrong) => Err(fault_on(place.line, wrong)),
-        Ok(_) if levels == 0 => Err(CertFault::TooDeep(place.line)),
-        Ok(node) => Ok((node, rest)),
+    let node = node_on(alloc, version, place.line, line)?;
+    if levels == 0 {
+        return Err(CertFault::TooDeep(place.line));
     }
+    Ok((node, rest))
 }
 
 /// The node of the next line, where the tree may have so many levels from it on.
-fn node_of(levels: u8, place: TextPlace<'_>) -> Result<(Node, TextPlace<'_>), CertFault>
-    ensures exact { Gives (λ x. (x.0, at_view x.1)) result (node_at levels (at_view place.entry)) }
+fn node_of(
+    alloc: Global,
+    version: u8,
+    levels: u8,
+    place: TextPlace<'_>,
+) -> Result<(Node, TextPlace<'_>), CertFault>
+    ensures exact { Gives (λ x. (x.0, at_view x.1)) result (node_at version levels (at_view place.entry)) }
     ensures deep { OnOk result (0 < levels) }
 {
     match spelled_node(place.rest) {
@@ -74,7 +102,7 @@ fn node_of(levels: u8, place: TextPlace<'_>) -> Result<(Node, TextPlace<'_>), Ce
             };
             Ok((node, next))
         }
-        _ => judged_node(levels, place),
+        _ => judged_node(alloc, version, levels, place),
     }
 }
 
@@ -82,7 +110,7 @@ fn node_of(levels: u8, place: TextPlace<'_>) -> Result<(Node, TextPlace<'_>), Ce
 /// it on.
 #[inline(always)]
 fn tick_of(levels: u8, place: TextPlace<'_>) -> Option<(u32, TextPlace<'_>)>
-    ensures { IfSome result (λ x. tree_at levels (at_view place.entry) ≡ Ok (leaf (tick x.0), at_view x.1)) }
+    ensures { IfSome result (λ x. (version : ℕ) → tree_at version levels (at_view place.entry) ≡ Ok (leaf (tick x.0), at_view x.1)) }
 {
     if levels == 0 {
         return None;
@@ -100,31 +128,34 @@ fn tick_of(levels: u8, place: TextPlace<'_>) -> Option<(u32, TextPlace<'_>)>
 #[tactic(auto, unfolding(crate::specs::Reading::tree_at))]
 pub(crate) fn tree_of(
     alloc: Global,
+    version: u8,
     levels: u8,
     place: TextPlace<'_>,
 ) -> Result<(Tree, TextPlace<'_>), CertFault>
-    ensures { Gives (λ x. (shape_of x.0, at_view x.1)) result (tree_at levels (at_view place.entry)) }
+    ensures { Gives (λ x. (shape_of x.0, at_view x.1)) result (tree_at version levels (at_view place.entry)) }
 {
-    let (node, rest) = node_of(levels, place)?;
+    let (node, rest) = node_of(alloc, version, levels, place)?;
     match node {
         Node::Split(count) => {
-            let (trees, rest) = trees_of(alloc, levels - 1, count, rest)?;
+            let (trees, rest) = trees_of(alloc, version, levels - 1, count, rest)?;
             Ok((Tree::Split(trees), rest))
         }
         Node::TickLeaf(tick) => Ok((Tree::TickLeaf(tick), rest)),
         Node::FullLeaf(tick, slot) => Ok((Tree::FullLeaf(tick, slot), rest)),
         Node::Average => Ok((Tree::Average, rest)),
+        Node::Weights(weights) => Ok((Tree::Weights(weights), rest)),
     }
 }
 
 #[cycle(tree)]
 fn trees_of(
     alloc: Global,
+    version: u8,
     levels: u8,
     count: u32,
     place: TextPlace<'_>,
 ) -> Result<(Vec<Tree>, TextPlace<'_>), CertFault>
-    ensures { Gives (λ x. (tree_views x.0.items, at_view x.1)) result (many_from (tree_at levels) count (at_view place.entry)) }
+    ensures { Gives (λ x. (tree_views x.0.items, at_view x.1)) result (many_from (tree_at version levels) count (at_view place.entry)) }
 {
     let mut trees = Vec::with_capacity(alloc, count as usize)?;
     let mut rest = place;
@@ -134,7 +165,7 @@ fn trees_of(
             rest = after;
             continue;
         }
-        let (tree, after) = tree_of(alloc, levels, rest)?;
+        let (tree, after) = tree_of(alloc, version, levels, rest)?;
         trees.push(tree)?;
         rest = after;
     }

@@ -43,6 +43,13 @@ fn version_of(text: &[u8]) -> Result<(u8, TextPlace<'_>), CertFault>
         };
         return Ok((1, next));
     }
+    if text.starts_with(b"ecplan 2\n") {
+        let next = TextPlace {
+            line: 2,
+            rest: &text[9..],
+        };
+        return Ok((2, next));
+    }
     Err(CertFault::Version)
 }
 
@@ -73,7 +80,7 @@ fn parts_of(alloc: Global, version: u8, place: TextPlace<'_>) -> Result<Cert, Ce
     let (order, rest) = order_of(alloc, count, rest)?;
     let (best, rest) = best_of(alloc, count, rest)?;
     let rest = start_of(rest)?;
-    let (tree, rest) = tree_of(alloc, LEVELS, rest)?;
+    let (tree, rest) = tree_of(alloc, version, LEVELS, rest)?;
     end_of(rest)?;
     Ok(Cert {
         version,
@@ -99,8 +106,9 @@ fn cert_of(alloc: Global, text: &[u8]) -> Result<Cert, CertFault>
     parts_of(alloc, version, rest)
 }
 
-/// Reads the certificate that a text is the text of. Of several faults the first in this order is answered: the
-/// length, the bytes, the first line, and then the first line at fault. Want of memory may come before another fault.
+/// Reads the certificate, of version 1 or 2, that a text is the text of. Of several faults the first in this order is
+/// answered: the length, the bytes, the first line, and then the first line at fault. Want of memory may come before
+/// another fault.
 pub fn read_cert(alloc: Global, text: &[u8]) -> Result<Cert, CertFault>
     // What is read has this text, and is well formed.
     ensures found { IfOk result (λ c. IsWellFormed (cert_view c) × (length text.now ≤ 67108864) × (text.now ≡ certificate_text (cert_view c))) }

@@ -7,7 +7,7 @@ ghost use Rattle.ec_wire.specs.Stream.{stream, has_failed, WritesFront};
 ghost use Rattle.ec_cert_text.specs.Waiting.{Gathers, GathersFront};
 ghost use Rattle.ec_cert.specs.Shapes.{shape_of, shapes_of, cert_view};
 ghost use Rattle.ec_cert.specs.WellFormed.{IsUnitLine, IsWellFormed};
-ghost use Rattle.ec_cert_text.specs.Text.{unit_line as unit_line_spec, index_word, order_line, place_line, best_lines, node_lines, row_lines, tree_lines, certificate_text};
+ghost use Rattle.ec_cert_text.specs.Text.{unit_line as unit_line_spec, index_word, order_line, place_line, best_lines, weights_line, node_lines, row_lines, tree_lines, certificate_text};
 
 use crate::buffer::Waiting;
 use crate::digits::{number_line, number_word, pair_line, unit_line};
@@ -102,6 +102,37 @@ fn write_best<W: Write>(
     }
 }
 
+fn write_weights<W: Write>(
+    weights: &[u16],
+    io: &mut Io<W>,
+    waiting: &mut Waiting,
+) -> Result<(), WriteFault>
+    ensures all { OnOk result (Gathers (W.contents (stream io.old)) waiting.old.bytes.items (W.contents (stream io.new)) waiting.new.bytes.items (weights_line weights.now)) }
+    ensures front { GathersFront (W.contents (stream io.old)) waiting.old.bytes.items (W.contents (stream io.new)) (weights_line weights.now) }
+    ensures ok { OnOk result (has_failed io.new ≡ has_failed io.old) }
+    ensures err { OnErr result (has_failed io.new ≡ true) }
+{
+    waiting.write(io, b"W")?;
+    write_weight_words(weights, io, waiting)?;
+    waiting.write(io, b"\n")
+}
+
+fn write_weight_words<W: Write>(
+    weights: &[u16],
+    io: &mut Io<W>,
+    waiting: &mut Waiting,
+) -> Result<(), WriteFault>
+    ensures all { OnOk result (Gathers (W.contents (stream io.old)) waiting.old.bytes.items (W.contents (stream io.new)) waiting.new.bytes.items (flat_map index_word weights.now)) }
+    ensures front { GathersFront (W.contents (stream io.old)) waiting.old.bytes.items (W.contents (stream io.new)) (flat_map index_word weights.now) }
+    ensures ok { OnOk result (has_failed io.new ≡ has_failed io.old) }
+    ensures err { OnErr result (has_failed io.new ≡ true) }
+{
+    'words: for weight in weights {
+        waiting.write(io, number_word(usize::from(*weight)).as_slice())?;
+    }
+    Ok(())
+}
+
 #[cycle(nodes)]
 fn write_node<W: Write>(
     tree: &Tree,
@@ -125,6 +156,7 @@ fn write_node<W: Write>(
             pair_line(b"F ", *tick as usize, usize::from(*slot)).as_slice(),
         ),
         Tree::Average => waiting.write(io, b"A\n"),
+        Tree::Weights(weights) => write_weights(weights.as_slice(), io, waiting),
         Tree::OpenLeaf => waiting.write(io, b"O\n"),
     }
 }

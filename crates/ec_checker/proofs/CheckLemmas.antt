@@ -1,17 +1,18 @@
 -- From what is found in a certificate to what the checker answers.
-use Rattle.std.proofs.Common.{◌≡◌, ℕ, List, length, Option, Some, None, Result, Ok, Err, refl, ap, sym, subst, ◌∙◌}
+use Rattle.std.proofs.Common.{◌≡◌, ℕ, Bool, List, length, Option, Some, None, Result, Ok, Err, refl, ap, sym, subst, ◌∙◌}
 use Rattle.std.proofs.lemmas.List.{length-map}
 use Rattle.ec_units.specs.declared.unit.Unit.{Unit as SyncUnit}
 use Rattle.ec_units.specs.declared.unit.Load.{Load}
 use Rattle.ec_units.specs.Load.{load_of, loads_of}
 use Rattle.ec_loads.specs.Cost.{plan_items}
 use Rattle.ec_loads.specs.Held.{Held, no_places}
-use Rattle.ec_loads.specs.Line.{slots_alone, line_by}
+use Rattle.ec_loads.specs.Line.{rules_if, line_by}
 use Rattle.ec_loads.specs.Search.{IsTree, BoundsAll}
 use Rattle.ec_loads.proofs.CostLemmas.{one_busiest}
 use Rattle.ec_loads.proofs.ItemLemmas.{AreLoads-loads_of}
 use Rattle.ec_cert.specs.declared.cert.Best.{Best}
 use Rattle.ec_cert.specs.Shapes.{CertView}
+use Rattle.ec_cert.specs.Versions.{rules_of}
 use Rattle.ec_symmetry.specs.Orders.{IsOrder}
 use Rattle.ec_tree.specs.Trees.{TreesBound}
 use Rattle.ec_checker.specs.declared.fault.CheckFault.{CheckFault}
@@ -25,10 +26,10 @@ use Rattle.ec_checker.specs.Laws.{FaultsRefute}
 use Rattle.ec_checker.proofs.FoundLemmas.{Found, found_tree}
 
 abbrev IsTreeOf : List Load → ℕ → CertView → Type 0
-IsTreeOf loads n c = IsTree (line_by slots_alone loads n) (value_of c.best) c.tree (no_places loads) c.order
+IsTreeOf loads n c = IsTree (line_by (rules_of c.version) loads n) (value_of c.best) c.tree (no_places loads) c.order
 
 found_of : (loads : List Load) (n : ℕ) (c : CertView) → Found (IsTreeOf loads n c) (tree_found loads n c)
-found_of loads n c = found_tree (line_by slots_alone loads n) (value_of c.best) c.tree (no_places loads) c.order 0
+found_of loads n c = found_tree (line_by (rules_of c.version) loads n) (value_of c.best) c.tree (no_places loads) c.order 0
 
 pub tree_from : (loads : List Load) (n : ℕ) (c : CertView) (k : ℕ) → tree_found loads n c ≡ Ok k → IsTreeOf loads n c
 tree_from loads n c k e = subst (Found (IsTreeOf loads n c)) e (found_of loads n c)
@@ -67,7 +68,7 @@ pub claim_from : TreesBound → (units : List SyncUnit) (n : ℕ) (c : CertView)
 claim_from law units n c v is said =
     let loads = loads_of units in
     let order : IsOrder (length loads) c.order = subst (λ k. IsOrder k c.order) (sym (length-map units load_of)) is.head.order in
-    subst (IsClaim loads n c.best) (sym said) (claim_of loads n c.best (law (line_by slots_alone loads n) (value_of c.best) c.tree c.order (AreLoads-loads_of units) order is.tree) is.head.best)
+    subst (IsClaim loads n c.best) (sym said) (claim_of loads n c.best (law (line_by (rules_of c.version) loads n) (value_of c.best) c.tree c.order (AreLoads-loads_of units) order is.tree) is.head.best)
 
 pub plan_refutes : (loads : List Load) (n : ℕ) (best : Option Best) (e : CheckFault) → IsPlanFault loads n best e → ¬ (IsBestPlan loads n best)
 plan_refutes loads n best fault.OutOfMemory h right = absurd h
@@ -92,8 +93,8 @@ refutes units n c (fault.Leaf k) other h = λ is. (node_from (loads_of units) n 
 refutes units n c (fault.Depth k) other h = λ is. (node_from (loads_of units) n c (fault.Depth k) h.1).1 is.tree
 
 -- what the walk found
-pub found_is : (loads : List Load) (n : ℕ) (c : CertView) (held : Held) (value : Option ℕ) (order : List ℕ) (r : Result ℕ CheckFault) → held ≡ record { loads = loads; slots = n; places = no_places loads } → value ≡ value_of c.best → order ≡ c.order → r ≡ tree_judged (line_by slots_alone held.loads held.slots) value c.tree held.places order 0 → r ≡ tree_found loads n c
-found_is loads n c held value order r at val ord is = is ∙ (λ j. tree_judged (line_by slots_alone (at j).loads (at j).slots) (val j) c.tree (at j).places (ord j) 0)
+pub found_is : (loads : List Load) (n : ℕ) (c : CertView) (held : Held) (turned : Bool) (value : Option ℕ) (order : List ℕ) (r : Result ℕ CheckFault) → held ≡ record { loads = loads; slots = n; places = no_places loads } → rules_if turned ≡ rules_of c.version → value ≡ value_of c.best → order ≡ c.order → r ≡ tree_judged (line_by (rules_if turned) held.loads held.slots) value c.tree held.places order 0 → r ≡ tree_found loads n c
+found_is loads n c held turned value order r at by val ord is = is ∙ (λ j. tree_judged (line_by (by j) (at j).loads (at j).slots) (val j) c.tree (at j).places (ord j) 0)
 
 -- what is found in a tree is never want of memory
 pub tree_memory : (loads : List Load) (n : ℕ) (c : CertView) (e : CheckFault) → tree_found loads n c ≡ Err e → e ≡ fault.OutOfMemory → ⊥

@@ -7,12 +7,13 @@ use Rattle.ec_units.specs.declared.unit.Load.{Load}
 use Rattle.ec_units.specs.Load.{periods_of}
 use Rattle.ec_loads.specs.Cost.{items, payload, tick_cost}
 use Rattle.ec_loads.specs.Line.{Line}
-use Rattle.ec_loads.specs.Shape.{Leaf, tick, full, average, Shape, Shapes, split, leaf, open_leaf, no_shapes, more, shape_count}
+use Rattle.ec_loads.specs.Shape.{Leaf, tick, full, average, weighted, Shape, Shapes, split, leaf, open_leaf, no_shapes, more, shape_count}
 use Rattle.ec_loads.specs.Search.{Prefix, children, least_raw, TickHolds, FullHolds, AverageHolds, LeafHolds, TreeWith, TreesWith}
+use Rattle.ec_loads.specs.Weights.{total_weight, weighted_raw, weighted_demand, WeightsHold}
 use Rattle.ec_checker.specs.declared.fault.CheckFault.{CheckFault}
 use Rattle.ec_checker.specs.declared.fault.CheckFault.TheVariants as fault
 use Rattle.ec_checker.specs.Certified.{IsNodeFault}
-use Rattle.ec_checker.specs.Judged.{next, tick_holds, full_holds, average_holds, leaf_holds, leaf_judged, then_judged, tree_judged, trees_judged}
+use Rattle.ec_checker.specs.Judged.{next, tick_holds, full_holds, average_holds, weights_hold, leaf_holds, leaf_judged, then_judged, tree_judged, trees_judged}
 
 -- yes where it holds, and else the fault of a node
 abbrev pub Found : Type 0 → Result ℕ CheckFault → Type 0
@@ -59,11 +60,46 @@ found_average loads n (Some b) ps k =
     (λ e. (b, refl, ltb-true (b * m) (least_raw loads n ps m + m) e))
     (λ h. let e : b ≡ h.0 = cc in lt-ltb (b * m) (least_raw loads n ps m + m) (subst (λ w. w * m < least_raw loads n ps m + m) (sym e) h.2))
 
+-- three tests of numbers in a row, and what they say
+abbrev Passes : ℕ → ℕ → ℕ → ℕ → ℕ → Type 0
+Passes a h w x y = (a ≡ h) × (0 < w) × (x < y)
+
+passes_from : (a h w x y : ℕ) → ((a == h) && nat_lt 0 w && nat_lt x y) ≡ true → Passes a h w x y
+passes_from a h w x y e =
+    let all = and_parts (a == h && nat_lt 0 w) (nat_lt x y) e in
+    let some = and_parts (a == h) (nat_lt 0 w) all.0 in
+    (eqb-true a h some.0, ltb-true 0 w some.1, ltb-true x y all.1)
+
+passes_to : (a h w x y : ℕ) → Passes a h w x y → ((a == h) && nat_lt 0 w && nat_lt x y) ≡ true
+passes_to a h w x y p = λ j. eq-eqb a h p.0 j && lt-ltb 0 w p.1 j && lt-ltb x y p.2 j
+
+-- the test of weights is whether they hold
+weights_from : (loads : List Load) (n : ℕ) (v : Option ℕ) (ps : Prefix) (w : List ℕ) → weights_hold loads n v ps w ≡ true → WeightsHold loads n v ps w
+weights_from loads n None ps w e = absurd (false≢true e)
+weights_from loads n (Some b) ps w e =
+    let m = lcm_of (periods_of loads) in
+    let total = total_weight w m in
+    let p = passes_from (length w) m total (b * total) (weighted_raw loads n ps w m + weighted_demand loads ps w m + total) e in
+    (b, refl, p.0, p.1, p.2)
+
+weights_to : (loads : List Load) (n : ℕ) (v : Option ℕ) (ps : Prefix) (w : List ℕ) → WeightsHold loads n v ps w → weights_hold loads n v ps w ≡ true
+weights_to loads n None ps w h = let e = h.1 in absurd cc
+weights_to loads n (Some b) ps w h =
+    let m = lcm_of (periods_of loads) in
+    let total = total_weight w m in
+    let bytes = weighted_raw loads n ps w m + weighted_demand loads ps w m + total in
+    let e : b ≡ h.0 = cc in
+    passes_to (length w) m total (b * total) bytes (h.2, h.3, subst (λ k. k * total < bytes) (sym e) h.4)
+
+found_weights : (loads : List Load) (n : ℕ) (v : Option ℕ) (ps : Prefix) (w : List ℕ) (k : ℕ) → Found (WeightsHold loads n v ps w) (leaf_judged (weights_hold loads n v ps w) k)
+found_weights loads n v ps w k = found_leaf (WeightsHold loads n v ps w) (weights_hold loads n v ps w) k (weights_from loads n v ps w) (weights_to loads n v ps w)
+
 -- by what closes the leaf
 found_closed : (line : Line) (v : Option ℕ) (ps : Prefix) (l : Leaf) (k : ℕ) → Found (LeafHolds line v ps l) (leaf_judged (leaf_holds line v ps l) k)
 found_closed line v ps (tick t) k = found_tick line.loads line.slots v ps t k
 found_closed line v ps (full t s) k = found_full line.loads line.slots ps t s k
 found_closed line v ps average k = found_average line.loads line.slots v ps k
+found_closed line v ps (weighted w) k = found_weights line.loads line.slots v ps w k
 
 -- as many trees as children
 trees_count : (line : Line) (v : Option ℕ) (ts : Shapes) (ps : Prefix) (u : ℕ) (order : List ℕ) (places : List Place) → TreesWith closed line v ts ps u order places → shape_count ts ≡ length places

@@ -7,13 +7,14 @@ use Rattle.ec_units.specs.Load.{loads_of}
 use Rattle.ec_loads.specs.Cost.{plan_items, IsBusiest}
 use Rattle.ec_loads.specs.Held.{no_places}
 use Rattle.ec_loads.specs.Legal.{IsLegal, IsIllegalBy}
-use Rattle.ec_loads.specs.Line.{slots_alone, line_by}
+use Rattle.ec_loads.specs.Line.{line_by}
 use Rattle.ec_loads.specs.Search.{IsTree, IsLeast, HasNoPlan}
 use Rattle.ec_symmetry.specs.Orders.{IsOrder}
 use Rattle.ec_cert.specs.declared.lists.UnitLine.{UnitLine}
 use Rattle.ec_cert.specs.declared.cert.Best.{Best}
 use Rattle.ec_cert.specs.BestPlan.{value_of, IsBestPlan}
 use Rattle.ec_cert.specs.Shapes.{CertView}
+use Rattle.ec_cert.specs.Versions.{rules_of}
 use Rattle.ec_checker.specs.declared.fault.CheckFault.{CheckFault}
 use Rattle.ec_checker.specs.declared.fault.CheckFault.TheVariants as fault
 use Rattle.ec_checker.specs.declared.fault.Verdict.{Verdict}
@@ -38,18 +39,18 @@ pub record HasHead (units : List SyncUnit) (n : ℕ) (c : CertView) : Type 0 whe
   pub order : IsOrder (length units) c.order
   pub best : IsBestPlan (loads_of units) n c.best
 
--- the checker says yes: what stands before the tree is right, and the tree is one for the empty prefix at the value, by the rules of slots alone
+-- the checker says yes: what stands before the tree is right, and the tree is one for the empty prefix at the value, by the rules of the certificate's version
 pub record IsCertified (units : List SyncUnit) (n : ℕ) (c : CertView) : Type 0 where
   pub head : HasHead units n c
-  pub tree : IsTree (line_by slots_alone (loads_of units) n) (value_of c.best) c.tree (no_places (loads_of units)) c.order
+  pub tree : IsTree (line_by (rules_of c.version) (loads_of units) n) (value_of c.best) c.tree (no_places (loads_of units)) c.order
 
 abbrev pub verdict_of : Option Best → Verdict
 verdict_of None = verdict.NoPlan
 verdict_of (Some b) = verdict.Least b.busiest
 
--- what is found in the tree
+-- what is found in the tree, by the rules of the certificate's version
 abbrev pub tree_found : List Load → ℕ → CertView → Result ℕ CheckFault
-tree_found loads n c = tree_judged (line_by slots_alone loads n) (value_of c.best) c.tree (no_places loads) c.order 0
+tree_found loads n c = tree_judged (line_by (rules_of c.version) loads n) (value_of c.best) c.tree (no_places loads) c.order 0
 
 -- the fault is one of the best plan
 abbrev pub IsPlanFault : List Load → ℕ → Option Best → CheckFault → Type 0

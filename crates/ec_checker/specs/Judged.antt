@@ -6,8 +6,9 @@ use Rattle.ec_units.specs.declared.unit.Load.{Load}
 use Rattle.ec_units.specs.Load.{periods_of}
 use Rattle.ec_loads.specs.Cost.{items, payload, tick_cost}
 use Rattle.ec_loads.specs.Line.{Line}
-use Rattle.ec_loads.specs.Shape.{Leaf, tick, full, average, Shape, Shapes, split, leaf, open_leaf, no_shapes, more, shape_count}
+use Rattle.ec_loads.specs.Shape.{Leaf, tick, full, average, weighted, Shape, Shapes, split, leaf, open_leaf, no_shapes, more, shape_count}
 use Rattle.ec_loads.specs.Search.{Prefix, children, least_raw}
+use Rattle.ec_loads.specs.Weights.{total_weight, weighted_raw, weighted_demand}
 use Rattle.ec_checker.specs.declared.fault.CheckFault.{CheckFault}
 use Rattle.ec_checker.specs.declared.fault.CheckFault.TheVariants as fault
 
@@ -32,11 +33,19 @@ abbrev pub average_holds : List Load → ℕ → Option ℕ → Prefix → Bool
 average_holds loads n None ps = false
 average_holds loads n (Some b) ps = nat_lt (b * lcm_of (periods_of loads)) (least_raw loads n ps (lcm_of (periods_of loads)) + lcm_of (periods_of loads))
 
+abbrev pub weights_hold : List Load → ℕ → Option ℕ → Prefix → List ℕ → Bool
+weights_hold loads n None ps w = false
+weights_hold loads n (Some b) ps w =
+    (length w == lcm_of (periods_of loads))
+    && nat_lt 0 (total_weight w (lcm_of (periods_of loads)))
+    && nat_lt (b * total_weight w (lcm_of (periods_of loads))) (weighted_raw loads n ps w (lcm_of (periods_of loads)) + weighted_demand loads ps w (lcm_of (periods_of loads)) + total_weight w (lcm_of (periods_of loads)))
+
 -- the test of a leaf, by what closes it
 abbrev pub leaf_holds : Line → Option ℕ → Prefix → Leaf → Bool
 leaf_holds line v ps (tick t) = tick_holds line.loads line.slots v ps t
 leaf_holds line v ps (full t s) = full_holds line.loads line.slots ps t s
 leaf_holds line v ps average = average_holds line.loads line.slots v ps
+leaf_holds line v ps (weighted w) = weights_hold line.loads line.slots v ps w
 
 abbrev pub leaf_judged : Bool → ℕ → Result ℕ CheckFault
 leaf_judged holds k = if holds then Ok (next k) else Err (fault.Leaf k)

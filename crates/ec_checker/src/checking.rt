@@ -3,7 +3,9 @@
 ghost use Rattle.std.specs.Prelude.{◌≡◌, ◌≢◌, IfOk, Err};
 ghost use Rattle.ec_units.specs.Load.{loads_of};
 ghost use Rattle.ec_cert.specs.Shapes.{cert_view};
+ghost use Rattle.ec_cert.specs.Versions.{rules_of};
 ghost use Rattle.ec_loads.specs.Held.{no_places};
+ghost use Rattle.ec_loads.specs.Line.{rules_if};
 ghost use Rattle.ec_checker.specs.declared.fault.CheckFault.TheVariants.{OutOfMemory};
 ghost use Rattle.ec_checker.specs.Certified.{IsAnswer, IsClaim};
 
@@ -19,9 +21,20 @@ use ec_tree::trees_bound;
 use ec_units::Units;
 use std::alloc::Global;
 
+/// Whether time is turned in the trees of certificates of this version.
+fn is_turned(version: u8) -> bool
+    ensures { rules_if result ≡ rules_of version }
+{
+    1 < version
+}
+
 /// Whether a certificate, whoever made it, shows that its plan is the best of all legal plans of these units, or
 /// that none is legal. A yes says so of every legal plan; a no is the first fault: of the units, the order, the
 /// plan, its stated cost, and then of the tree, node by node.
+///
+/// The tree is judged by the rules of the certificate's own version: in version 1 the children of a prefix are made by
+/// slots alone, in later ones time is turned, which leaves the first unit of the order phase 0 alone. A leaf by
+/// weights, which no text of version 1 has, is judged alike in all of them.
 ///
 /// The loads are those of the units, with no place, and are so again afterwards. Takes no memory, and visits each
 /// node once.
@@ -44,7 +57,8 @@ pub fn check_in(loads: &mut Loads, units: &Units, cert: &Cert) -> Result<Verdict
     }
     let value = value_of(units, &cert.best)?;
     let mut rest = Rest::all(units);
-    walk(loads, &mut rest, value, order, &cert.tree, 0)?;
+    let turned = is_turned(cert.version);
+    walk(loads, &mut rest, turned, value, order, &cert.tree, 0)?;
     match value {
         Some(value) => Ok(Verdict::Least(value)),
         None => Ok(Verdict::NoPlan),

@@ -30,7 +30,8 @@ pub enum CheckFault {
     Plan(Illegal),
     /// The stated cost of the busiest tick, and the plan's own.
     Value(u64, u64),
-    /// A split has not one tree for each child: the node, the count of children, and the count of trees.
+    /// A split has not one tree for each child that the rules of its version give: the node, the count of children,
+    /// and the count of trees.
     Children(usize, usize, usize),
     /// This leaf doesn't hold.
     Leaf(usize),

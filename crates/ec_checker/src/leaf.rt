@@ -2,10 +2,10 @@
 
 ghost use Rattle.std.specs.Prelude.{◌≡◌, ℕ, ◌<◌, ◌≤◌};
 ghost use Rattle.ec_bounds.specs.Left.{IsRestOf};
-ghost use Rattle.ec_checker.specs.Judged.{tick_holds as tick_holds_of, full_holds as full_holds_of, average_holds as average_holds_of, leaf_judged};
+ghost use Rattle.ec_checker.specs.Judged.{tick_holds as tick_holds_of, full_holds as full_holds_of, average_holds as average_holds_of, weights_hold as weights_hold_of, leaf_judged};
 
 use crate::fault::CheckFault;
-use ec_bounds::{Rest, average_bound};
+use ec_bounds::{Rest, average_bound, weight_bound};
 use ec_loads::{Loads, MOST_PAYLOAD};
 
 /// Whether the tick costs at least the value.
@@ -31,6 +31,14 @@ pub(crate) fn average_holds(loads: &Loads, rest: &Rest, value: Option<u64>) -> b
     ensures { result ≡ average_holds_of loads.now.loads loads.now.slots value loads.now.places }
 {
     average_bound(loads, rest, value)
+}
+
+/// Whether some tick costs at least the value by the average of all with these weights.
+pub(crate) fn weights_hold(loads: &Loads, rest: &Rest, value: Option<u64>, weights: &[u16]) -> bool
+    requires { IsRestOf rest.now loads.now }
+    ensures { result ≡ weights_hold_of loads.now.loads loads.now.slots value loads.now.places weights.now }
+{
+    weight_bound(loads, rest, weights, value)
 }
 
 /// The number after that of a leaf that holds, else its fault.

@@ -1,23 +1,25 @@
 //! The walk over a tree.
 
 ghost use Rattle.std.specs.Prelude.{◌≡◌, ℕ, ◌<◌, ◌≤◌};
-ghost use Rattle.ec_loads.specs.Line.{slots_alone, line_of};
+ghost use Rattle.ec_loads.specs.Line.{rules_if, line_of};
 ghost use Rattle.ec_bounds.specs.Left.{IsRestOf};
 ghost use Rattle.ec_cert.specs.Shapes.{shape_of};
 ghost use Rattle.ec_checker.specs.Judged.{IsReady, tree_judged};
 
 use crate::fault::CheckFault;
-use crate::leaf::{average_holds, full_holds, judged, tick_holds};
+use crate::leaf::{average_holds, full_holds, judged, tick_holds, weights_hold};
 use ec_bounds::Rest;
 use ec_cert::Tree;
 use ec_loads::Loads;
 use ec_symmetry::children_of;
 
-/// Whether a tree holds at the places so far: the number of the node after it, or its first fault. The places are as
-/// before afterwards. Each node is visited once, and no recursion is deeper than the order is long.
+/// Whether a tree holds at the places so far, its children by slots alone or where time is turned: the number of the
+/// node after it, or its first fault. The places are as before afterwards. Each node is visited once, and no recursion
+/// is deeper than the order is long.
 pub(crate) fn walk(
     loads: &mut Loads,
     rest: &mut Rest,
+    turned: bool,
     value: Option<u64>,
     order: &[u8],
     tree: &Tree,
@@ -27,14 +29,14 @@ pub(crate) fn walk(
     requires left { IsRestOf rest.old loads.old }
     ensures same { loads.new ≡ loads.old }
     ensures left { IsRestOf rest.new loads.new }
-    ensures judged { result ≡ tree_judged (line_of slots_alone loads.old) value (shape_of tree.now) loads.old.places order.now number }
+    ensures judged { result ≡ tree_judged (line_of (rules_if turned) loads.old) value (shape_of tree.now) loads.old.places order.now number }
 {
     match tree {
         Tree::Split(trees) => match order.split_first() {
             None => Err(CheckFault::Depth(number)),
             Some((unit, later)) => {
                 let unit = usize::from(*unit);
-                let mut places = children_of(loads, unit, false);
+                let mut places = children_of(loads, unit, turned);
                 if trees.len() != places.len() {
                     return Err(CheckFault::Children(number, places.len(), trees.len()));
                 }
@@ -45,7 +47,7 @@ pub(crate) fn walk(
                     };
                     loads.place(unit, place);
                     rest.placed(unit);
-                    let child = walk(loads, rest, value, later, &trees[i], at);
+                    let child = walk(loads, rest, turned, value, later, &trees[i], at);
                     loads.remove(unit);
                     rest.unplaced(unit);
                     at = child?;
@@ -56,6 +58,10 @@ pub(crate) fn walk(
         Tree::TickLeaf(tick) => judged(tick_holds(loads, value, *tick), number),
         Tree::FullLeaf(tick, slot) => judged(full_holds(loads, *tick, *slot), number),
         Tree::Average => judged(average_holds(loads, rest, value), number),
+        Tree::Weights(weights) => judged(
+            weights_hold(loads, rest, value, weights.as_slice()),
+            number,
+        ),
         Tree::OpenLeaf => judged(false, number),
     }
 }

@@ -1,7 +1,7 @@
 -- What a worker is handed, and what becomes of it.
 use Rattle.std.specs.Prelude.{◌≡◌, ◌≢◌, ℕ, ◌≤◌, List, Option, false}
 use Rattle.ec_units.specs.declared.unit.Load.{Load}
-use Rattle.ec_loads.specs.Line.{slots_alone, line_by}
+use Rattle.ec_loads.specs.Line.{turned_time, line_by}
 use Rattle.ec_loads.specs.Search.{IsAtMost}
 use Rattle.ec_symmetry.specs.Orders.{IsReachedPrefix}
 use Rattle.ec_cert.specs.BestPlan.{value_of}
@@ -16,7 +16,7 @@ use Rattle.ec_crew.specs.declared.turn.Turn.TheVariants as became
 
 -- a piece that can be explored: its prefix is reached by the children, and some node may be split or closed
 abbrev pub IsStart : List Load → ℕ → List ℕ → Handed → Type 0
-IsStart loads n order (handed.Piece t) = IsReachedPrefix (line_by slots_alone loads n) order t.prefix × (1 ≤ t.grant)
+IsStart loads n order (handed.Piece t) = IsReachedPrefix (line_by turned_time loads n) order t.prefix × (1 ≤ t.grant)
 IsStart loads n order _ = Unit {0}
 
 -- by its own steps the worker doesn't hold the piece any more, where it was reported, or where the worker ends and the book refused it nothing

@@ -12,12 +12,13 @@ use Rattle.ec_loads.specs.declared.plan.Illegal.{Illegal}
 use Rattle.ec_loads.specs.Cost.{plan_items, IsBusiest}
 use Rattle.ec_loads.specs.Held.{no_places}
 use Rattle.ec_loads.specs.Legal.{IsLegal, IsIllegalBy}
-use Rattle.ec_loads.specs.Line.{slots_alone, line_by}
+use Rattle.ec_loads.specs.Line.{line_by}
 use Rattle.ec_loads.specs.Search.{IsTree}
 use Rattle.ec_symmetry.specs.Orders.{IsOrder}
 use Rattle.ec_cert.specs.declared.cert.Best.{Best}
 use Rattle.ec_cert.specs.declared.lists.UnitLine.{UnitLine}
 use Rattle.ec_cert.specs.Shapes.{CertView}
+use Rattle.ec_cert.specs.Versions.{rules_of}
 use Rattle.ec_checker.specs.declared.fault.CheckFault.{CheckFault}
 use Rattle.ec_checker.specs.declared.fault.CheckFault.TheVariants as fault
 use Rattle.ec_cert.specs.BestPlan.{value_of, IsBestPlan}
@@ -73,7 +74,7 @@ head_alike us vs n c same h = record {
 certified_alike : (us vs : List SyncUnit) (n : ℕ) (c : CertView) → Alike us vs → IsCertified us n c → IsCertified vs n c
 certified_alike us vs n c same h = record {
   head = head_alike us vs n c same h.head;
-  tree = subst (λ ls. IsTree (line_by slots_alone ls n) (value_of c.best) c.tree (no_places ls) c.order) same.loads h.tree;
+  tree = subst (λ ls. IsTree (line_by (rules_of c.version) ls n) (value_of c.best) c.tree (no_places ls) c.order) same.loads h.tree;
 }
 
 plan_alike : (us vs : List SyncUnit) (n : ℕ) (c : CertView) (f : CheckFault) → Alike us vs → IsPlanFault (loads_of us) n c.best f → IsPlanFault (loads_of vs) n c.best f

@@ -1,6 +1,6 @@
 //! Faults of a certificate's text.
 
-use crate::due::due_at;
+use crate::due::{Due, cert_line, due_at};
 use crate::inputs::Inputs;
 use crate::quoted::{add_bytes, add_quoted};
 use crate::refused::Refused;
@@ -33,14 +33,27 @@ pub(crate) fn add_line_text(out: &mut String, cert: &[u8], line: usize) -> Resul
     out.push('\n')
 }
 
+/// Whether a line of a certificate, from 0, is that of a leaf with weights.
+fn is_weighted(cert: &str, line: usize) -> bool {
+    match cert_line(cert, line) {
+        Some(line) => line == "W" || line.starts_with("W "),
+        None => false,
+    }
+}
+
 /// Adds what is due at a line, from 0.
 fn add_due(out: &mut String, cert: &[u8], line: usize) -> Result<(), AllocError> {
     let Ok(text) = std::str::from_utf8(cert) else {
         return Ok(());
     };
+    let due = due_at(text, line);
     out.push_str("Due there: ")?;
-    out.push_str(due_at(text, line).as_str())?;
-    out.push_str(".\n")
+    out.push_str(due.as_str())?;
+    out.push_str(".\n")?;
+    if matches!(due, Due::Node) && is_weighted(text, line) {
+        out.push_str("A leaf W stands only in a certificate that begins with ecplan 2.\n")?;
+    }
+    Ok(())
 }
 
 /// Whether a byte may stand in a certificate.
@@ -89,7 +102,7 @@ pub(crate) fn tell_bytes(out: &mut String, inputs: &Inputs<'_>) -> Result<(), Al
 /// Tells that a text doesn't begin as a certificate.
 pub(crate) fn tell_version(out: &mut String, inputs: &Inputs<'_>) -> Result<(), AllocError> {
     add_cert(out, inputs)?;
-    out.push_str(" does not begin with a line ecplan 1, as each certificate of this version does")?;
+    out.push_str(" does not begin with a line ecplan 1 or ecplan 2, as each certificate does")?;
     let Some(cert) = inputs.cert else {
         return out.push_str(".\n");
     };

@@ -4,6 +4,7 @@ use crate::certs::{add_cert, add_line_text};
 use crate::due::{node_line, unit_lines};
 use crate::inputs::{Doc, Inputs};
 use crate::label::add_unit;
+use crate::leaves::add_leaf_fault;
 use crate::others::add_differences;
 use crate::places::add_full;
 use crate::refused::Refused;
@@ -107,10 +108,11 @@ fn add_node_fault(out: &mut String, refused: Refused<'_>) -> Result<(), AllocErr
     }
 }
 
-/// Tells which node of the tree is wrong, and its line.
+/// Tells which node of the tree is wrong, its line, and of a leaf why.
 pub(crate) fn tell_node(
     out: &mut String,
     inputs: &Inputs<'_>,
+    doc: Doc<'_>,
     refused: Refused<'_>,
 ) -> Result<(), AllocError> {
     let node = refused.number(3).unwrap_or(0);
@@ -129,5 +131,9 @@ pub(crate) fn tell_node(
     let line = node_line(text, node);
     let number = line.saturating_add(1);
     write!(out, ": line {number}.\n")?;
-    add_line_text(out, cert, line)
+    add_line_text(out, cert, line)?;
+    match refused.code() {
+        "K7" => add_leaf_fault(out, doc, text, line),
+        _ => Ok(()),
+    }
 }

@@ -11,6 +11,7 @@ pub(crate) enum Due {
     Place,
     Tree,
     Node,
+    LaterNode,
     End,
 }
 
@@ -18,7 +19,7 @@ impl Due {
     /// The form of such a line, and its ranges.
     pub(crate) fn as_str(self) -> &'static str {
         match self {
-            Due::Version => "ecplan 1",
+            Due::Version => "ecplan 1 or ecplan 2",
             Due::Slots => "slots S, S 1 to 8",
             Due::FirstUnit => "unit NAME BYTES PERIOD, BYTES 1 to 1486, PERIOD 1 to 60",
             Due::UnitOrOrder =>
@@ -28,6 +29,8 @@ impl Due {
             Due::Tree => "tree",
             Due::Node =>
                 "a node: S N (1 to 480), T TICK (0 to 1023), F TICK SLOT (SLOT 0 to 7), or A",
+            Due::LaterNode =>
+                "a node: S N (1 to 480), T TICK (0 to 1023), F TICK SLOT (SLOT 0 to 7), A, or W and 1 to 1024 weights (0 to 65535)",
             Due::End => "end",
         }
     }
@@ -48,6 +51,11 @@ pub(crate) fn unit_lines(cert: &str) -> usize {
         count = count.saturating_add(1);
     }
     count
+}
+
+/// Whether a certificate says that there is no value.
+pub(crate) fn has_no_value(cert: &str) -> bool {
+    cert_line(cert, unit_lines(cert).saturating_add(3)) == Some("value none")
 }
 
 /// How many lines of places are due after a line of a value.
@@ -75,6 +83,14 @@ fn is_whole(cert: &str, tree: usize, line: usize) -> bool {
     missing == 0
 }
 
+/// What is due where a node is: in version 1 no leaf has weights.
+fn node_due(cert: &str) -> Due {
+    match cert_line(cert, 0) {
+        Some("ecplan 1") => Due::Node,
+        _ => Due::LaterNode,
+    }
+}
+
 /// What is due at a line, from 0, after the lines before it.
 pub(crate) fn due_at(cert: &str, line: usize) -> Due {
     let units = unit_lines(cert);
@@ -91,7 +107,7 @@ pub(crate) fn due_at(cert: &str, line: usize) -> Due {
         _ if line < tree => Due::Place,
         _ if line == tree => Due::Tree,
         _ if is_whole(cert, tree, line) => Due::End,
-        _ => Due::Node,
+        _ => node_due(cert),
     }
 }
 

@@ -12,6 +12,7 @@ mod headers;
 mod inputs;
 mod keys;
 mod label;
+mod leaves;
 mod nearest;
 mod others;
 mod paths;

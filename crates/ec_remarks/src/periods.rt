@@ -26,7 +26,7 @@ fn times(ticks: u64, period: u64) -> u64 {
 }
 
 /// The least common multiple of the periods, if it has at most 19 digits.
-fn ticks_of(units: &[Value]) -> Option<u64> {
+pub(crate) fn ticks_of(units: &[Value]) -> Option<u64> {
     let mut ticks = 1u64;
     for period in 1..61u64 {
         if has_period(units, period as i64) {

@@ -51,7 +51,7 @@ fn tell_cert(
         "K3" => checks::tell_order(out, inputs),
         "K4" => checks::tell_plan(out, inputs, doc, refused),
         "K5" => checks::tell_value(out, inputs, refused),
-        "K6" | "K7" | "K8" => checks::tell_node(out, inputs, refused),
+        "K6" | "K7" | "K8" => checks::tell_node(out, inputs, doc, refused),
         "E5" => {
             certs::add_cert(out, inputs)?;
             out.push_str(

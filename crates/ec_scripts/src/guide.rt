@@ -3,7 +3,7 @@
 ghost use Rattle.std.specs.Prelude.{◌≡◌, ℕ, ◌≤◌, IsTrue, IfOk, length, drop, [], ◌∷◌};
 ghost use Rattle.std.specs.Option.{ForSome};
 ghost use Rattle.ec_units.specs.Load.{loads_of};
-ghost use Rattle.ec_loads.specs.Line.{slots_alone, line_by};
+ghost use Rattle.ec_loads.specs.Line.{turned_time, line_by};
 ghost use Rattle.ec_loads.specs.Search.{IsPartialTree};
 ghost use Rattle.ec_symmetry.specs.Orders.{IsOrder, IsReachedPrefix, prefix_of};
 ghost use Rattle.ec_cert.specs.Shapes.{shape_of};
@@ -80,16 +80,16 @@ impl<'a> Guide for Own<'a> {
     }
 }
 
-/// Whether the first unit of the order can take this place.
+/// Whether the first unit of the order can take this place: phase 0 of the first slot, as time is turned.
 fn is_first_child(units: &Units, order: &[u8], place: Place) -> bool
     requires { IsOrder (length units.now.units) order.now }
-    ensures { IsTrue result → IsReachedPrefix (line_by slots_alone (loads_of units.now.units) units.now.slots) order.now (place ∷ []) }
+    ensures { IsTrue result → IsReachedPrefix (line_by turned_time (loads_of units.now.units) units.now.slots) order.now (place ∷ []) }
 {
     match order.split_first() {
         None => false,
         Some((unit, _)) => {
             let unit = usize::from(*unit);
-            place.phase < units.units.as_slice()[unit].period && place.slot == 0
+            place.phase < units.units.as_slice()[unit].period.min(1) && place.slot == 0
         }
     }
 }
@@ -97,7 +97,7 @@ fn is_first_child(units: &Units, order: &[u8], place: Place) -> bool
 /// Whether this is no place or one that the first unit can take.
 pub(crate) fn is_reached(units: &Units, order: &[u8], prefix: &[Place]) -> bool
     requires { IsOrder (length units.now.units) order.now }
-    ensures { IsTrue result → IsReachedPrefix (line_by slots_alone (loads_of units.now.units) units.now.slots) order.now prefix.now }
+    ensures { IsTrue result → IsReachedPrefix (line_by turned_time (loads_of units.now.units) units.now.slots) order.now prefix.now }
 {
     match prefix {
         [] => true,
@@ -125,9 +125,9 @@ pub(crate) fn found_below(
     wish: Wish,
 ) -> Result<(Subtree, Heard), AllocError>
     requires order { IsOrder (length units.now.units) order.now }
-    requires reached { IsReachedPrefix (line_by slots_alone (loads_of units.now.units) units.now.slots) order.now prefix.now }
+    requires reached { IsReachedPrefix (line_by turned_time (loads_of units.now.units) units.now.slots) order.now prefix.now }
     requires some { 1 ≤ wish.grant }
-    ensures { IfOk result (λ r. IsPartialTree (line_by slots_alone (loads_of units.now.units) units.now.slots) r.0.threshold (shape_of r.0.tree) (prefix_of (loads_of units.now.units) order.now prefix.now) (drop (length prefix.now) order.now)) }
+    ensures { IfOk result (λ r. IsPartialTree (line_by turned_time (loads_of units.now.units) units.now.slots) r.0.threshold (shape_of r.0.tree) (prefix_of (loads_of units.now.units) order.now prefix.now) (drop (length prefix.now) order.now)) }
 {
     let mut guide = Own {
         units,

@@ -4,7 +4,7 @@ use Rattle.ec_units.specs.declared.slave.Place.{Place}
 use Rattle.ec_units.specs.declared.unit.Load.{Load}
 use Rattle.ec_units.specs.declared.unit.Unit.{Unit as SyncUnit}
 use Rattle.ec_units.specs.Load.{loads_of}
-use Rattle.ec_loads.specs.Line.{slots_alone, line_by}
+use Rattle.ec_loads.specs.Line.{turned_time, line_by}
 use Rattle.ec_loads.specs.Legal.{IsIllegalBy}
 use Rattle.ec_loads.specs.Search.{node_count}
 use Rattle.ec_loads.specs.Shape.{Shape}
@@ -78,7 +78,7 @@ after_taken s t = record s { receipts = taken_steps s.receipts s.worker t }
 abbrev pub IsReported : SeatView → ℕ → List Place → Shape → SeatView → Type 0
 IsReported s piece prefix tree new =
     (first : ℕ) × (new ≡ record s {
-      receipts = s.receipts ++ (Reported s.worker piece (node_count tree) first (length (open_places (line_by slots_alone (loads_of s.units) s.slots) s.order tree prefix))) ∷ [];
+      receipts = s.receipts ++ (Reported s.worker piece (node_count tree) first (length (open_places (line_by turned_time (loads_of s.units) s.slots) s.order tree prefix))) ∷ [];
       nodes = s.nodes + node_count tree;
     })
 

@@ -1,7 +1,7 @@
 //! What lies under the lock.
 
 ghost use Rattle.std.specs.Prelude.{◌≡◌, ℕ, ◌+◌, ◌<◌, ◌≤◌, ◌++◌, ◌∷◌, [], List, IfOk, IfErr, OnOk, OnErr, IsSome, Some, length, drop, true};
-ghost use Rattle.ec_loads.specs.Line.{slots_alone, line_by};
+ghost use Rattle.ec_loads.specs.Line.{turned_time, line_by};
 ghost use Rattle.ec_loads.specs.Search.{IsPartialTree, node_count as node_count_of};
 ghost use Rattle.ec_cert.specs.BestPlan.{value_of};
 ghost use Rattle.ec_cert.specs.Shapes.{shape_of};
@@ -161,13 +161,13 @@ impl<S: Search> Locked<S> {
         counted: Counted,
     ) -> Result<Step, (BookFault, Counted)>
         requires part { 0 < share.old.parts }
-        requires tree { IsPartialTree (line_by slots_alone S.loads S.slots) counted.sub.threshold (shape_of counted.sub.tree) (prefix_of S.loads S.order prefix.now) (drop (length prefix.now) S.order) }
+        requires tree { IsPartialTree (line_by turned_time S.loads S.slots) counted.sub.threshold (shape_of counted.sub.tree) (prefix_of S.loads S.order prefix.now) (drop (length prefix.now) S.order) }
         requires some { 0 < node_count_of (shape_of counted.sub.tree) }
-        requires opened { AreOpened (line_by slots_alone S.loads S.slots) S.order (shape_of counted.sub.tree) prefix.now counted.opened }
-        ensures book { OnOk result (self.new.book ≡ after_report self.old.book worker piece (node_count_of (shape_of counted.sub.tree)) (open_places (line_by slots_alone S.loads S.slots) S.order (shape_of counted.sub.tree) prefix.now)) }
+        requires opened { AreOpened (line_by turned_time S.loads S.slots) S.order (shape_of counted.sub.tree) prefix.now counted.opened }
+        ensures book { OnOk result (self.new.book ≡ after_report self.old.book worker piece (node_count_of (shape_of counted.sub.tree)) (open_places (line_by turned_time S.loads S.slots) S.order (shape_of counted.sub.tree) prefix.now)) }
         ensures left { OnErr result (self.new.book ≡ self.old.book) }
         ensures known { OnOk result (IsSome counted.opened) }
-        ensures step { IfOk result (λ e. (first : ℕ) × (e ≡ Reported worker piece (node_count_of (shape_of counted.sub.tree)) first (length (open_places (line_by slots_alone S.loads S.slots) S.order (shape_of counted.sub.tree) prefix.now)))) }
+        ensures step { IfOk result (λ e. (first : ℕ) × (e ≡ Reported worker piece (node_count_of (shape_of counted.sub.tree)) first (length (open_places (line_by turned_time S.loads S.slots) S.order (shape_of counted.sub.tree) prefix.now)))) }
         ensures welcome { OnOk result (HasBook S.loads S.slots S.order (λ b. (g : ℕ) × IsWelcome b.pieces b.prefixes (value_of b.best) worker piece prefix.now counted.sub.threshold (node_count_of (shape_of counted.sub.tree)) g)) }
         ensures amount { OnOk result (share.new.amount ≡ share.old.amount + node_count_of (shape_of counted.sub.tree)) }
         ensures kept { OnErr result (share.new.amount ≡ share.old.amount) }

@@ -2,7 +2,7 @@
 
 ghost use Rattle.std.specs.Prelude.{◌≡◌, ◌⊎◌, ◌↔◌, ℕ, ◌+◌, ◌<◌, ◌≤◌, IsTrue, IfOk, IfErr, OnOk, IsSome, true, [], length, drop, vec_len};
 ghost use Rattle.ec_units.specs.Load.{loads_of};
-ghost use Rattle.ec_loads.specs.Line.{slots_alone, line_by};
+ghost use Rattle.ec_loads.specs.Line.{turned_time, line_by};
 ghost use Rattle.ec_loads.specs.Search.{IsPartialTree, node_count as node_count_of};
 ghost use Rattle.ec_cert.specs.BestPlan.{value_of};
 ghost use Rattle.ec_cert.specs.Shapes.{shape_of};
@@ -259,7 +259,7 @@ impl<S: Search> Shared<S> {
     fn counted(&self, prefix: &[Place], sub: Subtree, room: bool) -> Counted
         requires { IsOrder (length S.loads) S.order }
         ensures sub { result.sub ≡ sub }
-        ensures opened { AreOpened (line_by slots_alone S.loads S.slots) S.order (shape_of sub.tree) prefix.now result.opened }
+        ensures opened { AreOpened (line_by turned_time S.loads S.slots) S.order (shape_of sub.tree) prefix.now result.opened }
         ensures room { IsSome result.opened → room ≡ true }
     {
         if !room {
@@ -279,7 +279,7 @@ impl<S: Search> Shared<S> {
         prefix: &[Place],
         sub: Subtree,
     ) -> Result<(), (BookFault, Subtree)>
-        requires tree { IsPartialTree (line_by slots_alone (loads_of seat.old.units) seat.old.slots) sub.threshold (shape_of sub.tree) (prefix_of (loads_of seat.old.units) seat.old.order prefix.now) (drop (length prefix.now) seat.old.order) }
+        requires tree { IsPartialTree (line_by turned_time (loads_of seat.old.units) seat.old.slots) sub.threshold (shape_of sub.tree) (prefix_of (loads_of seat.old.units) seat.old.order prefix.now) (drop (length prefix.now) seat.old.order) }
         requires some { 0 < node_count_of (shape_of sub.tree) }
         ensures ours { OnOk result (IsOf S.loads S.slots S.order seat.old) }
         ensures welcome { OnOk result (HasSeatBook seat.old (λ b. (g : ℕ) × IsWelcome b.pieces b.prefixes (value_of b.best) seat.old.worker piece prefix.now sub.threshold (node_count_of (shape_of sub.tree)) g)) }

@@ -3,4 +3,4 @@
 
 mod law;
 
-pub use law::trees_bound;
+pub use law::{levels_bound, trees_bound};

@@ -1,6 +1,6 @@
 //! What no text can say: bytes that aren't text, certificates by hand, and lists that go in and out.
 
-use ec_cert::{Best, Cert, Order, Tree, UnitLine, UnitLines, well_formed};
+use ec_cert::{Best, Cert, Order, Tree, UnitLine, UnitLines, Weights, well_formed};
 use ec_cert_text::one_text_each;
 use ec_loads::{Places, Plan};
 use ec_unit_text::{UnitFault, read_units};
@@ -41,6 +41,35 @@ fn which_leaves_are_well_formed(rt: HostRuntime) -> Result<(), Fail> {
     let late = stands(alloc, Tree::TickLeaf(1024))?;
     let none = stands(alloc, Tree::Split(Vec::new(alloc)))?;
     assert_eq!(rt; (whole, open, late, none), (true, false, false, false));
+    Ok(())
+}
+
+/// Whether a certificate of this version with so many weights is well formed.
+fn stands_by_weights(alloc: Global, version: u8, count: u16) -> Result<bool, AllocError> {
+    let mut weights = Vec::new(alloc);
+    for weight in 0..count {
+        weights.push(65_535 - weight)?;
+    }
+    let mut cert = small(alloc, Tree::Weights(Weights::new(weights)))?;
+    cert.version = version;
+    Ok(well_formed(&cert))
+}
+
+#[test]
+fn which_weights_are_well_formed(rt: HostRuntime) -> Result<(), Fail> {
+    let alloc = rt.alloc();
+    let first = stands_by_weights(alloc, 1, 1)?;
+    let some = (
+        stands_by_weights(alloc, 2, 1)?,
+        stands_by_weights(alloc, 2, 1024)?,
+    );
+    let none = stands_by_weights(alloc, 2, 0)?;
+    let many = stands_by_weights(alloc, 2, 1025)?;
+    let later = stands_by_weights(alloc, 3, 1)?;
+    assert_eq!(rt;
+        (first, some, none, many, later),
+        (false, (true, true), false, false, false)
+    );
     Ok(())
 }
 

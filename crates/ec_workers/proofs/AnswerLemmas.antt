@@ -6,7 +6,7 @@ use Rattle.ec_units.specs.declared.units.Units.{Units}
 use Rattle.ec_units.specs.declared.unit.Load.{Load}
 use Rattle.ec_units.specs.Load.{loads_of}
 use Rattle.ec_loads.specs.Held.{no_places}
-use Rattle.ec_loads.specs.Line.{slots_alone, Line, line_by}
+use Rattle.ec_loads.specs.Line.{turned_time, Line, line_by}
 use Rattle.ec_loads.specs.Shape.{Shape, Shapes, split, leaf, open_leaf, no_shapes, more}
 use Rattle.ec_loads.specs.Search.{Prefix, children, TreeWith, TreesWith, BoundsAll, HasNoPlan, open_count}
 use Rattle.ec_cert.specs.declared.lists.UnitLine.{UnitLine}
@@ -45,11 +45,11 @@ no_legal loads n all plan legal = let has = all plan legal in absurd (none_some 
     none_some e = absurd cc
 
 with_lines : (us : List SyncUnit) (n : ℕ) (order : List ℕ) (best : Option Best) (tree : Shape) (lines : List UnitLine) (c : CertView) → lines ≡ lines_of us
-    → c ≡ record { version = 1; slots = n; units = lines; order = order; best = best; tree = tree } → c ≡ cert_for us n order best tree
-with_lines us n order best tree lines c is made = made ∙ (λ i. record { version = 1; slots = n; units = is i; order = order; best = best; tree = tree })
+    → c ≡ record { version = 2; slots = n; units = lines; order = order; best = best; tree = tree } → c ≡ cert_for us n order best tree
+with_lines us n order best tree lines c is made = made ∙ (λ i. record { version = 2; slots = n; units = is i; order = order; best = best; tree = tree })
 
 pub without : FaultsRefute → TreesBound → (us : Units) (order : List ℕ) (best : Option Best) (tree : Shape) (lines : List UnitLine) (c : CertView) → IsFound us.units us.slots order best tree → best ≡ None → lines ≡ lines_of us.units
-    → c ≡ record { version = 1; slots = us.slots; units = lines; order = order; best = None; tree = tree } → IsWithoutPlan us.units us.slots c
+    → c ≡ record { version = 2; slots = us.slots; units = lines; order = order; best = None; tree = tree } → IsWithoutPlan us.units us.slots c
 without refute law us order best tree lines c found is said made =
     let none : IsFound us.units us.slots order None tree = subst (λ b. IsFound us.units us.slots order b tree) is found in
     let whole = with_lines us.units us.slots order None tree lines c said made in
@@ -61,7 +61,7 @@ without refute law us order best tree lines c found is said made =
     })
 
 pub optimal : FaultsRefute → TreesBound → (us : Units) (order : List ℕ) (best : Option Best) (tree : Shape) (lines : List UnitLine) (c : CertView) (b : Best) (plan : List Place) → IsFound us.units us.slots order best tree → best ≡ Some b
-    → lines ≡ lines_of us.units → plan ≡ b.plan.places → c ≡ record { version = 1; slots = us.slots; units = lines; order = order; best = Some b; tree = tree } → IsOptimal us.units us.slots plan b.busiest c
+    → lines ≡ lines_of us.units → plan ≡ b.plan.places → c ≡ record { version = 2; slots = us.slots; units = lines; order = order; best = Some b; tree = tree } → IsOptimal us.units us.slots plan b.busiest c
 optimal refute law us order best tree lines c b plan found is said copied made =
     let some : IsFound us.units us.slots order (Some b) tree = subst (λ x. IsFound us.units us.slots order x tree) is found in
     let whole = with_lines us.units us.slots order (Some b) tree lines c said made in
@@ -79,4 +79,4 @@ optimal refute law us order best tree lines c b plan found is said copied made =
 pub uncopied : (us : List SyncUnit) (n : ℕ) (asked : Asked) (order : List ℕ) (best given : Option Best) (tree : Shape) → IsFound us n order best tree → open_count tree ≡ 0 → best ≡ given → IsUnproved us n asked given order tree cut.Memory
 uncopied us n asked order best given tree found closed is =
     let now : IsFound us n order given tree = subst (λ b. IsFound us n order b tree) is found in
-    record { order_is = now.order_is; best_is = now.best_is; tree_is = (tree-partial (line_by slots_alone (loads_of us) n) (value_of given) tree (no_places (loads_of us)) order now.tree_is, now.short); cut_is = λ _. closed }
+    record { order_is = now.order_is; best_is = now.best_is; tree_is = (tree-partial (line_by turned_time (loads_of us) n) (value_of given) tree (no_places (loads_of us)) order now.tree_is, now.short); cut_is = λ _. closed }

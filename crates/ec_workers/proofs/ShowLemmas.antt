@@ -12,7 +12,7 @@ use Rattle.ec_units.specs.Load.{load_of, loads_of}
 use Rattle.ec_loads.specs.declared.item.Item.{Item}
 use Rattle.ec_loads.specs.Cost.{item, plan_items}
 use Rattle.ec_loads.specs.Held.{AreLoads, no_places}
-use Rattle.ec_loads.specs.Line.{slots_alone, line_by}
+use Rattle.ec_loads.specs.Line.{turned_time, line_by}
 use Rattle.ec_loads.specs.Shape.{Shape}
 use Rattle.ec_loads.specs.Search.{BoundsAll}
 use Rattle.ec_loads.proofs.ItemLemmas.{AreLoads-loads_of}
@@ -95,7 +95,8 @@ formed us n order best tree few found =
     let count : length (lines_of us) ≡ length us = length-map us line_of in
     let loads : length (loads_of us) ≡ length us = length-map us load_of in
     record {
-      version = refl;
+      least_version = omega arith;
+      most_version = omega arith;
       least_slots = few.least_slots;
       most_slots = few.most_slots;
       least_units = omega (arith, count, few.least_units);
@@ -105,7 +106,7 @@ formed us n order best tree few found =
       order = subst (λ k. All (λ u. u < k) order) (sym count) found.order_is.below;
       best = best-formed us n (length (lines_of us)) best count few.least_units few.most_slots found.best_is;
       tree =
-          tree-levels (line_by slots_alone (loads_of us) n) (value_of best) tree (no_places (loads_of us)) order 48 (AreLoads-loads_of us) few.least_slots few.most_slots
+          tree-levels (line_by turned_time (loads_of us) n) (value_of best) tree (no_places (loads_of us)) order 48 (AreLoads-loads_of us) few.least_slots few.most_slots
           (subst (λ k. All (λ u. u < k) order) (sym loads) found.order_is.below) (omega (arith, found.order_is.count, few.most_units)) found.short found.tree_is;
     }
 
@@ -129,5 +130,5 @@ shows refute us n order best tree few found = record {
 
 pub bounds : TreesBound → (us : List SyncUnit) (n : ℕ) (order : List ℕ) (best : Option Best) (tree : Shape) → IsFound us n order best tree → BoundsAll (loads_of us) n (value_of best)
 bounds law us n order best tree found =
-    law (line_by slots_alone (loads_of us) n) (value_of best) tree order (AreLoads-loads_of us)
+    law (line_by turned_time (loads_of us) n) (value_of best) tree order (AreLoads-loads_of us)
     (subst (λ k. IsOrder k order) (sym (length-map us load_of)) found.order_is) found.tree_is

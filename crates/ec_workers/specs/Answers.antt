@@ -3,7 +3,7 @@ use Rattle.std.specs.Prelude.{◌≡◌, ℕ, ◌<◌, List, length, Option}
 use Rattle.ec_units.specs.declared.unit.Unit.{Unit as SyncUnit}
 use Rattle.ec_units.specs.Load.{loads_of}
 use Rattle.ec_loads.specs.Held.{no_places}
-use Rattle.ec_loads.specs.Line.{slots_alone, line_by}
+use Rattle.ec_loads.specs.Line.{turned_time, line_by}
 use Rattle.ec_loads.specs.Shape.{Shape}
 use Rattle.ec_loads.specs.Search.{IsPartialTree, node_count, open_count}
 use Rattle.ec_symmetry.specs.Orders.{IsOrder}
@@ -37,7 +37,7 @@ IsCut asked tree cut.Memory = node_count tree ≡ asked.nodes → open_count tre
 pub record IsUnproved (units : List SyncUnit) (n : ℕ) (asked : Asked) (best : Option Best) (order : List ℕ) (tree : Shape) (why : Cut) : Type 0 where
   pub order_is : IsOrder (length units) order
   pub best_is : IsBestPlan (loads_of units) n best
-  pub tree_is : IsPartialTree (line_by slots_alone (loads_of units) n) (value_of best) tree (no_places (loads_of units)) order
+  pub tree_is : IsPartialTree (line_by turned_time (loads_of units) n) (value_of best) tree (no_places (loads_of units)) order
   pub cut_is : IsCut asked tree why
 
 -- what an outcome says of these units, where so many workers and nodes were asked for

@@ -6,7 +6,7 @@ use Rattle.ec_units.specs.Load.{loads_of}
 use Rattle.ec_loads.specs.Cost.{plan_items, IsBusiest}
 use Rattle.ec_loads.specs.Legal.{IsLegal}
 use Rattle.ec_loads.specs.Held.{no_places}
-use Rattle.ec_loads.specs.Line.{slots_alone, line_by}
+use Rattle.ec_loads.specs.Line.{turned_time, line_by}
 use Rattle.ec_loads.specs.Search.{BoundsAll, HasNoPlan, IsTree, HasShortTicks}
 use Rattle.ec_symmetry.specs.Orders.{IsOrder}
 use Rattle.ec_cert.specs.declared.cert.Best.{Best}
@@ -22,14 +22,14 @@ use Rattle.ec_checker.specs.declared.fault.Verdict.TheVariants as verdict
 
 -- the certificate of these units with this order, best plan and tree
 abbrev pub cert_for : List SyncUnit → ℕ → List ℕ → Option Best → Shape → CertView
-cert_for units n order best tree = record { version = 1; slots = n; units = lines_of units; order = order; best = best; tree = tree }
+cert_for units n order best tree = record { version = 2; slots = n; units = lines_of units; order = order; best = best; tree = tree }
 
 -- what a search without open leaves has found: a plan that is legal and costs what is stated, if any, and a tree for the empty prefix at that value
 pub record IsFound (us : List SyncUnit) (n : ℕ) (order : List ℕ) (best : Option Best) (tree : Shape) : Type 0 where
   pub order_is : IsOrder (length us) order
   pub best_is : IsBestPlan (loads_of us) n best
   pub short : HasShortTicks tree
-  pub tree_is : IsTree (line_by slots_alone (loads_of us) n) (value_of best) tree (no_places (loads_of us)) order
+  pub tree_is : IsTree (line_by turned_time (loads_of us) n) (value_of best) tree (no_places (loads_of us)) order
 
 -- a certificate of the units that has a text, and to which the checker says yes with this verdict, or that memory ran out
 pub record Shows (units : List SyncUnit) (n : ℕ) (c : CertView) (v : Verdict) : Type 0 where

@@ -2,7 +2,7 @@
 
 ghost use Rattle.std.specs.Prelude.{◌≡◌, ℕ, ◌≤◌, length};
 ghost use Rattle.ec_units.specs.Load.{loads_of};
-ghost use Rattle.ec_loads.specs.Line.{slots_alone, line_by};
+ghost use Rattle.ec_loads.specs.Line.{turned_time, line_by};
 ghost use Rattle.ec_symmetry.specs.Orders.{IsOrder, IsReachedPrefix};
 ghost use Rattle.ec_book.specs.Books.{IsBookOf};
 ghost use Rattle.ec_workers.specs.Desks.{IsClear};
@@ -31,7 +31,7 @@ fn worked_off<R: Wait, G: Gate>(
 ) -> Option<Ended>
     requires order { IsOrder (length units.now.units) order.now }
     requires book { IsBookOf units.now.units units.now.slots order.now book.old }
-    requires reached { IsReachedPrefix (line_by slots_alone (loads_of units.now.units) units.now.slots) order.now took.prefix }
+    requires reached { IsReachedPrefix (line_by turned_time (loads_of units.now.units) units.now.slots) order.now took.prefix }
     requires some { 1 ≤ took.grant }
     requires clear { IsClear units.now.units units.now.slots desk.old.loads desk.old.rest }
     ensures clear { IsClear units.now.units units.now.slots desk.new.loads desk.new.rest }

@@ -40,10 +40,10 @@ pub(crate) fn certificate(
     best: Option<Best>,
     tree: Tree,
 ) -> Cert
-    ensures { cert_view result ≡ record { version = 1; slots = slots; units = units; order = order; best = best; tree = shape_of tree } }
+    ensures { cert_view result ≡ record { version = 2; slots = slots; units = units; order = order; best = best; tree = shape_of tree } }
 {
     Cert {
-        version: 1,
+        version: 2,
         slots,
         units,
         order,

@@ -18,7 +18,7 @@ const MEETING: &str =
     "tick_ns = 1000000\nslots = 1\n[[unit]]\nname = \"a\"\nperiod = 2\n[[unit.slave]]\nstation = 1001\nout_bytes = 200\nin_bytes = 0\n[[unit]]\nname = \"b\"\nperiod = 3\n[[unit.slave]]\nstation = 1002\nout_bytes = 200\nin_bytes = 0\n";
 
 const CERT: &str =
-    "ecplan 1\nslots 1\nunit a 200 2\nunit b 200 3\norder 0 1\nvalue 464\nplace 0 0\nplace 0 0\ntree\nS 2\nS 3\nT 0\nT 4\nT 2\nS 3\nT 3\nT 1\nT 5\nend\n";
+    "ecplan 2\nslots 1\nunit a 200 2\nunit b 200 3\norder 0 1\nvalue 464\nplace 0 0\nplace 0 0\ntree\nS 1\nS 3\nT 0\nT 4\nT 2\nend\n";
 
 const PLACES: &str = "unit a phase 0 slot 0\nunit b phase 0 slot 0\n";
 
@@ -72,14 +72,14 @@ fn a_plan_with_a_path(rt: HostRuntime) -> Result<(), Fail> {
         &rt,
         &rt,
         alloc,
-        "plan --nodes 8 --out /tmp/ecplan-plan-out.cert",
+        "plan --nodes 4 --out /tmp/ecplan-plan-out.cert",
     )?;
     let kept = fs::read_to_string(&rt, path).is_err();
     let whole = said_by(
         &rt,
         &rt,
         alloc,
-        "plan --nodes 9 --out /tmp/ecplan-plan-out.cert",
+        "plan --nodes 5 --out /tmp/ecplan-plan-out.cert",
     )?;
     let cert = fs::read_to_string(&rt, path)?;
     fs::remove_file(&rt, path)?;
@@ -109,7 +109,7 @@ fn answers_of<F: Files>(
 #[test]
 fn a_path_that_cannot_be_opened(rt: HostRuntime) -> Result<(), Fail> {
     let lines =
-        "plan --out /tmp/no-such-directory-of-ecplan/c\nplan --nodes 8 --out /tmp/no-such-directory-of-ecplan/c\ncheck --cert /tmp/no-such-directory-of-ecplan/c\nframes --cert /tmp/no-such-directory-of-ecplan/c\nplay --cert /tmp/no-such-directory-of-ecplan/c\nplay\n";
+        "plan --out /tmp/no-such-directory-of-ecplan/c\nplan --nodes 4 --out /tmp/no-such-directory-of-ecplan/c\ncheck --cert /tmp/no-such-directory-of-ecplan/c\nframes --cert /tmp/no-such-directory-of-ecplan/c\nplay --cert /tmp/no-such-directory-of-ecplan/c\nplay\n";
     let told = answers_of(&rt, &rt, rt.alloc(), lines)?;
     let shown = format!(in rt.alloc();
         "refused E4 Write\nstatus 4, 2 reads\nunproved 464\ncut budget\n{PLACES}status 2, 2 reads\nrefused E3 Read\nstatus 4, 0 reads\nrefused E3 Read\nstatus 4, 0 reads\nrefused E3 Read\nstatus 4, 0 reads\nrefused E2 NoPlace 0\nstatus 3, 2 reads\n"

@@ -1,5 +1,5 @@
 use Rattle.std.proofs.Common.{◌≡◌, rules, refl, ◌+◌, ◌<◌, ◌++◌, ◌∷◌, [], length, vec_len, drop, get_or, arith, ap, ◌∙◌, sym}
-use Rattle.ec_loads.specs.Line.{slots_alone, line_by}
+use Rattle.ec_loads.specs.Line.{turned_time, line_by}
 use Rattle.ec_cert.specs.Shapes.{shape_of}
 use Rattle.ec_symmetry.specs.Orders.{prefix_of}
 use Rattle.ec_book.specs.Open.{leaf_places, open_places}
@@ -19,7 +19,7 @@ loop-i-init t c =
     record {
       path = refl;
       out =
-          opened_first (line_by slots_alone loads.loads loads.slots) order c.in-Split.trees.items u _ path c.as_slice.result.now c.children_after-places.result c.args.out.now.items
+          opened_first (line_by turned_time loads.loads loads.slots) order c.in-Split.trees.items u _ path c.as_slice.result.now c.children_after-places.result c.args.out.now.items
           c.as_slice.ensures.value next c.children_after-places.ensures;
     }
 
@@ -32,8 +32,8 @@ returns-in_default-next-clause-out t c =
     let long : c.len-in-Split.result ≡ length q = omega (arith, c.len-in-Split.ensures) in
     let short : length q < length order = omega (arith, c.if-len-order.false, c.len.ensures) in
     let at : u ≡ get_or order (length q) 0 = c.from-unit.ensures ∙ ap (λ w. get_or order w 0) long in
-    let whole = split_opened (line_by slots_alone loads.loads loads.slots) order c.args.tree.now c.in-Split.trees u q c.in-Split.is short at in
-    let none = no_kids (line_by slots_alone loads.loads loads.slots) order (drop c.loop-i.i c.in-Split.trees.items) u q c.loop-i.places c.in_default-next.ensures.steps.0 in
+    let whole = split_opened (line_by turned_time loads.loads loads.slots) order c.args.tree.now c.in-Split.trees u q c.in-Split.is short at in
+    let none = no_kids (line_by turned_time loads.loads loads.slots) order (drop c.loop-i.i c.in-Split.trees.items) u q c.loop-i.places c.in_default-next.ensures.steps.0 in
     sym (append_none c.loop-i.out.items) ∙ ap (λ w. c.loop-i.out.items ++ w) (sym none) ∙ c.loop-i.invariant.out ∙ ap (λ w. c.args.out.now.items ++ w) (sym whole)
 
 pub returns-after-loop-i-clause-out : goal.returns-after-loop-i-clause-out
@@ -45,8 +45,8 @@ returns-after-loop-i-clause-out t c =
     let long : c.len-in-Split.result ≡ length q = omega (arith, c.len-in-Split.ensures) in
     let short : length q < length order = omega (arith, c.if-len-order.false, c.len.ensures) in
     let at : u ≡ get_or order (length q) 0 = c.from-unit.ensures ∙ ap (λ w. get_or order w 0) long in
-    let whole = split_opened (line_by slots_alone loads.loads loads.slots) order c.args.tree.now c.in-Split.trees u q c.in-Split.is short at in
-    let none = opened_end (line_by slots_alone loads.loads loads.slots) order c.in-Split.trees.items u q c.loop-i.places c.loop-i.i (omega (arith, c.loop-i-test.false, c.len-i-end.ensures)) in
+    let whole = split_opened (line_by turned_time loads.loads loads.slots) order c.args.tree.now c.in-Split.trees u q c.in-Split.is short at in
+    let none = opened_end (line_by turned_time loads.loads loads.slots) order c.in-Split.trees.items u q c.loop-i.places c.loop-i.i (omega (arith, c.loop-i-test.false, c.len-i-end.ensures)) in
     sym (append_none c.loop-i.out.items) ∙ ap (λ w. c.loop-i.out.items ++ w) (sym none) ∙ c.loop-i.invariant.out ∙ ap (λ w. c.args.out.now.items ++ w) (sym whole)
 
 pub loop-i-preserved : goal.loop-i-preserved
@@ -54,7 +54,7 @@ loop-i-preserved t c =
     let q = c.args.path.now.items in
     let order = c.args.order.now in
     let loads = c.args.loads.now in
-    let line = line_by slots_alone loads.loads loads.slots in
+    let line = line_by turned_time loads.loads loads.slots in
     let u = c.from-unit.result in
     let long : c.len-in-Split.result ≡ length q = omega (arith, c.len-in-Split.ensures) in
     let short : length q < length order = omega (arith, c.if-len-order.false, c.len.ensures) in
@@ -96,4 +96,4 @@ returns-in_ok-push-in-OpenLeaf-clause-out t c =
     let leaf = ap shape_of c.in-OpenLeaf.is ∙ shape_of-OpenLeaf in
     c.in_ok-push-in-OpenLeaf.ensures.items
     ∙ ap (λ w. c.args.out.now.items ++ w ∷ []) (c.new.ensures ∙ c.in_ok-copy-in-OpenLeaf.ensures.items ∙ c.as_slice-in-OpenLeaf.ensures.value)
-    ∙ ap (λ s. c.args.out.now.items ++ leaf_places (line_by slots_alone loads.loads loads.slots) s (prefix_of loads.loads order q) (drop (length q) order) q) (sym leaf)
+    ∙ ap (λ s. c.args.out.now.items ++ leaf_places (line_by turned_time loads.loads loads.slots) s (prefix_of loads.loads order q) (drop (length q) order) q) (sym leaf)

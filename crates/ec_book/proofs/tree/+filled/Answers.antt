@@ -3,7 +3,7 @@ use Rattle.ec_loads.specs.Search.{open_count}
 use Rattle.ec_cert.specs.declared.tree.Tree.{the_lemmas}
 use Rattle.ec_book.specs.Numbered.{numbered, draw}
 use Rattle.ec_book.specs.Grown.{shape_at}
-use Rattle.ec_book.proofs.DrawLemmas.{shape_at-last, shape_of-OpenLeaf}
+use Rattle.ec_book.proofs.DrawLemmas.{shape_at-last, shape_of-OpenLeaf, shape_of-Weights}
 use Rattle.ec_book.proofs.PartLemmas.{opens_all, IsPart, child_at, child_get, child_fits, part-step, part-skip, part-start, part-left, part-tree}
 use Rattle.ec_book.proofs.tree.+filled.Goals as goal
 
@@ -23,6 +23,17 @@ filled-requires t c =
 
 pub loop-i-preserved-then-not-is_closed_leaf-2 : goal.loop-i-preserved-then-not-is_closed_leaf-2
 loop-i-preserved-then-not-is_closed_leaf-2 t c =
+    let ts = c.in-Split.trees.items in
+    let ls = c.loop-i.trees.items in
+    let j = c.loop-i.i - 1 in
+    let x = c.replace-child.result in
+    let j_is : j + 1 ≡ c.loop-i.i = omega (arith, c.loop-i-test.true) in
+    let at = child_at ts ls c.args.built.now.items c.loop-i.built.items c.loop-i.i j c.loop-i.invariant j_is c.index_mut.result.now x c.index_mut.ensures.value c.replace-child.ensures.value in
+    part-step ts ls c.args.built.now.items c.loop-i.built.items c.loop-i.i j c.loop-i.invariant j_is x c.replace-child.new.dest c.filled.result c.filled.new.built.items at
+    (omega (arith, c.requires, opens_all c.args.tree c.in-Split.trees c.in-Split.is)) c.filled.ensures.left c.filled.ensures.tree
+
+pub loop-i-preserved-then-not-is_closed_leaf-3 : goal.loop-i-preserved-then-not-is_closed_leaf-3
+loop-i-preserved-then-not-is_closed_leaf-3 t c =
     let ts = c.in-Split.trees.items in
     let ls = c.loop-i.trees.items in
     let j = c.loop-i.i - 1 in

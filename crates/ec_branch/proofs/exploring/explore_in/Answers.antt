@@ -1,21 +1,21 @@
 use Rattle.std.proofs.Common.{length, None, rules, tests}
 use Rattle.ec_loads.specs.Held.{no_places}
-use Rattle.ec_loads.specs.Line.{slots_alone, line_of}
+use Rattle.ec_loads.specs.Line.{turned_time, line_of}
 use Rattle.ec_cert.specs.Shapes.{shape_of}
 use Rattle.ec_branch.proofs.ReadyLemmas.{children_long, held_prefix, later_units, reached_ready, explored, still_below, back_again}
 use Rattle.ec_branch.proofs.exploring.explore_in.Goals as goal
 
 pub place_all-requires-clause-long : goal.place_all-requires-clause-long
-place_all-requires-clause-long g c = let h = c.args.loads.now in children_long (line_of slots_alone h) (no_places h.loads) c.args.order.now c.args.prefix.now c.requires.reached
+place_all-requires-clause-long g c = let h = c.args.loads.now in children_long (line_of turned_time h) (no_places h.loads) c.args.order.now c.args.prefix.now c.requires.reached
 
 pub slice_bounds-later-count : goal.slice_bounds-later-count
-slice_bounds-later-count g c = let h = c.args.loads.now in children_long (line_of slots_alone h) (no_places h.loads) c.args.order.now c.args.prefix.now c.requires.reached
+slice_bounds-later-count g c = let h = c.args.loads.now in children_long (line_of turned_time h) (no_places h.loads) c.args.order.now c.args.prefix.now c.requires.reached
 
 pub slice_bounds-later-start : goal.slice_bounds-later-start
-slice_bounds-later-start g c = let h = c.args.loads.now in children_long (line_of slots_alone h) (no_places h.loads) c.args.order.now c.args.prefix.now c.requires.reached
+slice_bounds-later-start g c = let h = c.args.loads.now in children_long (line_of turned_time h) (no_places h.loads) c.args.order.now c.args.prefix.now c.requires.reached
 
 pub remove_all-requires-clause-long : goal.remove_all-requires-clause-long
-remove_all-requires-clause-long g c = let h = c.args.loads.now in children_long (line_of slots_alone h) (no_places h.loads) c.args.order.now c.args.prefix.now c.requires.reached
+remove_all-requires-clause-long g c = let h = c.args.loads.now in children_long (line_of turned_time h) (no_places h.loads) c.args.order.now c.args.prefix.now c.requires.reached
 
 pub walk-walked-requires-clause-ready : goal.walk-walked-requires-clause-ready
 walk-walked-requires-clause-ready g c =

@@ -1,8 +1,9 @@
 use Rattle.std.proofs.Common.{◌≡◌, ◌+◌, ◌-◌, ◌∷◌, true, false, None, ap, sym, ◌∙◌, arith}
 use Rattle.std.proofs.lemmas.Option.{slice_get_within}
-use Rattle.ec_loads.specs.Line.{slots_alone, line_of}
+use Rattle.ec_loads.specs.Line.{turned_time, line_of}
 use Rattle.ec_branch.specs.Frames.{Frame}
 use Rattle.ec_branch.specs.Stacks.{state_of}
+use Rattle.ec_branch.proofs.LeafLemmas.{at_none}
 use Rattle.ec_branch.proofs.KnownLemmas.{follows_found}
 use Rattle.ec_branch.proofs.StackLemmas.{under_first}
 use Rattle.ec_branch.proofs.WalkLemmas.{ready_at, none_left, found_walked}
@@ -12,16 +13,17 @@ pub returns-in-None-clause-entered : goal.returns-in-None-clause-entered
 returns-in-None-clause-entered g c =
     let h = c.args.loads.now in
     let frame = g.G.Guide.frame c.bound.new.self in
+    let still = at_none _ c.in_ok-leaf.field-0 c.in_default.not-Some c.in_ok-leaf.ensures in
     record {
       walked =
           found_walked frame h (g.G.Guide.frame c.args.guide.now).floor c.args.order.now c.in_ok-plan-in-None.plan.places c.args.search.now.value c.lesser-search.result c.args.search.now.left (c.args.search.now.left - 1) (g.G.Guide.halted c.found.new.self)
           c.top_of-cost.result.0 c.in-Some-found.value c.top_of-cost.result.1
           (ap (λ (f : Frame). f.loads) c.bound.ensures.frame ∙ c.requires.units) (ap (λ (f : Frame). f.slots) c.bound.ensures.frame ∙ c.requires.slots) (ap (λ (f : Frame). f.floor) c.bound.ensures.frame)
-          c.requires.ready (none_left c.args.order.now c.in-None.ensures.cases) c.in_ok-plan-in-None.ensures c.in_default.ensures.0 c.top_of-cost.ensures.busiest c.top_of-cost.ensures.short c.in_default.ensures.1
+          c.requires.ready (none_left c.args.order.now c.in-None.ensures.cases) c.in_ok-plan-in-None.ensures still.0 c.top_of-cost.ensures.busiest c.top_of-cost.ensures.short still.1
           (let some = c.if-search-eq0.false in omega arith) c.lesser-search.ensures.first (c.found.ensures.value _ c.in-Some-found.is);
       follows =
           follows_found h c.args.search.now.left (g.G.Guide.halted c.args.guide.now) c.args.search.now.value (g.G.Guide.known c.args.guide.now) c.lesser-search.result c.bound.result (g.G.Guide.known c.found.new.self)
-          c.top_of-cost.result.0 c.in-Some-found.value c.top_of-cost.result.1 c.bound.ensures.falls c.lesser-search.ensures.second c.top_of-cost.ensures.busiest c.in_default.ensures.1
+          c.top_of-cost.result.0 c.in-Some-found.value c.top_of-cost.result.1 c.bound.ensures.falls c.lesser-search.ensures.second c.top_of-cost.ensures.busiest still.1
           (c.found.ensures.value _ c.in-Some-found.is).0 (c.found.ensures.known _ c.in-Some-found.is);
       stays = λ k. absurd (let no : true ≡ false = sym k ∙ sym c.stopped.ensures ∙ c.if-stopped.false in cc);
     }
@@ -45,7 +47,7 @@ returns-clause-entered g c =
       next = c.in-Some-split_first.ensures.cases.0 ∙ ap (λ w. w ∷ later) (sym c.from-unit.ensures);
       places = c.children_of-places.ensures;
       under =
-          under_first (line_of slots_alone h) (g.G.Guide.frame c.args.guide.now).floor h.places u later (state_of c.args.search.now (g.G.Guide.halted c.args.guide.now) (g.G.Guide.known c.args.guide.now))
+          under_first (line_of turned_time h) (g.G.Guide.frame c.args.guide.now).floor h.places u later (state_of c.args.search.now (g.G.Guide.halted c.args.guide.now) (g.G.Guide.known c.args.guide.now))
           c.lesser-search.result c.bound.result (g.G.Guide.known c.bound.new.self) (c.args.search.now.left - 1) (g.G.Guide.halted c.bound.new.self) made.trees.items
           left c.lesser-search.ensures.first c.lesser-search.ensures.second c.lesser-search.ensures.one c.bound.ensures.value c.bound.ensures.known c.bound.ensures.falls (λ k. c.bound.ensures.halted ∙ k) made.ensures.items;
       none = made.ensures.items;

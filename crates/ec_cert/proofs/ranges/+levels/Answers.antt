@@ -4,11 +4,11 @@ use Rattle.ec_cert.proofs.ranges.+levels.Goals as goal
 
 pub has_levels-returns-then-is_child_count : goal.has_levels-returns-then-is_child_count
 has_levels-returns-then-is_child_count t c =
-    let same = levels_split c.args.levels c.args.tree.now c.in-Split.trees (omega arith) c.in-Split.is in
+    let same = levels_split c.args.version c.args.levels c.args.tree.now c.in-Split.trees (omega arith) c.in-Split.is in
     let count = c.is_child_count.ensures.0 c.if-is_child_count.true in
     (λ yes. same.1 (omega arith, omega arith, c.have_levels.ensures.0 yes), λ has. c.have_levels.ensures.1 (same.0 has).2)
 
 pub has_levels-returns-else-is_child_count : goal.has_levels-returns-else-is_child_count
 has_levels-returns-else-is_child_count t c =
-    let same = levels_split c.args.levels c.args.tree.now c.in-Split.trees (omega arith) c.in-Split.is in
+    let same = levels_split c.args.version c.args.levels c.args.tree.now c.in-Split.trees (omega arith) c.in-Split.is in
     (λ yes. absurd cc, λ has. let (least, most, all) = same.0 has in c.is_child_count.ensures.1 (omega arith, omega arith))

@@ -7,9 +7,9 @@ use Rattle.ec_cert_text.proofs.indexes.first_indexes.Goals as goal
 pub returns-in_err-index : goal.returns-in_err-index
 returns-in_err-index c =
     let p = err_from_is_err_and c.from_residual.result c.from_residual.ensures.1 in
-    rw (p.1, p.2) (ends (index_in c.args.line c.args.high) c.in_err-index.field-0.0 c.words.indexes.items c.args.high c.words.counter c.words.rest.now (many_from (index_in c.args.line c.args.high) c.args.high c.args.text.now) c.words-test.true c.in_err-index.ensures c.words.invariant)
+    rw (p.1, p.2) (ends (index_in c.args.line c.args.high) c.in_err-index.field-0.0 c.words.indexes.items c.args.high c.words.counter c.words.rest.now (many_from (index_in c.args.line c.args.high) c.args.high c.args.text.now) c.words-test.true c.in_err-index.ensures.value c.words.invariant)
 
 pub words-preserved : goal.words-preserved
 words-preserved c =
     let e : c.push.new.self.items ≡ c.words.indexes.items ++ c.in_ok-index.index ∷ [] = c.in_ok-push.ensures.items in
-    rw e (goes_on (index_in c.args.line c.args.high) c.words.indexes.items c.args.high c.words.counter c.words.rest.now c.in_ok-index.index c.in_ok-index.after.now (many_from (index_in c.args.line c.args.high) c.args.high c.args.text.now) c.words-test.true c.in_ok-index.ensures c.words.invariant)
+    rw e (goes_on (index_in c.args.line c.args.high) c.words.indexes.items c.args.high c.words.counter c.words.rest.now c.in_ok-index.index c.in_ok-index.after.now (many_from (index_in c.args.line c.args.high) c.args.high c.args.text.now) c.words-test.true c.in_ok-index.ensures.value c.words.invariant)

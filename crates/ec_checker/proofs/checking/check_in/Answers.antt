@@ -30,7 +30,7 @@ returns-in_err-walk-clause-exact c =
     let v = cert_view c.args.cert.now in
     let order : IsOrder (length us) v.order = subst (λ w. IsOrder (length w) v.order) c.as_slice.ensures (subst (IsOrder (length c.as_slice.result.now)) c.as_slice-order.ensures (c.if-not-is_order.ensures.0 refl)) in
     let head : HasHead us n v = record { same = c.if-not-is_for.ensures.0 refl; order = order; best = c.in_ok-value.ensures.ok.1 } in
-    let found = found_is (loads_of us) n v c.args.loads.now c.in_ok-value.value c.as_slice-order.result.now c.walk.result c.requires c.in_ok-value.ensures.ok.0 c.as_slice-order.ensures c.walk.ensures.judged in
+    let found = found_is (loads_of us) n v c.args.loads.now c.is_turned-turned.result c.in_ok-value.value c.as_slice-order.result.now c.walk.result c.requires c.is_turned-turned.ensures c.in_ok-value.ensures.ok.0 c.as_slice-order.ensures c.walk.ensures.judged in
     let p = err_from_is_err_and c.from_residual-in_err-walk.result c.from_residual-in_err-walk.ensures.1 in
     rw (p.1, p.2) (fault_from us n v c.in_err-walk.field-0.0 head (sym found ∙ c.in_err-walk.was))
 
@@ -41,7 +41,7 @@ returns-in-Some-clause-exact c =
     let v = cert_view c.args.cert.now in
     let order : IsOrder (length us) v.order = subst (λ w. IsOrder (length w) v.order) c.as_slice.ensures (subst (IsOrder (length c.as_slice.result.now)) c.as_slice-order.ensures (c.if-not-is_order.ensures.0 refl)) in
     let head : HasHead us n v = record { same = c.if-not-is_for.ensures.0 refl; order = order; best = c.in_ok-value.ensures.ok.1 } in
-    let found = found_is (loads_of us) n v c.args.loads.now c.in_ok-value.value c.as_slice-order.result.now c.walk.result c.requires c.in_ok-value.ensures.ok.0 c.as_slice-order.ensures c.walk.ensures.judged in
+    let found = found_is (loads_of us) n v c.args.loads.now c.is_turned-turned.result c.in_ok-value.value c.as_slice-order.result.now c.walk.result c.requires c.is_turned-turned.ensures c.in_ok-value.ensures.ok.0 c.as_slice-order.ensures c.walk.ensures.judged in
     let yes_of : IsCertified us n v = record { head = head; tree = tree_from (loads_of us) n v c.in_ok-walk.field-0 (sym found ∙ c.in_ok-walk.was) } in
     (yes_of, verdict_some v.best c.in_ok-value.value c.in-Some.value c.in-Some.is c.in_ok-value.ensures.ok.0)
 
@@ -52,7 +52,7 @@ returns-in-Some-clause-sound c =
     let v = cert_view c.args.cert.now in
     let order : IsOrder (length us) v.order = subst (λ w. IsOrder (length w) v.order) c.as_slice.ensures (subst (IsOrder (length c.as_slice.result.now)) c.as_slice-order.ensures (c.if-not-is_order.ensures.0 refl)) in
     let head : HasHead us n v = record { same = c.if-not-is_for.ensures.0 refl; order = order; best = c.in_ok-value.ensures.ok.1 } in
-    let found = found_is (loads_of us) n v c.args.loads.now c.in_ok-value.value c.as_slice-order.result.now c.walk.result c.requires c.in_ok-value.ensures.ok.0 c.as_slice-order.ensures c.walk.ensures.judged in
+    let found = found_is (loads_of us) n v c.args.loads.now c.is_turned-turned.result c.in_ok-value.value c.as_slice-order.result.now c.walk.result c.requires c.is_turned-turned.ensures c.in_ok-value.ensures.ok.0 c.as_slice-order.ensures c.walk.ensures.judged in
     let yes_of : IsCertified us n v = record { head = head; tree = tree_from (loads_of us) n v c.in_ok-walk.field-0 (sym found ∙ c.in_ok-walk.was) } in
     claim_from c.trees_bound.ensures us n v _ yes_of (verdict_some v.best c.in_ok-value.value c.in-Some.value c.in-Some.is c.in_ok-value.ensures.ok.0)
 
@@ -63,7 +63,7 @@ returns-in-None-clause-exact c =
     let v = cert_view c.args.cert.now in
     let order : IsOrder (length us) v.order = subst (λ w. IsOrder (length w) v.order) c.as_slice.ensures (subst (IsOrder (length c.as_slice.result.now)) c.as_slice-order.ensures (c.if-not-is_order.ensures.0 refl)) in
     let head : HasHead us n v = record { same = c.if-not-is_for.ensures.0 refl; order = order; best = c.in_ok-value.ensures.ok.1 } in
-    let found = found_is (loads_of us) n v c.args.loads.now c.in_ok-value.value c.as_slice-order.result.now c.walk.result c.requires c.in_ok-value.ensures.ok.0 c.as_slice-order.ensures c.walk.ensures.judged in
+    let found = found_is (loads_of us) n v c.args.loads.now c.is_turned-turned.result c.in_ok-value.value c.as_slice-order.result.now c.walk.result c.requires c.is_turned-turned.ensures c.in_ok-value.ensures.ok.0 c.as_slice-order.ensures c.walk.ensures.judged in
     let yes_of : IsCertified us n v = record { head = head; tree = tree_from (loads_of us) n v c.in_ok-walk.field-0 (sym found ∙ c.in_ok-walk.was) } in
     (yes_of, verdict_none v.best c.in_ok-value.value c.in-None.is c.in_ok-value.ensures.ok.0)
 
@@ -74,7 +74,7 @@ returns-in-None-clause-sound c =
     let v = cert_view c.args.cert.now in
     let order : IsOrder (length us) v.order = subst (λ w. IsOrder (length w) v.order) c.as_slice.ensures (subst (IsOrder (length c.as_slice.result.now)) c.as_slice-order.ensures (c.if-not-is_order.ensures.0 refl)) in
     let head : HasHead us n v = record { same = c.if-not-is_for.ensures.0 refl; order = order; best = c.in_ok-value.ensures.ok.1 } in
-    let found = found_is (loads_of us) n v c.args.loads.now c.in_ok-value.value c.as_slice-order.result.now c.walk.result c.requires c.in_ok-value.ensures.ok.0 c.as_slice-order.ensures c.walk.ensures.judged in
+    let found = found_is (loads_of us) n v c.args.loads.now c.is_turned-turned.result c.in_ok-value.value c.as_slice-order.result.now c.walk.result c.requires c.is_turned-turned.ensures c.in_ok-value.ensures.ok.0 c.as_slice-order.ensures c.walk.ensures.judged in
     let yes_of : IsCertified us n v = record { head = head; tree = tree_from (loads_of us) n v c.in_ok-walk.field-0 (sym found ∙ c.in_ok-walk.was) } in
     claim_from c.trees_bound.ensures us n v _ yes_of (verdict_none v.best c.in_ok-value.value c.in-None.is c.in_ok-value.ensures.ok.0)
 
@@ -83,7 +83,7 @@ returns-in_err-walk-clause-memory c = λ is.
     let us = c.args.units.now.units in
     let n = c.args.units.now.slots in
     let v = cert_view c.args.cert.now in
-    let found = found_is (loads_of us) n v c.args.loads.now c.in_ok-value.value c.as_slice-order.result.now c.walk.result c.requires c.in_ok-value.ensures.ok.0 c.as_slice-order.ensures c.walk.ensures.judged in
+    let found = found_is (loads_of us) n v c.args.loads.now c.is_turned-turned.result c.in_ok-value.value c.as_slice-order.result.now c.walk.result c.requires c.is_turned-turned.ensures c.in_ok-value.ensures.ok.0 c.as_slice-order.ensures c.walk.ensures.judged in
     let p = err_from_is_err_and c.from_residual-in_err-walk.result c.from_residual-in_err-walk.ensures.1 in
     let same : c.in_err-walk.field-0.0 ≡ OutOfMemory = cc (p.1, p.2, is) in
     tree_memory (loads_of us) n v c.in_err-walk.field-0.0 (sym found ∙ c.in_err-walk.was) same

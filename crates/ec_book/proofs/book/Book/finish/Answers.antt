@@ -1,5 +1,5 @@
 use Rattle.std.proofs.Common.{◌≡◌, refl, sym, ◌∙◌, zero-add}
-use Rattle.ec_loads.specs.Line.{slots_alone, line_by}
+use Rattle.ec_loads.specs.Line.{turned_time, line_by}
 use Rattle.ec_cert.specs.Shapes.{shape_of}
 use Rattle.ec_cert.specs.BestPlan.{value_of}
 use Rattle.ec_book.specs.Numbered.{gap, plain}
@@ -12,7 +12,7 @@ use Rattle.ec_book.proofs.book.Book.finish.Goals as goal
 pub returns-clause-ok : goal.returns-clause-ok
 returns-clause-ok c =
     let b = c.self.inside in
-    let line = line_by slots_alone b.loads.loads b.loads.slots in
+    let line = line_by turned_time b.loads.loads b.loads.slots in
     let order = b.order.items in
     let pieces = b.pieces.items in
     let prefixes = b.prefixes.items in

@@ -1,5 +1,5 @@
 use Rattle.std.proofs.Common.{◌≡◌, ◌++◌, ◌∷◌, [], arith, refl, ◌∙◌, set, replicate, drop, ◌≤◌, ◌<◌, length}
-use Rattle.ec_loads.specs.Line.{slots_alone, line_by}
+use Rattle.ec_loads.specs.Line.{turned_time, line_by}
 use Rattle.ec_loads.specs.Search.{node_count, IsPartialTree}
 use Rattle.ec_cert.specs.Shapes.{shape_of}
 use Rattle.ec_book.specs.declared.piece.Piece.TheVariants.{Free, Taken, Ended}
@@ -86,7 +86,7 @@ invariant_of-self-2 c =
     rw (c.as_slice-pieces.ensures.value, c.as_slice-prefixes.ensures.value, c.value_in-value.ensures) at c.in-Ok.ensures.ok in
     let loads = b.loads.loads in
     let slots = b.loads.slots in
-    let line = line_by slots_alone loads slots in
+    let line = line_by turned_time loads slots in
     let order = b.order.items in
     let p = c.args.piece in
     let g = c.in-Ok.grant in

@@ -1,8 +1,0 @@
-use Rattle.ec_loads.specs.Line.{slots_alone, line_of}
-use Rattle.ec_branch.proofs.LeafLemmas.{average_leaf}
-use Rattle.ec_branch.proofs.leaf.leaf_of.Goals as goal
-
-pub returns-then-average_bound : goal.returns-then-average_bound
-returns-then-average_bound c =
-    let h = c.args.loads.now in
-    average_leaf (line_of slots_alone h) c.args.value h.places ((c.average_bound.ensures c.requires).0 c.if-average_bound.true)

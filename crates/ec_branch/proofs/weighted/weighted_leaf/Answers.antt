@@ -1,0 +1,16 @@
+use Rattle.std.proofs.Common.{◌≡◌, ◌≤◌, All, List, ℕ, Some, length, subst, sym, ◌∙◌, rules}
+use Rattle.ec_loads.specs.Line.{turned_time, line_of}
+use Rattle.ec_loads.specs.Weights.{WeightsHold}
+use Rattle.ec_branch.proofs.LeafLemmas.{weights_leaf}
+use Rattle.ec_branch.proofs.weighted.weighted_leaf.Goals as goal
+
+pub returns-then-weight_bound : goal.returns-then-weight_bound
+returns-then-weight_bound c =
+    let h = c.args.loads.now in
+    let same : c.as_slice.result.now ≡ c.new.result = search rules in
+    let holds : WeightsHold h.loads h.slots c.args.value h.places c.new.result =
+    subst (λ v. WeightsHold h.loads h.slots v h.places c.new.result) (sym c.in-Some.is)
+    (subst (WeightsHold h.loads h.slots (Some c.in-Some.least) h.places) same ((c.weight_bound.ensures c.requires).0 c.if-weight_bound.true)) in
+    let few : length c.new.result ≤ 1024 = search rules in
+    let each : All (λ x. x ≤ 65535) c.new.result = search rules in
+    weights_leaf (line_of turned_time h) c.args.value h.places c.new.result holds few each

@@ -1,0 +1,5 @@
+use Rattle.std.proofs.Common.{refl}
+use Rattle.ec_cert.proofs.weights.Weights.new.Goals as goal
+
+pub returns : goal.returns
+returns c = refl

@@ -1,0 +1,11 @@
+use Rattle.ec_cert_text.proofs.WriteLemmas.{on_ok, gathers_then, front_more, front_then}
+use Rattle.ec_cert_text.proofs.writing.write_weights.Goals as goal
+
+pub returns-in_err-write_weight_words-clause-front : goal.returns-in_err-write_weight_words-clause-front
+returns-in_err-write_weight_words-clause-front g c = front_then c.in_ok-write.ensures.all (front_more _ c.write_weight_words.ensures.front)
+
+pub returns-clause-front : goal.returns-clause-front
+returns-clause-front g c = front_then c.in_ok-write.ensures.all (front_then c.in_ok-write_weight_words.ensures.all c.write-2.ensures.front)
+
+pub returns-clause-all : goal.returns-clause-all
+returns-clause-all g c = on_ok c.write-2.result _ _ (λ q. gathers_then c.in_ok-write.ensures.all (gathers_then c.in_ok-write_weight_words.ensures.all q)) c.write-2.ensures.all

@@ -1,0 +1,56 @@
+//! Leaves of a certificate's tree that don't hold, and why.
+
+use crate::due::{cert_line, has_no_value};
+use crate::inputs::Doc;
+use crate::periods::ticks_of;
+use std::alloc::AllocError;
+use std::fmt::Write;
+
+/// Whether each of these weights is 0.
+fn are_zero(weights: &str) -> bool {
+    weights.split(' ').all(|weight| weight == "0")
+}
+
+/// The ticks of the hyperperiod of the units, if there are units and it has at most 19 digits.
+fn hyperperiod(doc: Doc<'_>) -> Option<u64> {
+    match doc.units() {
+        [] => None,
+        units => ticks_of(units),
+    }
+}
+
+/// Adds why a leaf with these weights doesn't hold.
+fn add_weights(out: &mut String, doc: Doc<'_>, weights: &str) -> Result<(), AllocError> {
+    let count = weights.split(' ').count() as u64;
+    let ticks = hyperperiod(doc).unwrap_or(count);
+    if count != ticks {
+        write!(
+            out,
+            "It has {count} weights, and the hyperperiod has {ticks} ticks: "
+        )?;
+        return out.push_str("each tick has a weight.\n");
+    }
+    if are_zero(weights) {
+        return out.push_str("All its weights are 0.\n");
+    }
+    out.push_str("By its weights a tick has too few bytes on average to show the value.\n")
+}
+
+/// Adds why the leaf at a line of a certificate, from 0, doesn't hold, where that line says it.
+pub(crate) fn add_leaf_fault(
+    out: &mut String,
+    doc: Doc<'_>,
+    cert: &str,
+    line: usize,
+) -> Result<(), AllocError> {
+    let Some(leaf) = cert_line(cert, line) else {
+        return Ok(());
+    };
+    if has_no_value(cert) && !leaf.starts_with("F ") {
+        return out.push_str("Without a value only a leaf F can hold.\n");
+    }
+    match leaf.strip_prefix("W ") {
+        Some(weights) => add_weights(out, doc, weights),
+        None => Ok(()),
+    }
+}
