@@ -166,6 +166,27 @@ struct Scripts {
         if (o.open) return "unproved " + (o.value < 0 ? string("none") : str(o.value)) + " Budget";
         return (o.value < 0 ? "no plan" : "optimal " + str(o.value)) + " " + checked(o);
     }
+    // What a search ended with, of one without a proof its level and what the checker answers; and its certificate.
+    pair<string, string> ended(const Outcome &o) {
+        string t = cert_text(L, o, version), v = o.value < 0 ? "none" : str(o.value);
+        if (!o.open) return {(o.value < 0 ? "no plan" : "optimal " + v) + " " + checked(o), bar(t)};
+        CertReader r(t, version);
+        Cert c = r.read();
+        return {"unproved " + v + " Budget " + str(c.level) + " " + check(L, c).debug, bar(t)};
+    }
+    pair<string, string> resumed(int workers, ll n, const string &text) {
+        pool.clear();
+        wpool.clear();
+        try {
+            CertReader r(text, version);
+            Cert c = r.read();
+            Verdict v = check(L, c);
+            if (v.status != 2) return {v.debug, ""};
+            return ended(solve_from(L, c, version, max(1, min(16, workers)), n));
+        } catch (CertFault &f) {
+            return {cert_fault_debug(f), ""};
+        }
+    }
     string judged(const string &text, bool only_read) {
         try {
             CertReader r(text, version);
@@ -266,6 +287,14 @@ struct Scripts {
                 }
                 return str(c);
             }
+            if (n == "level") return ended(solve(L, version, 1, numo(w, 1))).first;
+            if (n == "partial") return ended(solve(L, version, 1, numo(w, 1))).second;
+            if (n == "resume") return resumed((int)numo(w, 1), numo(w, 2), unbar(after(call, 3))).first;
+            if (n == "resumed") return resumed((int)numo(w, 1), numo(w, 2), unbar(after(call, 3))).second;
+            if (n == "onward") {
+                string cut = ended(solve(L, version, (int)numo(w, 1), numo(w, 2))).second;
+                return resumed((int)numo(w, 1), numo(w, 3), unbar(cut)).first;
+            }
             return "no call";
         }
         if (subject == "sweep" && n == "pairs") {
@@ -329,6 +358,20 @@ struct Scripts {
                 if (piece < 0) return "no piece";
                 return res(b.back(worker, piece));
             }
+            if (n == "resume") try {
+                    const string text = unbar(after(call, 2));
+                    CertReader r(text, version);
+                    Cert c = r.read();
+                    Verdict v = check(L, c);
+                    if (v.status != 2) return v.debug;
+                    nodes = numo(w, 1);
+                    book = make_unique<Book>(L, vector<int>(c.order.begin(), c.order.end()), nodes, version, c.root);
+                    book->value = c.value;
+                    book->best = c.plan;
+                    return "Ok(())";
+                } catch (CertFault &f) {
+                    return cert_fault_debug(f);
+                }
             if (n == "counts") return str(b.spent) + " " + str(b.free_ + b.taken) + " " + str(b.log.size());
             if (n == "log") {
                 string t = "[";
@@ -338,7 +381,8 @@ struct Scripts {
             if (n == "finish") {
                 string t = str(b.spent) + " " + debug_tree(b.root) + " " + str(max<ll>(0, b.value)) + " " +
                            str(b.log.size());
-                book = make_unique<Book>(L, search_order(L), nodes, version);
+                auto order = b.order;
+                book = make_unique<Book>(L, order, nodes, version);
                 return t;
             }
             return "no call";

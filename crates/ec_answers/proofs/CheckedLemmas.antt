@@ -20,7 +20,7 @@ use Rattle.ec_lines.specs.Output.{IsCheckedOutput, IsCheckOutput, IsOutput, Answ
 use Rattle.ec_lines.specs.Refusals.{out_of_memory, IsMemory}
 
 -- a yes
-pub checked_yes : (us : Units) (c : CertView) (a : Answer) (v : Verdict) → IsCertified us.units us.slots c → v ≡ verdict_of c.best → shown a ≡ verdict_output v → IsCheckedOutput (units_view us) c (shown a)
+pub checked_yes : (us : Units) (c : CertView) (a : Answer) (v : Verdict) → IsCertified us.units us.slots c → v ≡ verdict_of c.best c.level → shown a ≡ verdict_output v → IsCheckedOutput (units_view us) c (shown a)
 checked_yes us c a v is said told = (us, refl, inl (is, told ∙ ap verdict_output said))
 
 pub memory_or : (f : CheckFault) → (f ≡ check.OutOfMemory) ⊎ (f ≢ check.OutOfMemory)
@@ -32,6 +32,7 @@ memory_or (check.Value s f) = inr (λ e. absurd cc)
 memory_or (check.Children k w g) = inr (λ e. absurd cc)
 memory_or (check.Leaf k) = inr (λ e. absurd cc)
 memory_or (check.Depth k) = inr (λ e. absurd cc)
+memory_or (check.Level l v) = inr (λ e. absurd cc)
 
 -- a no, which may be want of memory
 pub checked_no : (us : Units) (c : CertView) (f : CheckFault) → IsFaultOf us.units us.slots c f → IsMemory job.Check (refusal.Check f) ⊎ IsCheckedOutput (units_view us) c (refused (refusal.Check f))

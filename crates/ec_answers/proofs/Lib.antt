@@ -3,3 +3,4 @@ pub mod CheckedLemmas
 pub mod FramedLemmas
 pub mod PlanLemmas
 pub mod PlayedLemmas
+pub mod ResumeLemmas

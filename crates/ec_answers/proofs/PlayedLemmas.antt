@@ -1,4 +1,4 @@
--- From units, a certificate and what the checker answers to the play that is written.
+-- From units, a certificate and what the checker answers to the play, or the costs, that are written.
 use Rattle.std.proofs.Common.{◌≡◌, ℕ, List, Option, Some, None, Result, Ok, Err, subst, ap, inl, inr, arith}
 use Rattle.std.specs.Prelude.{MatchOption, MatchResult, IfSome}
 use Rattle.ec_units.specs.declared.slave.Place.{Place}
@@ -17,7 +17,7 @@ use Rattle.ec_lines.specs.declared.answer.Answer.{Answer}
 use Rattle.ec_lines.specs.declared.refusal.Refusal.{Refusal}
 use Rattle.ec_lines.specs.declared.refusal.Refusal.TheVariants as refusal
 use Rattle.ec_lines.specs.declared.job.Job.TheVariants as job
-use Rattle.ec_lines.specs.Output.{Written, IsPlacedText, IsBestText, IsOwnText, IsCertText, IsReadText, IsTextFor, IsOutput, Answers, first_unplaced, places_of, refused, shown}
+use Rattle.ec_lines.specs.Output.{Written, IsCostsText, IsPlacedText, IsBestText, IsOwnText, IsCertText, IsReadText, IsTextFor, IsOutput, Answers, first_unplaced, places_of, refused, shown}
 use Rattle.ec_lines.specs.Refusals.{refusal_code}
 use Rattle.ec_lines.proofs.RefusalLemmas.{code_above}
 use Rattle.ec_answers.specs.Captures.{FramesFrom}
@@ -64,6 +64,10 @@ refused_alike : (cert : Option (List ℕ)) (bytes : List ℕ) (r : Refusal) → 
 refused_alike cert bytes r (inl h) = inl (h.0, units_alike IsFramesText IsPlayText cert r (reading bytes) h.1)
 refused_alike cert bytes r (inr h) = inr h
 
+refused_costs : (cert : Option (List ℕ)) (bytes : List ℕ) (r : Refusal) → IsOutput job.Frames bytes cert (refused r) → IsOutput job.PlanCost bytes cert (refused r)
+refused_costs cert bytes r (inl h) = inl (h.0, units_alike IsFramesText IsCostsText cert r (reading bytes) h.1)
+refused_costs cert bytes r (inr h) = inr h
+
 -- ---- what is written
 
 played_output : (cert : Option (List ℕ)) (bytes : List ℕ) (us : Units) (plan : Plan) (w : Written) → FramesFrom cert (Ok (us, plan)) bytes → IsPlayText (units_view us) plan.places w.text → w.code ≡ 0 → IsOutput job.Play bytes cert w
@@ -100,3 +104,31 @@ pub play_untold : (left text : Option (List ℕ)) (r : Refusal) (answer : Result
 play_untold None text r answer is from = tt
 play_untold (Some bytes) None r answer is from = tt
 play_untold (Some bytes) (Some t) r answer is from = unanswered (Some t) bytes r answer is from
+
+-- ---- the costs of a certificate's plan
+
+priced_output : (cert : Option (List ℕ)) (bytes : List ℕ) (us : Units) (plan : Plan) (w : Written) → FramesFrom cert (Ok (us, plan)) bytes → IsCostsText (units_view us) plan.places w.text → w.code ≡ 0 → IsOutput job.PlanCost bytes cert w
+priced_output cert bytes us plan w from text code = inl (from.0, rw from.1 (text_for IsCostsText cert (units_view us) plan.places w from.2 text code))
+
+priced : (cert : Option (List ℕ)) (bytes : List ℕ) (us : Units) (plan : Plan) (answer : Result Answer Refusal) → FramesFrom cert (Ok (us, plan)) bytes → Answers job.PlanCost answer (λ w. IsCostsText (units_view us) plan.places w.text × (w.code ≡ 0)) → Answers job.PlanCost answer (IsOutput job.PlanCost bytes cert)
+priced cert bytes us plan (Ok a) from h = priced_output cert bytes us plan (shown a) from h.0 h.1
+priced cert bytes us plan (Err r) from (inl lack) = inl lack
+priced cert bytes us plan (Err r) from (inr h) = inr (priced_output cert bytes us plan (refused r) from h.0 h.1)
+
+priced_fault : (cert : Option (List ℕ)) (bytes : List ℕ) (r : Refusal) → FramesFrom cert (Err r) bytes → Answers job.PlanCost (Err r) (IsOutput job.PlanCost bytes cert)
+priced_fault cert bytes r (inl memory) = inl memory
+priced_fault cert bytes r (inr h) = inr (refused_costs cert bytes r h)
+
+unpriced : (cert : Option (List ℕ)) (bytes : List ℕ) (r : Refusal) (answer : Result Answer Refusal) → answer ≡ Err r → FramesFrom cert (Err r) bytes → Answers job.PlanCost answer (IsOutput job.PlanCost bytes cert)
+unpriced cert bytes r answer is h = rw is (priced_fault cert bytes r h)
+
+pub cost_told : (left text : Option (List ℕ)) (us : Units) (plan : Plan) (answer : Result Answer Refusal) → IfSome left (λ bytes. IfSome text (λ t. FramesFrom (Some t) (Ok (us, plan)) bytes)) → Answers job.PlanCost answer (λ w. IsCostsText (units_view us) plan.places w.text × (w.code ≡ 0))
+    → IfSome left (λ bytes. IfSome text (λ t. Answers job.PlanCost answer (IsOutput job.PlanCost bytes (Some t))))
+cost_told None text us plan answer from h = tt
+cost_told (Some bytes) None us plan answer from h = tt
+cost_told (Some bytes) (Some t) us plan answer from h = priced (Some t) bytes us plan answer from h
+
+pub cost_untold : (left text : Option (List ℕ)) (r : Refusal) (answer : Result Answer Refusal) → answer ≡ Err r → IfSome left (λ bytes. IfSome text (λ t. FramesFrom (Some t) (Err r) bytes)) → IfSome left (λ bytes. IfSome text (λ t. Answers job.PlanCost answer (IsOutput job.PlanCost bytes (Some t))))
+cost_untold None text r answer is from = tt
+cost_untold (Some bytes) None r answer is from = tt
+cost_untold (Some bytes) (Some t) r answer is from = unpriced (Some t) bytes r answer is from

@@ -1,5 +1,5 @@
--- What a plan writes: the text of an outcome, and before it its certificate.
-use Rattle.std.specs.Prelude.{◌≡◌, ◌⊎◌, ℕ, ◌≤◌, List, ◌++◌, length, Option, Some, None, Result, Ok, Err, IfSome}
+-- What a search writes, begun or resumed: the text of an outcome, and before it its certificate.
+use Rattle.std.specs.Prelude.{◌≡◌, ◌⊎◌, ℕ, ◌≤◌, List, ◌++◌, length, Option, Some, None, Result, Ok, Err, IfSome, option_map}
 use Rattle.std.specs.Io.KnownBytes.{Appends}
 use Rattle.ec_wire.specs.declared.io.Io.{Io}
 use Rattle.ec_wire.specs.Stream.{stream, WritesFront}
@@ -8,73 +8,139 @@ use Rattle.ec_units.specs.declared.unit.Unit.{Unit as SyncUnit}
 use Rattle.ec_units.specs.declared.units.Units.{Units}
 use Rattle.ec_unit_text.specs.Reading.{reading}
 use Rattle.ec_units.specs.Views.{units_view}
+use Rattle.ec_loads.specs.Search.{node_count}
 use Rattle.ec_cert.specs.declared.cert.Best.{Best}
-use Rattle.ec_cert.specs.Shapes.{cert_view}
+use Rattle.ec_cert.specs.Shapes.{CertView, cert_view, shape_of}
 use Rattle.ec_cert.specs.WellFormed.{IsWellFormed}
+use Rattle.ec_cert_text.specs.Reading.{Fails, reading as cert_reading}
 use Rattle.ec_cert_text.specs.Text.{certificate_text}
+use Rattle.ec_cert_text.specs.declared.fault.CertFault.{CertFault}
+use Rattle.ec_checker.specs.Certified.{IsCertified, IsFaultOf}
+use Rattle.ec_checker.specs.declared.fault.CheckFault.{CheckFault}
 use Rattle.ec_workers.specs.declared.outcome.Cut.{Cut}
 use Rattle.ec_workers.specs.declared.outcome.Outcome.{Outcome}
 use Rattle.ec_workers.specs.declared.outcome.Outcome.TheVariants as outcome
 use Rattle.ec_workers.specs.declared.outcome.SolveFault.{SolveFault}
-use Rattle.ec_workers.specs.Answers.{Asked, IsOutcome, IsSolveFault}
+use Rattle.ec_workers.specs.Answers.{Asked, asked_beyond, IsOutcome, IsSolveFault, HasOrder}
+use Rattle.ec_workers.specs.Outcomes.{partial_for}
 use Rattle.ec_lines.specs.declared.answer.Answer.{Answer}
 use Rattle.ec_lines.specs.declared.refusal.Refusal.{Refusal}
 use Rattle.ec_lines.specs.declared.refusal.Refusal.TheVariants as refusal
 use Rattle.ec_answers.specs.Input.{IsUnitsFault}
-use Rattle.ec_lines.specs.Outcomes.{outcome_output}
+use Rattle.ec_lines.specs.Outcomes.{outcome_output, IsLevelOf}
 use Rattle.ec_lines.specs.Output.{Written, done, refused, written_of}
-use Rattle.ec_lines.specs.Refusals.{out_of_memory}
+use Rattle.ec_lines.specs.Refusals.{out_of_memory, level_memory}
 
--- the certificate that is written for an outcome, if it has one
-abbrev pub outcome_cert : Outcome → Option (List ℕ)
-outcome_cert (outcome.Optimal plan b cert) = Some (certificate_text (cert_view cert))
-outcome_cert (outcome.NoPlan cert) = Some (certificate_text (cert_view cert))
-outcome_cert (outcome.Unproved best order tree why) = None
+-- the certificate that is written for an outcome of these units: its own, or that of a search without a proof, with its level
+abbrev pub outcome_cert : Units → Outcome → Option ℕ → Option (List ℕ)
+outcome_cert us (outcome.Optimal plan b cert) level = Some (certificate_text (cert_view cert))
+outcome_cert us (outcome.NoPlan cert) level = Some (certificate_text (cert_view cert))
+outcome_cert us (outcome.Unproved best order tree why) level =
+    option_map (λ l. certificate_text (partial_for us.units us.slots order best l (shape_of tree))) level
 
--- a certificate of an outcome has a text
-abbrev pub HasText : Outcome → Type 0
-HasText (outcome.Optimal plan b cert) = IsWellFormed (cert_view cert)
-HasText (outcome.NoPlan cert) = IsWellFormed (cert_view cert)
-HasText (outcome.Unproved best order tree why) = Unit {0}
+-- ---- what comes of a search over the units that were read, and why nothing does
 
--- what comes of a search over the units that the bytes say, with this budget
+-- of a plan: what comes of a search over the units that the bytes say, with this budget
 pub record IsPlanOf (asked : Asked) (bytes : List ℕ) (us : Units) (o : Outcome) : Type 0 where
   pub short : length bytes ≤ 1048576
   pub said : reading bytes ≡ Ok (units_view us)
   pub answer : IsOutcome us.units us.slots asked o
 
--- why bytes have no outcome: they give no units, memory ran out over them or over the text, or the search has none: memory ran out before it began, or none of
--- several workers could be started
+-- why a search by so many workers over the units that bytes say has no outcome: they give no units, memory ran out over them, over the level or over what is
+-- written, or the search has none: memory ran out before it began, or none of several workers could be started
+abbrev pub IsSearchFault : ℕ → List ℕ → Refusal → Type 0
+IsSearchFault workers bytes r =
+    IsUnitsFault bytes r ⊎ ((r ≡ out_of_memory) ⊎ ((r ≡ level_memory) ⊎ ((f : SolveFault) × (r ≡ refusal.Solve f) × IsSolveFault workers f)))
+
 abbrev pub IsPlanFault : Asked → List ℕ → Refusal → Type 0
-IsPlanFault asked bytes r = IsUnitsFault bytes r ⊎ ((r ≡ out_of_memory) ⊎ ((f : SolveFault) × (r ≡ refusal.Solve f) × IsSolveFault asked.workers f))
+IsPlanFault asked bytes r = IsSearchFault asked.workers bytes r
 
--- units with an outcome that bytes have, or why they have none
-abbrev pub PlansFrom : Asked → Result (Units × Outcome) Refusal → List ℕ → Type 0
-PlansFrom asked (Ok found) bytes = IsPlanOf asked bytes found.0 found.1
-PlansFrom asked (Err r) bytes = IsPlanFault asked bytes r
+-- the outcome is a proof, and this is its certificate
+abbrev pub IsProofBy : CertView → Outcome → Type 0
+IsProofBy c (outcome.Optimal plan b cert) = cert_view cert ≡ c
+IsProofBy c (outcome.NoPlan cert) = cert_view cert ≡ c
+IsProofBy c (outcome.Unproved best order tree why) = ⊥
 
--- written is the text of this outcome, and this is its certificate, if it has one
-pub record IsOutcomeWritten (asked : Asked) (bytes : List ℕ) (w : Written) (cert : Option (List ℕ)) : Type 0 where
+-- what comes of going on with a certificate to which the checker says yes: where it is a proof, that one; else what a search finds that goes on with its tree, in
+-- its order of the units, where new nodes alone are counted
+pub record GoesOn (workers nodes : ℕ) (us : Units) (c : CertView) (o : Outcome) : Type 0 where
+  pub right : IsCertified us.units us.slots c
+  pub answer : IsOutcome us.units us.slots (asked_beyond workers nodes (node_count c.tree)) o
+  pub proof : c.level ≡ None → IsProofBy c o
+  pub order : HasOrder c.order o
+
+-- why nothing comes of it: the checker says no, memory ran out, or the search has no outcome
+abbrev pub IsStopped : ℕ → Units → CertView → Refusal → Type 0
+IsStopped workers us c r =
+    (r ≡ out_of_memory)
+    ⊎ (((f : SolveFault) × (r ≡ refusal.Solve f) × IsSolveFault workers f)
+    ⊎ ((f : CheckFault) × (r ≡ refusal.Check f) × IsFaultOf us.units us.slots c f))
+
+-- of a resumed search: what comes of going on with the certificate that the text says, for the units that the bytes say
+pub record IsResumeOf (workers nodes : ℕ) (bytes text : List ℕ) (us : Units) (o : Outcome) : Type 0 where
+  pub short : length bytes ≤ 1048576
+  pub said : reading bytes ≡ Ok (units_view us)
+  pub cert : CertView
+  pub read : cert_reading text ≡ Ok cert
+  pub goes : GoesOn workers nodes us cert o
+
+-- the checker says no to the certificate that the text says, for the units that the bytes say
+pub record IsNoFor (bytes text : List ℕ) (f : CheckFault) : Type 0 where
+  pub units : Units
+  pub said : reading bytes ≡ Ok (units_view units)
+  pub cert : CertView
+  pub read : cert_reading text ≡ Ok cert
+  pub fault : IsFaultOf units.units units.slots cert f
+
+-- the text has this fault, or memory ran out over it
+abbrev pub IsTextFault : List ℕ → Refusal → Type 0
+IsTextFault text r = (f : CertFault) × (r ≡ refusal.Cert f) × Fails f (cert_reading text)
+
+-- why there is no outcome of it: as of a plan, or the text has a fault, or the checker says no
+abbrev pub IsResumeFault : ℕ → List ℕ → List ℕ → Refusal → Type 0
+IsResumeFault workers bytes text r =
+    IsSearchFault workers bytes r ⊎ (IsTextFault text r ⊎ ((f : CheckFault) × (r ≡ refusal.Check f) × IsNoFor bytes text f))
+
+-- ---- what is written for it
+
+-- units with an outcome of a search, or why there is none
+abbrev pub Finds : (Units → Outcome → Type 0) → (Refusal → Type 0) → Result (Units × Outcome) Refusal → Type 0
+Finds is fault (Ok found) = is found.0 found.1
+Finds is fault (Err r) = fault r
+
+-- written is the text of an outcome, and this is its certificate
+pub record IsOutcomeWritten (is : Units → Outcome → Type 0) (w : Written) (cert : Option (List ℕ)) : Type 0 where
   pub units : Units
   pub found : Outcome
-  pub answer : IsPlanOf asked bytes units found
-  pub text : w ≡ outcome_output units.units found
-  pub certificate : cert ≡ outcome_cert found
+  pub answer : is units found
+  pub level : Option ℕ
+  pub shown : IsLevelOf units.units units.slots found level
+  pub text : w ≡ outcome_output units.units found level
+  pub certificate : cert ≡ outcome_cert units found level
 
 -- written is the line that says why there is no outcome, or that memory ran out over it, and no certificate
-pub record IsUnplanned (asked : Asked) (bytes : List ℕ) (w : Written) (cert : Option (List ℕ)) : Type 0 where
+pub record IsUnplanned (fault : Refusal → Type 0) (w : Written) (cert : Option (List ℕ)) : Type 0 where
   pub refusal : Refusal
-  pub fault : IsPlanFault asked bytes refusal
+  pub why : fault refusal
   pub line : w ≡ refused refusal
   pub certificate : cert ≡ None
 
--- what is written for the bytes of units, and the certificate that is written before it
-abbrev pub IsPlanWritten : Asked → List ℕ → Written → Option (List ℕ) → Type 0
-IsPlanWritten asked bytes w cert = IsOutcomeWritten asked bytes w cert ⊎ IsUnplanned asked bytes w cert
+-- what is written for a search, and the certificate that is written before it
+abbrev pub IsSearchWritten : (Units → Outcome → Type 0) → (Refusal → Type 0) → Written → Option (List ℕ) → Type 0
+IsSearchWritten is fault w cert = IsOutcomeWritten is w cert ⊎ IsUnplanned fault w cert
 
--- a certificate of the units that bytes say, or none
-abbrev pub IsCertOf : Asked → List ℕ → Option (List ℕ) → Type 0
-IsCertOf asked bytes cert = ((us : Units) × (o : Outcome) × IsPlanOf asked bytes us o × (cert ≡ outcome_cert o)) ⊎ (cert ≡ None)
+-- for the bytes of units
+abbrev pub IsPlanWritten : Asked → List ℕ → Written → Option (List ℕ) → Type 0
+IsPlanWritten asked bytes w cert = IsSearchWritten (IsPlanOf asked bytes) (IsPlanFault asked bytes) w cert
+
+-- for the bytes of units and the text of a certificate
+abbrev pub IsResumeWritten : ℕ → ℕ → List ℕ → List ℕ → Written → Option (List ℕ) → Type 0
+IsResumeWritten workers nodes bytes text w cert = IsSearchWritten (IsResumeOf workers nodes bytes text) (IsResumeFault workers bytes text) w cert
+
+-- a certificate of what a search finds, or none
+abbrev pub IsCertOf : (Units → Outcome → Type 0) → Option (List ℕ) → Type 0
+IsCertOf is cert =
+    ((us : Units) × (o : Outcome) × is us o × (level : Option ℕ) × IsLevelOf us.units us.slots o level × (cert ≡ outcome_cert us o level)) ⊎ (cert ≡ None)
 
 -- a writer gets a certificate; where there is none it is left as it was
 abbrev pub Gets : {O : Type 0} → (O → Option (List ℕ)) → Io O → Io O → Option (List ℕ) → Type 0
@@ -90,10 +156,30 @@ GetsFront contents old new (Some bytes) = WritesFront (contents (stream old)) (c
 abbrev pub Any : Option (List ℕ) → Type 0
 Any cert = Unit {0}
 
--- an answer is what is written for the bytes, and the certificate goes where it shall
-abbrev pub AnswersPlan : Asked → (Option (List ℕ) → Type 0) → Result Answer Refusal → List ℕ → Type 0
-AnswersPlan asked gets answer bytes = (cert : Option (List ℕ)) × IsPlanWritten asked bytes (written_of answer) cert × gets cert
+-- an answer is what is written for a search, and the certificate goes where it shall
+abbrev pub AnswersSearch : (Units → Outcome → Type 0) → (Refusal → Type 0) → (Option (List ℕ) → Type 0) → Result Answer Refusal → Type 0
+AnswersSearch is fault gets answer = (cert : Option (List ℕ)) × IsSearchWritten is fault (written_of answer) cert × gets cert
 
 -- the front of a certificate goes where it shall
+abbrev pub GetsSearchFront : (Units → Outcome → Type 0) → (Option (List ℕ) → Type 0) → Type 0
+GetsSearchFront is gets = (cert : Option (List ℕ)) × IsCertOf is cert × gets cert
+
+-- for the bytes of units
+abbrev pub PlansFrom : Asked → Result (Units × Outcome) Refusal → List ℕ → Type 0
+PlansFrom asked found bytes = Finds (IsPlanOf asked bytes) (IsPlanFault asked bytes) found
+
+abbrev pub AnswersPlan : Asked → (Option (List ℕ) → Type 0) → Result Answer Refusal → List ℕ → Type 0
+AnswersPlan asked gets answer bytes = AnswersSearch (IsPlanOf asked bytes) (IsPlanFault asked bytes) gets answer
+
 abbrev pub GetsCertFront : Asked → (Option (List ℕ) → Type 0) → List ℕ → Type 0
-GetsCertFront asked gets bytes = (cert : Option (List ℕ)) × IsCertOf asked bytes cert × gets cert
+GetsCertFront asked gets bytes = GetsSearchFront (IsPlanOf asked bytes) gets
+
+-- for the bytes of units and the text of a certificate
+abbrev pub ResumesFrom : ℕ → ℕ → Result (Units × Outcome) Refusal → List ℕ → List ℕ → Type 0
+ResumesFrom workers nodes found bytes text = Finds (IsResumeOf workers nodes bytes text) (IsResumeFault workers bytes text) found
+
+abbrev pub AnswersResume : ℕ → ℕ → (Option (List ℕ) → Type 0) → Result Answer Refusal → List ℕ → List ℕ → Type 0
+AnswersResume workers nodes gets answer bytes text = AnswersSearch (IsResumeOf workers nodes bytes text) (IsResumeFault workers bytes text) gets answer
+
+abbrev pub GetsResumeFront : ℕ → ℕ → (Option (List ℕ) → Type 0) → List ℕ → List ℕ → Type 0
+GetsResumeFront workers nodes gets bytes text = GetsSearchFront (IsResumeOf workers nodes bytes text) gets

@@ -1,13 +1,14 @@
-//! What a cost answers.
+//! What a cost answers, of units and of a certificate's plan.
 
-ghost use Rattle.std.specs.Prelude.{◌≡◌, ◌+◌, ◌≤◌, true, false, None, IfSome};
+ghost use Rattle.std.specs.Prelude.{◌≡◌, ◌+◌, ◌≤◌, true, false, None, Some, IfSome};
 ghost use Rattle.ec_wire.specs.Stream.{stream, has_failed, taken};
-ghost use Rattle.ec_answers.specs.Input.{ConsumesAtMost};
+ghost use Rattle.ec_answers.specs.Input.{ConsumesAtMost, AreUnits};
 ghost use Rattle.ec_lines.specs.Output.{IsOutput, Answers};
-ghost use Rattle.ec_lines.specs.declared.job.Job.TheVariants.{Cost};
+ghost use Rattle.ec_lines.specs.declared.job.Job.TheVariants.{Cost, PlanCost};
 
+use crate::frames::certified;
 use crate::input::units_of;
-use ec_lines::{Answer, Refusal, cost_of};
+use ec_lines::{Answer, Refusal, cost_of, plan_cost};
 use ec_wire::Io;
 use std::alloc::Global;
 use std::io::Read;
@@ -22,4 +23,28 @@ pub fn cost_answer<R: Read>(alloc: Global, units: &mut Io<R>) -> Result<Answer, 
 {
     let line = units_of(alloc, units)?;
     cost_of(alloc, &line)
+}
+
+/// What a cost answers of the units and the certificate that the readers have: the costs of the certificate's plan. The
+/// certificate isn't read before the units are right and the room to check it is there.
+pub fn planned_cost<R: Read, C: Read>(
+    alloc: Global,
+    units: &mut Io<R>,
+    cert: &mut Io<C>,
+) -> Result<Answer, Refusal>
+    requires units { has_failed units.old ≡ false }
+    requires cert { has_failed cert.old ≡ false }
+    ensures told { has_failed units.new ≡ false → has_failed cert.new ≡ false → IfSome (R.remaining (stream units.old)) (λ bytes.
+        IfSome (C.remaining (stream cert.old)) (λ text. Answers PlanCost result (IsOutput PlanCost bytes (Some text)))) }
+    ensures read { has_failed units.new ≡ true → result ≡ Err Refusal.Read }
+    ensures cert_read { has_failed cert.new ≡ true → result ≡ Err Refusal.Read }
+    ensures kept { has_failed units.new ≡ true → cert.new ≡ cert.old }
+    ensures first { IfSome (R.remaining (stream units.old)) (λ bytes. ¬ (AreUnits bytes) → cert.new ≡ cert.old) }
+    ensures consumed { ConsumesAtMost (R.remaining (stream units.old)) (R.remaining (stream units.new)) 1048577 }
+    ensures taken { taken units.new ≤ taken units.old + 1048577 }
+    ensures cert_consumed { ConsumesAtMost (C.remaining (stream cert.old)) (C.remaining (stream cert.new)) 67108865 }
+    ensures cert_taken { taken cert.new ≤ taken cert.old + 67108865 }
+{
+    let (line, plan) = certified(alloc, units, cert)?;
+    plan_cost(alloc, &line, &plan)
 }

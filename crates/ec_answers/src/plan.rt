@@ -1,77 +1,116 @@
 //! What a plan answers, and the certificate that it writes before.
 
-ghost use Rattle.std.specs.Prelude.{◌≡◌, ◌+◌, ◌≤◌, true, false, IfOk, IfErr, IfSome, OnOk, OnErr};
-ghost use Rattle.ec_workers.specs.Answers.{IsOutcome, asked_for};
+ghost use Rattle.std.specs.Prelude.{◌≡◌, ℕ, ◌+◌, ◌≤◌, true, false, Some, None, IfOk, IfErr, IfSome, OnOk, OnErr};
+ghost use Rattle.ec_workers.specs.Answers.{Asked, IsOutcome, asked_for};
 ghost use Rattle.ec_wire.specs.Stream.{stream, has_failed, taken};
+ghost use Rattle.ec_cert.specs.Shapes.{cert_view};
+ghost use Rattle.ec_cert.specs.WellFormed.{IsWellFormed};
+ghost use Rattle.ec_cert_text.specs.Text.{certificate_text};
 ghost use Rattle.ec_answers.specs.Input.{ConsumesAtMost};
-ghost use Rattle.ec_lines.specs.Outcomes.{HasPlaces, outcome_output};
+ghost use Rattle.ec_lines.specs.Outcomes.{HasPlaces, IsLevelOf, outcome_output};
 ghost use Rattle.ec_lines.specs.Output.{shown};
-ghost use Rattle.ec_answers.specs.Planned.{Any, AnswersPlan, Gets, GetsFront, GetsCertFront, HasText, PlansFrom, outcome_cert};
-ghost use Rattle.ec_lines.specs.Refusals.{out_of_memory};
+ghost use Rattle.ec_answers.specs.Planned.{Any, AnswersPlan, Gets, GetsFront, GetsCertFront, PlansFrom, outcome_cert};
+ghost use Rattle.ec_lines.specs.Refusals.{level_memory, out_of_memory};
 
 use crate::input::units_of;
+use ec_cert::Cert;
 use ec_cert_text::write_cert;
+use ec_checker::{CheckFault, level};
 use ec_lines::{Answer, Refusal, outcome_answer};
 use ec_units::Units;
-use ec_wire::{Io, WriteFault};
-use ec_workers::{Gate, Outcome, solve};
-use std::alloc::Global;
+use ec_wire::Io;
+use ec_workers::{Gate, Outcome, partial, solve};
+use std::alloc::{AllocError, Global};
 use std::io::{Read, Write};
 use std::sync::Wait;
 use std::thread::Threads;
 
-/// A gate that does nothing.
-struct Quiet;
-
-impl Gate for Quiet {
-    fn before(&self, _worker: usize, _piece: u64) {}
-}
-
-/// Writes the certificate of an outcome, if it has one.
-fn write_certificate<O: Write>(outcome: &Outcome, out: &mut Io<O>) -> Result<(), WriteFault>
-    requires formed { HasText outcome.now }
-    requires fresh { has_failed out.old ≡ false }
-    ensures all { OnOk result (Gets O.contents out.old out.new (outcome_cert outcome.now)) }
-    ensures front { GetsFront O.contents out.old out.new (outcome_cert outcome.now) }
-    ensures ok { OnOk result (has_failed out.new ≡ false) }
-    ensures err { OnErr result (has_failed out.new ≡ true) }
-{
-    match outcome {
-        Outcome::Optimal { cert, .. } => write_cert(cert, out),
-        Outcome::NoPlan { cert } => write_cert(cert, out),
-        Outcome::Unproved { .. } => Ok(()),
-    }
-}
-
-/// Makes the text of an outcome, and then writes its certificate, if it has one. So memory is wanted no more once a byte of
-/// the certificate is written.
-fn certified<O: Write>(
+/// The level of a search without a proof: every legal plan has a tick that costs at least that many wire bytes. Of one
+/// with a proof none.
+pub(crate) fn level_of(
     alloc: Global,
     units: &Units,
     outcome: &Outcome,
+) -> Result<Option<u64>, Refusal>
+    requires outcome { (asked : Asked) × IsOutcome units.now.units units.now.slots asked outcome.now }
+    ensures ok { IfOk result (IsLevelOf units.now.units units.now.slots outcome.now) }
+    ensures err { IfErr result (λ r. r ≡ level_memory) }
+{
+    match outcome {
+        Outcome::Optimal { .. } => Ok(None),
+        Outcome::NoPlan { .. } => Ok(None),
+        Outcome::Unproved {
+            best,
+            order,
+            tree,
+            ..
+        } => match level(alloc, units, order.as_slice(), tree, best) {
+            Ok(level) => Ok(Some(level)),
+            Err(_) => Err(Refusal::Check(CheckFault::OutOfMemory)),
+        },
+    }
+}
+
+/// The certificate of an outcome: its own, or that of a search without a proof, with its level.
+fn cert_of(
+    alloc: Global,
+    units: &Units,
+    outcome: Outcome,
+    level: Option<u64>,
+) -> Result<Cert, AllocError>
+    requires outcome { (asked : Asked) × IsOutcome units.now.units units.now.slots asked outcome }
+    requires level { IsLevelOf units.now.units units.now.slots outcome level }
+    ensures text { IfOk result (λ cert. outcome_cert units.now outcome level ≡ Some (certificate_text (cert_view cert))) }
+    ensures formed { IfOk result (λ cert. IsWellFormed (cert_view cert)) }
+{
+    match outcome {
+        Outcome::Optimal { cert, .. } => Ok(cert),
+        Outcome::NoPlan { cert } => Ok(cert),
+        Outcome::Unproved {
+            best,
+            order,
+            tree,
+            ..
+        } => match level {
+            Some(level) => partial(alloc, units, order, best, tree, level),
+            None => unreachable!(),
+        },
+    }
+}
+
+/// Makes the text of an outcome and its certificate, and then writes the certificate. So memory is wanted no more once a
+/// byte of it is written.
+pub(crate) fn certified<O: Write>(
+    alloc: Global,
+    units: &Units,
+    outcome: Outcome,
+    level: Option<u64>,
     out: &mut Io<O>,
 ) -> Result<Answer, Refusal>
-    requires formed { HasText outcome.now }
-    requires places { HasPlaces units.now.units outcome.now }
+    requires outcome { (asked : Asked) × IsOutcome units.now.units units.now.slots asked outcome }
+    requires level { IsLevelOf units.now.units units.now.slots outcome level }
+    requires places { HasPlaces units.now.units outcome }
     requires fresh { has_failed out.old ≡ false }
-    ensures ok { IfOk result (λ answer. shown answer ≡ outcome_output units.now.units outcome.now) }
+    ensures ok { IfOk result (λ answer. shown answer ≡ outcome_output units.now.units outcome level) }
     ensures err { has_failed out.new ≡ false → IfErr result (λ r. (r ≡ out_of_memory) × (out.new ≡ out.old)) }
     ensures unwritten { has_failed out.new ≡ true → result ≡ Err Refusal.Write }
-    ensures all { has_failed out.new ≡ false → IfOk result (λ _. Gets O.contents out.old out.new (outcome_cert outcome.now)) }
-    ensures front { GetsFront O.contents out.old out.new (outcome_cert outcome.now) }
+    ensures all { has_failed out.new ≡ false → IfOk result (λ _. Gets O.contents out.old out.new (outcome_cert units.now outcome level)) }
+    ensures front { GetsFront O.contents out.old out.new (outcome_cert units.now outcome level) }
 {
-    let answer = outcome_answer(alloc, units, outcome)?;
-    write_certificate(outcome, out)?;
+    let answer = outcome_answer(alloc, units, &outcome, level)?;
+    let cert = cert_of(alloc, units, outcome, level)?;
+    write_cert(&cert, out)?;
     Ok(answer)
 }
 
 /// The units that the reader has, and what comes of a search over them with this budget.
-fn planned<R: Read, T: Threads + Wait + Sync>(
+fn planned<R: Read, T: Threads + Wait + Sync, G: Gate + Sync>(
     rt: &T,
     alloc: Global,
     workers: usize,
     nodes: u32,
     units: &mut Io<R>,
+    gate: &G,
 ) -> Result<(Units, Outcome), Refusal>
     requires workers { (1 ≤ workers) × (workers ≤ 16) }
     requires nodes { (1 ≤ nodes) × (nodes ≤ 10000000) }
@@ -83,17 +122,18 @@ fn planned<R: Read, T: Threads + Wait + Sync>(
     ensures taken { taken units.new ≤ taken units.old + 1048577 }
 {
     let line = units_of(alloc, units)?;
-    let outcome = solve(rt, alloc, &line, workers, nodes, &Quiet)?;
+    let outcome = solve(rt, alloc, &line, workers, nodes, gate)?;
     Ok((line, outcome))
 }
 
-/// What a plan answers of the units that the reader has.
-pub fn plan_answer<R: Read, T: Threads + Wait + Sync>(
+/// What a plan answers of the units that the reader has. `gate` is told before each node of the search.
+pub fn plan_answer<R: Read, T: Threads + Wait + Sync, G: Gate + Sync>(
     rt: &T,
     alloc: Global,
     workers: usize,
     nodes: u32,
     units: &mut Io<R>,
+    gate: &G,
 ) -> Result<Answer, Refusal>
     requires workers { (1 ≤ workers) × (workers ≤ 16) }
     requires nodes { (1 ≤ nodes) × (nodes ≤ 10000000) }
@@ -103,18 +143,21 @@ pub fn plan_answer<R: Read, T: Threads + Wait + Sync>(
     ensures consumed { ConsumesAtMost (R.remaining (stream units.old)) (R.remaining (stream units.new)) 1048577 }
     ensures taken { taken units.new ≤ taken units.old + 1048577 }
 {
-    let (line, outcome) = planned(rt, alloc, workers, nodes, units)?;
-    Ok(outcome_answer(alloc, &line, &outcome)?)
+    let (line, outcome) = planned(rt, alloc, workers, nodes, units, gate)?;
+    let level = level_of(alloc, &line, &outcome)?;
+    Ok(outcome_answer(alloc, &line, &outcome, level)?)
 }
 
-/// What a plan answers of the units that the reader has; its certificate, if it has one, is written to `out`.
-pub fn certified_answer<R: Read, T: Threads + Wait + Sync, O: Write>(
+/// What a plan answers of the units that the reader has; its certificate is written to `out`, also that of a search
+/// without a proof. `gate` is told before each node of the search.
+pub fn certified_answer<R: Read, T: Threads + Wait + Sync, O: Write, G: Gate + Sync>(
     rt: &T,
     alloc: Global,
     workers: usize,
     nodes: u32,
     units: &mut Io<R>,
     out: &mut Io<O>,
+    gate: &G,
 ) -> Result<Answer, Refusal>
     requires workers { (1 ≤ workers) × (workers ≤ 16) }
     requires nodes { (1 ≤ nodes) × (nodes ≤ 10000000) }
@@ -129,6 +172,7 @@ pub fn certified_answer<R: Read, T: Threads + Wait + Sync, O: Write>(
     ensures consumed { ConsumesAtMost (R.remaining (stream units.old)) (R.remaining (stream units.new)) 1048577 }
     ensures taken { taken units.new ≤ taken units.old + 1048577 }
 {
-    let (line, outcome) = planned(rt, alloc, workers, nodes, units)?;
-    certified(alloc, &line, &outcome, out)
+    let (line, outcome) = planned(rt, alloc, workers, nodes, units, gate)?;
+    let level = level_of(alloc, &line, &outcome)?;
+    certified(alloc, &line, outcome, level, out)
 }

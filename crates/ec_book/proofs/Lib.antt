@@ -10,3 +10,4 @@ pub mod KeepLemmas
 pub mod PlanLemmas
 pub mod FinishLemmas
 pub mod OpenLemmas
+pub mod GivenLemmas

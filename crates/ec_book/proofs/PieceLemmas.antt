@@ -84,7 +84,7 @@ live_count-step ps i d one h is =
 
 -- a piece that is taken or given back
 pub is-tree-set : (t : Numbered) (ps : List Piece) (spent i : ℕ) (old new : Piece) → HasPieces t ps spent → slice_get ps i ≡ Some old → live_one (Some old) ≡ live_one (Some new) → HasPieces t (set ps i new) spent
-is-tree-set t ps spent i old new h at e = record { spent_is = h.spent_is; open_is = λ m. h.open_is m ∙ sym (live-set ps i old new m at e); count_is = (let was = h.count_is in let set_is = live_count-set ps i old new at in omega (arith, was, set_is, e)) }
+is-tree-set t ps spent i old new h at e = record { nodes_is = h.nodes_is; open_is = λ m. h.open_is m ∙ sym (live-set ps i old new m at e); count_is = (let was = h.count_is in let set_is = live_count-set ps i old new at in omega (arith, was, set_is, e)) }
 
 pub length-set' : (ps : List Piece) (i : ℕ) (new : Piece) → length (set ps i new) ≡ length ps
 length-set' [] i new = refl
@@ -95,6 +95,21 @@ pub within : (ps : List Piece) (i : ℕ) (old : Piece) → slice_get ps i ≡ So
 within [] i old h = absurd (cc)
 within (p ∷ ps) zero old h = omega arith
 within (p ∷ ps) (suc i) old h = let rest = within ps i old h in omega arith
+
+-- the pieces of a tree that a search is given
+pub pieces-given : (given : Shape) → HasPieces (numbered 0 given) (replicate (open_count given) Free) (node_count given + 0)
+pieces-given given = record {
+  nodes_is = (let size = size-numbered 0 given in omega (arith, size));
+  open_is = given-at;
+  count_is = (let all = gaps-numbered 0 given in let free = live_count-free [] (open_count given) in omega (arith, all, free));
+}
+  where
+    given-at : (m : ℕ) → times m (numbered 0 given) ≡ live (replicate (open_count given) Free) m
+    given-at m =
+        (elim (ltb m (open_count given)) as (λ b. ltb m (open_count given) ≡ b → times m (numbered 0 given) ≡ live (replicate (open_count given) Free) m) [
+          | true ↦ λ low. let less = ltb-true m (open_count given) low in times-mid 0 given m (omega arith) (omega (arith, less)) ∙ sym (live-free (open_count given) m less)
+          | false ↦ λ high. let more = ltb-false m (open_count given) high in times-high 0 given m (omega (arith, more)) ∙ sym (live-none (open_count given) m more)
+        ]) refl
 
 -- a piece that is reported
 module _ (t : Numbered) (ps : List Piece) (spent i : ℕ) (old : Piece) (tree : Shape) (h : HasPieces t ps spent) (at : slice_get ps i ≡ Some old) (one : live_one (Some old) ≡ 1) where
@@ -154,7 +169,7 @@ module _ (t : Numbered) (ps : List Piece) (spent i : ℕ) (old : Piece) (tree : 
   pub is-tree-report : HasPieces (plug i sub t) rest (spent + node_count tree)
   is-tree-report =
       let all = size-plug i sub t in let size = size-numbered (length ps) tree in
-      record { spent_is = (let was = h.spent_is in grind (arith, all, size, once, was)); open_is = reported-at; count_is = count-report }
+      record { nodes_is = (let was = h.nodes_is in grind (arith, all, size, once, was)); open_is = reported-at; count_is = count-report }
 
 pub grown-push : (t : Numbered) (rs : List Report) (r : Report) → grown t (rs ++ r ∷ []) ≡ plug r.piece (numbered r.first (shape_of r.tree)) (grown t rs)
 grown-push t [] r = refl

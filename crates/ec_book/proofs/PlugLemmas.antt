@@ -71,16 +71,27 @@ abbrev mutual
   AllBelow c (next t ts) = Below c t × AllBelow c ts
 
 -- filling a filled shape
-module _ (f g h : ℕ → Numbered) (c : ℕ) (each : (m : ℕ) → m < c → f m ≡ fill g (h m)) where
+module _ (f g h : ℕ → Numbered) (each : (m : ℕ) → f m ≡ fill g (h m)) where
   mutual
-    pub fill-fill : (t : Numbered) → Below c t → fill f t ≡ fill g (fill h t)
-    fill-fill (branch ts) b = ap branch (fills-fills ts b)
-    fill-fill (closed l) b = refl
-    fill-fill (gap n) b = each n b
+    pub fill-fill : (t : Numbered) → fill f t ≡ fill g (fill h t)
+    fill-fill (branch ts) = ap branch (fills-fills ts)
+    fill-fill (closed l) = refl
+    fill-fill (gap n) = each n
 
-    fills-fills : (ts : Numbereds) → AllBelow c ts → fills f ts ≡ fills g (fills h ts)
-    fills-fills last b = refl
-    fills-fills (next t ts) b = (λ j. next (fill-fill t b.0 j) (fills-fills ts b.1 j))
+    fills-fills : (ts : Numbereds) → fills f ts ≡ fills g (fills h ts)
+    fills-fills last = refl
+    fills-fills (next t ts) = (λ j. next (fill-fill t j) (fills-fills ts j))
+
+-- the same numbers at the open leaves
+mutual
+  pub fill-gap : (t : Numbered) → fill (λ m. gap m) t ≡ t
+  fill-gap (branch ts) = ap branch (fills-gap ts)
+  fill-gap (closed l) = refl
+  fill-gap (gap n) = refl
+
+  fills-gap : (ts : Numbereds) → fills (λ m. gap m) ts ≡ ts
+  fills-gap last = refl
+  fills-gap (next t ts) = (λ j. next (fill-gap t j) (fills-gap ts j))
 
 module _ (h : ℕ → Numbered) (c d : ℕ) (each : (m : ℕ) → m < c → Below d (h m)) where
   mutual

@@ -1,7 +1,8 @@
 -- Books of a search.
-use Rattle.std.specs.Prelude.{◌≡◌, ℕ, List}
+use Rattle.std.specs.Prelude.{◌≡◌, ℕ, List, Option}
 use Rattle.ec_units.specs.declared.unit.Unit.{Unit as SyncUnit}
 use Rattle.ec_units.specs.Load.{loads_of}
+use Rattle.ec_loads.specs.Shape.{Shape}
 use Rattle.ec_book.specs.Views.{BookView}
 
 -- a book for these units and this order of them
@@ -10,8 +11,15 @@ pub record IsBookOf (us : List SyncUnit) (n : ℕ) (order : List ℕ) (b : BookV
   pub slots_is : b.slots ≡ n
   pub order_is : b.order ≡ order
 
--- two books for the same units and order
+-- a book whose search was given this tree and this value
+pub record BeganWith (given : Shape) (value : Option ℕ) (b : BookView) : Type 0 where
+  pub given_is : b.given ≡ given
+  pub value_is : b.given_value ≡ value
+
+-- two books for the same units and order, whose searches were given the same
 pub record IsSameSearch (a b : BookView) : Type 0 where
   pub loads_is : b.loads ≡ a.loads
   pub slots_is : b.slots ≡ a.slots
   pub order_is : b.order ≡ a.order
+  pub given_is : b.given ≡ a.given
+  pub value_is : b.given_value ≡ a.given_value

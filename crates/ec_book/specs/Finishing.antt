@@ -1,11 +1,11 @@
 -- What a finished book gives.
-use Rattle.std.specs.Prelude.{◌≡◌, ◌+◌}
+use Rattle.std.specs.Prelude.{◌≡◌, ℕ, ◌+◌}
 use Rattle.ec_loads.specs.Held.{no_places}
 use Rattle.ec_loads.specs.Line.{turned_time, line_by}
 use Rattle.ec_loads.specs.Shape.{Shape}
 use Rattle.ec_loads.specs.Search.{IsTree, IsPartialTree, node_count, open_count}
 use Rattle.ec_cert.specs.Shapes.{shape_of}
-use Rattle.ec_book.specs.Numbered.{Numbered, plain, NumberedTree}
+use Rattle.ec_book.specs.Numbered.{Numbered, numbered, draw, plain, NumberedTree}
 use Rattle.ec_book.specs.Open.{StandsAt}
 use Rattle.ec_book.specs.Grown.{HasPieces}
 use Rattle.ec_cert.specs.BestPlan.{value_of, IsBestPlan}
@@ -16,11 +16,15 @@ use Rattle.ec_book.specs.Views.{BookView, state_of, opening, given_nodes}
 -- the tree's open leaves can be numbered so that they are just the free and taken pieces, each once and at its prefix, where the closed leaves hold at the value
 abbrev pub ShowsPieces : BookView → Shape → Type 0
 ShowsPieces b shape =
-    (t : Numbered) × (shape ≡ plain t) × HasPieces t b.pieces b.spent
+    (t : Numbered) × (shape ≡ plain t) × HasPieces t b.pieces (given_nodes b + b.spent)
     × NumberedTree (StandsAt b.loads b.order b.prefixes) (line_by turned_time b.loads b.slots) (value_of b.best) t (no_places b.loads) b.order
 
+-- the tree is the given one with some tree in place of each of its open leaves
+abbrev pub GrowsFrom : Shape → Shape → Type 0
+GrowsFrom given shape = (f : ℕ → Shape) × (shape ≡ draw f (numbered 0 given))
+
 -- what comes of a book: its best plan, its nodes and its log; and a tree that holds at the value, with as many open leaves as pieces are free or taken, and without
--- one a whole tree
+-- one a whole tree, which goes on from the tree that the search was given
 pub record IsFinishedOf (b : BookView) (f : Finished) : Type 0 where
   pub best : f.best ≡ b.best
   pub legal : IsBestPlan b.loads b.slots f.best
@@ -33,3 +37,4 @@ pub record IsFinishedOf (b : BookView) (f : Finished) : Type 0 where
   pub log : f.log ≡ b.log
   pub history : IsHistory b.nodes (opening b) f.log (state_of b)
   pub replayed : replay (opening b) f.log ≡ state_of b
+  pub extends : GrowsFrom b.given (shape_of f.tree)

@@ -26,7 +26,7 @@ shape_at (t ∷ ts) zero = shape_of t
 shape_at (t ∷ ts) (suc m) = shape_at ts m
 
 -- the tree has that many nodes, and its open leaves are the free and taken pieces, each once
-pub record HasPieces (t : Numbered) (pieces : List Piece) (spent : ℕ) : Type 0 where
-  pub spent_is : size t ≡ spent
+pub record HasPieces (t : Numbered) (pieces : List Piece) (nodes : ℕ) : Type 0 where
+  pub nodes_is : size t ≡ nodes
   pub open_is : (m : ℕ) → times m t ≡ live pieces m
   pub count_is : gaps t ≡ live_count pieces

@@ -3,6 +3,8 @@ use Rattle.std.specs.Prelude.{◌≡◌, ◌≢◌, ℕ, ◌+◌, ◌<◌, ◌�
 use Rattle.ec_units.specs.declared.slave.Place.{Place}
 use Rattle.ec_loads.specs.Held.{Held, no_places}
 use Rattle.ec_loads.specs.Line.{turned_time, Line, line_by}
+use Rattle.ec_loads.specs.Search.{node_count, open_count}
+use Rattle.ec_loads.specs.Shape.{Shape}
 use Rattle.ec_cert.specs.declared.cert.Best.{Best}
 use Rattle.ec_cert.specs.BestPlan.{value_of, IsBestPlan}
 use Rattle.ec_symmetry.specs.Orders.{IsOrder, IsReachedPrefix}
@@ -10,8 +12,8 @@ use Rattle.ec_book.specs.declared.step.Step.{Step}
 use Rattle.ec_book.specs.declared.piece.Piece.{Piece}
 use Rattle.ec_book.specs.declared.piece.Piece.TheVariants.{Free}
 use Rattle.ec_book.specs.declared.report.Report.{Report}
-use Rattle.ec_book.specs.Steps.{start, granted, taken_count, IsHistory}
-use Rattle.ec_book.specs.Numbered.{gap, NumberedTree}
+use Rattle.ec_book.specs.Steps.{PiecesState, start, granted, taken_count, IsHistory}
+use Rattle.ec_book.specs.Numbered.{numbered, NumberedTree}
 use Rattle.ec_book.specs.Open.{StandsAt}
 use Rattle.ec_book.specs.Grown.{grown, Chain, HasPieces}
 
@@ -25,9 +27,9 @@ pub record IsFor (held : Held) (order : List ℕ) (best : Option Best) : Type 0 
   pub empty : held.places ≡ no_places held.loads
   pub best_is : IsBestPlan held.loads held.slots best
 
--- the pieces and what is counted of them; `low` is a number below which none is free, `room` how long the log can grow without memory
-pub record IsCounted (nodes : ℕ) (pieces : List Piece) (value : Option ℕ) (spent held taken low : ℕ) (log : List Step) (room : ℕ) : Type 0 where
-  pub history : IsHistory nodes start log (record { pieces = pieces; value = value; spent = spent })
+-- the pieces and what is counted of them, since the state `from`; `low` is a number below which none is free, `room` how long the log can grow without memory
+pub record IsCounted (from : PiecesState) (nodes : ℕ) (pieces : List Piece) (value : Option ℕ) (spent held taken low : ℕ) (log : List Step) (room : ℕ) : Type 0 where
+  pub history : IsHistory nodes from log (record { pieces = pieces; value = value; spent = spent })
   pub held_is : held ≡ granted pieces
   pub within : spent + held ≤ nodes
   pub taken_is : taken ≡ taken_count pieces
@@ -35,16 +37,16 @@ pub record IsCounted (nodes : ℕ) (pieces : List Piece) (value : Option ℕ) (s
   pub low_is : NoneFreeBelow pieces low
   pub low_in : low ≤ length pieces
 
--- the tree that the reports made, whose open leaves are the pieces that are free or taken
-pub record IsGrown (line : Line) (order : List ℕ) (pieces : List Piece) (prefixes : List (List Place)) (reports : List Report) (value : Option ℕ) (spent : ℕ) : Type 0 where
-  pub chain : Chain 1 reports (length pieces)
+-- the tree that the reports made of the given one, whose open leaves are the pieces that are free or taken
+pub record IsGrown (given : Shape) (line : Line) (order : List ℕ) (pieces : List Piece) (prefixes : List (List Place)) (reports : List Report) (value : Option ℕ) (spent : ℕ) : Type 0 where
+  pub chain : Chain (open_count given) reports (length pieces)
   pub each : length prefixes ≡ length pieces
   pub reached : All (IsReachedPrefix line order) prefixes
-  pub pieces_are : HasPieces (grown (gap 0) reports) pieces spent
-  pub tree : NumberedTree (StandsAt line.loads order prefixes) line value (grown (gap 0) reports) (no_places line.loads) order
+  pub pieces_are : HasPieces (grown (numbered 0 given) reports) pieces (node_count given + spent)
+  pub tree : NumberedTree (StandsAt line.loads order prefixes) line value (grown (numbered 0 given) reports) (no_places line.loads) order
 
 pub record IsKept (held : Held) (order : List ℕ) (nodes : ℕ) (pieces : List Piece) (prefixes : List (List Place)) (reports : List Report) (best : Option Best)
-    (spent granted taken low : ℕ) (log : List Step) (room : ℕ) : Type 0 where
+    (spent granted taken low : ℕ) (log : List Step) (given : Shape) (given_value : Option ℕ) (room : ℕ) : Type 0 where
   pub for : IsFor held order best
-  pub counted : IsCounted nodes pieces (value_of best) spent granted taken low log room
-  pub grown : IsGrown (line_by turned_time held.loads held.slots) order pieces prefixes reports (value_of best) spent
+  pub counted : IsCounted (start given given_value) nodes pieces (value_of best) spent granted taken low log room
+  pub grown : IsGrown given (line_by turned_time held.loads held.slots) order pieces prefixes reports (value_of best) spent

@@ -8,3 +8,4 @@ pub mod Faults
 pub mod Finishing
 pub mod Laws
 pub mod Books
+pub mod ShapeCode

@@ -1,5 +1,7 @@
 -- The machine of pieces: what may happen, and what is then.
 use Rattle.std.specs.Prelude.{◌≡◌, ℕ, ◌+◌, ◌<◌, ◌≤◌, List, [], ◌∷◌, ◌++◌, length, set, slice_get, replicate, Option, Some, None}
+use Rattle.ec_loads.specs.Shape.{Shape}
+use Rattle.ec_loads.specs.Search.{open_count}
 use Rattle.ec_book.specs.declared.step.Step.{Step}
 use Rattle.ec_book.specs.declared.step.Step.TheVariants.{Took, Reported, Better, Back}
 use Rattle.ec_book.specs.declared.piece.Piece.{Piece}
@@ -11,9 +13,9 @@ pub record PiecesState : Type 0 where
   pub value : Option ℕ
   pub spent : ℕ
 
--- one free piece, no value, nothing spent
-abbrev pub start : PiecesState
-start = record { pieces = Free ∷ []; value = None; spent = 0 }
+-- a free piece for each open leaf of the tree that is given, and its value; nothing spent. From an open leaf without a value that is one piece
+abbrev pub start : Shape → Option ℕ → PiecesState
+start given value = record { pieces = replicate (open_count given) Free; value = value; spent = 0 }
 
 abbrev pub grant_of : Piece → ℕ
 grant_of Free = 0

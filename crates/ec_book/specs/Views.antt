@@ -2,6 +2,8 @@
 use Rattle.std.specs.Prelude.{ℕ, ◌+◌, List, [], ◌∷◌, ◌++◌, length, set, replicate, Option, Some}
 use Rattle.ec_units.specs.declared.slave.Place.{Place}
 use Rattle.ec_units.specs.declared.unit.Load.{Load}
+use Rattle.ec_loads.specs.Shape.{Shape}
+use Rattle.ec_loads.specs.Search.{node_count}
 use Rattle.ec_cert.specs.declared.cert.Best.{Best}
 use Rattle.ec_cert.specs.BestPlan.{value_of}
 use Rattle.ec_book.specs.declared.step.Step.{Step}
@@ -11,7 +13,7 @@ use Rattle.ec_book.specs.declared.piece.Piece.TheVariants.{Free, Taken, Ended}
 use Rattle.ec_book.specs.Steps.{PiecesState, start}
 
 -- the units' loads and the slot count, the order of the units, the nodes that may be spent; the pieces by their numbers and the places that lead to each;
--- the best plan; the nodes spent; what happened
+-- the best plan; the nodes spent; what happened; the tree that the search was given, an open leaf where it began afresh, and the value that it was given
 pub record BookView : Type 0 where
   pub loads : List Load
   pub slots : ℕ
@@ -22,21 +24,23 @@ pub record BookView : Type 0 where
   pub best : Option Best
   pub spent : ℕ
   pub log : List Step
+  pub given : Shape
+  pub given_value : Option ℕ
 
-abbrev pub book_view : List Load → ℕ → List ℕ → ℕ → List Piece → List (List Place) → Option Best → ℕ → List Step → BookView
-book_view loads slots order nodes pieces prefixes best spent log =
-    record { loads = loads; slots = slots; order = order; nodes = nodes; pieces = pieces; prefixes = prefixes; best = best; spent = spent; log = log }
+abbrev pub book_view : List Load → ℕ → List ℕ → ℕ → List Piece → List (List Place) → Option Best → ℕ → List Step → Shape → Option ℕ → BookView
+book_view loads slots order nodes pieces prefixes best spent log given given_value =
+    record { loads = loads; slots = slots; order = order; nodes = nodes; pieces = pieces; prefixes = prefixes; best = best; spent = spent; log = log; given = given; given_value = given_value }
 
 abbrev pub state_of : BookView → PiecesState
 state_of b = record { pieces = b.pieces; value = value_of b.best; spent = b.spent }
 
 -- how a book's search began, before its log
 abbrev pub opening : BookView → PiecesState
-opening b = start
+opening b = start b.given b.given_value
 
 -- the nodes of the tree that a book's search was given
 abbrev pub given_nodes : BookView → ℕ
-given_nodes b = 0
+given_nodes b = node_count b.given
 
 -- the piece is taken, and that is written down
 abbrev pub after_took : BookView → ℕ → ℕ → ℕ → BookView

@@ -2,8 +2,10 @@
 
 ghost use Rattle.std.specs.Prelude.{◌≡◌, ◌≢◌, ℕ, ◌==◌, IsTrue, MatchBool, ◌+◌, ◌<◌, ◌≤◌, ◌^◌, ◌++◌, ◌∷◌, [], IfOk, IfSome, IfErr, OnOk, OnErr, OnSome, IsSome, IfNone, ◌↔◌, MatchOption, None, Some, length, slice_get, replicate, drop, vec_capacity, vec_len};
 ghost use Rattle.ec_units.specs.Load.{loads_of};
+ghost use Rattle.ec_loads.specs.Held.{no_places};
 ghost use Rattle.ec_loads.specs.Line.{turned_time, line_by};
-ghost use Rattle.ec_loads.specs.Search.{IsPartialTree, node_count as node_count_of};
+ghost use Rattle.ec_loads.specs.Shape.{open_leaf};
+ghost use Rattle.ec_loads.specs.Search.{IsPartialTree, open_count, node_count as node_count_of};
 ghost use Rattle.ec_cert.specs.Shapes.{shape_of};
 ghost use Rattle.ec_symmetry.specs.Orders.{IsOrder, prefix_of};
 ghost use Rattle.ec_book.specs.declared.piece.Piece.TheVariants.{Free};
@@ -23,20 +25,22 @@ use crate::counted::Counted;
 use crate::fault::BookFault;
 use crate::finish::{assembled, open_leaves};
 use crate::judge::{grant_of, judged};
+use crate::open::opened_by;
 use crate::piece::Piece;
 use crate::plans::{not_below, plan_cost};
 use crate::report::Report;
 use crate::step::{Step, Steps};
 use crate::taken::{Taken, Took};
-use ec_cert::{Best, Subtree, Tree};
+use ec_cert::{Best, Cert, Subtree, Tree, copy_of};
 use ec_loads::{Illegal, Loads, Places, Plan};
 use ec_units::{Load, Place, Units};
 use std::alloc::{AllocError, Global};
 use std::marker::Model;
 
 /// The book of a search (own profile): its pieces by their numbers, the subtrees that were reported, the best plan
-/// so far, and a log of all that happened. Piece 0 is the empty prefix; the open leaves of a reported subtree
-/// become pieces with the next numbers, in preorder.
+/// so far, and a log of all that happened. At first the pieces are the open leaves of the tree that the search was
+/// given, in preorder from 0; a search that begins afresh was given an open leaf, so its piece 0 is the empty prefix.
+/// The open leaves of a reported subtree become pieces with the next numbers, in preorder.
 ///
 /// It keeps the allocator that it was made with.
 #[derive(Drop)]
@@ -53,22 +57,29 @@ pub struct Book {
     taken: usize,
     low: usize,
     log: Vec<Step>,
+    given: Tree,
+    given_value: Option<u64>,
 }
 
 impl Model for Book {
     ghost use Rattle.std.specs.Prelude.{vec_capacity};
+    ghost use Rattle.std.specs.Coded.{codes};
+    ghost use Rattle.ec_cert.specs.Shapes.{shape_of};
+    ghost use Rattle.ec_book.specs.ShapeCode.{shape_code};
     ghost use Rattle.ec_book.specs.Views.{BookView, book_view};
     ghost use Rattle.ec_book.specs.Kept.{IsKept};
 
     ghost Value = { BookView };
 
-    ghost view = { λ b. book_view b.loads.loads b.loads.slots b.order.items b.nodes b.pieces.items b.prefixes.items b.best b.spent b.log.items };
+    ghost coded = { Prim.hlevel (codes, shape_code) };
 
-    ghost invariant = { λ b. IsKept b.loads b.order.items b.nodes b.pieces.items b.prefixes.items b.reports.items b.best b.spent b.held b.taken b.low b.log.items (vec_capacity b.log) };
+    ghost view = { λ b. book_view b.loads.loads b.loads.slots b.order.items b.nodes b.pieces.items b.prefixes.items b.best b.spent b.log.items (shape_of b.given) b.given_value };
+
+    ghost invariant = { λ b. IsKept b.loads b.order.items b.nodes b.pieces.items b.prefixes.items b.reports.items b.best b.spent b.held b.taken b.low b.log.items (shape_of b.given) b.given_value (vec_capacity b.log) };
 }
 
-/// A finished search: the best plan, if one is known, the tree that its reports make, where free and taken pieces
-/// are open leaves, its nodes, and what happened.
+/// A finished search: the best plan, if one is known, the tree that its reports make of the tree that it was given,
+/// where free and taken pieces are open leaves, the nodes that the reports have split and closed, and what happened.
 #[derive(Drop)]
 pub struct Finished {
     pub best: Option<Best>,
@@ -122,6 +133,22 @@ fn value_in(best: &Option<Best>) -> Option<u64>
     }
 }
 
+/// The same best plan once more.
+fn copy_of_best(alloc: Global, best: &Option<Best>) -> Result<Option<Best>, AllocError>
+    ensures { IfOk result (λ copy. copy ≡ best.now) }
+{
+    let Some(best) = best else {
+        return Ok(None);
+    };
+    let places = Vec::from_slice(alloc, best.plan.places.as_slice())?;
+    Ok(Some(Best {
+        busiest: best.busiest,
+        plan: Plan {
+            places: Places::new(places),
+        },
+    }))
+}
+
 /// Takes in the places that lead to new pieces, and makes room for these and for one more report; gives how many they
 /// are. Where the places aren't known or memory is refused they come back, and the lists are as before.
 fn add_opened(
@@ -167,7 +194,7 @@ impl Book {
     /// the empty prefix, is free.
     pub fn new(alloc: Global, units: &Units, order: &[u8], nodes: u64) -> Result<Book, AllocError>
         requires { IsOrder (length units.now.units) order.now }
-        ensures { IfOk result (λ b. b ≡ book_view (loads_of units.now.units) units.now.slots order.now nodes (Free ∷ []) ([] ∷ []) None 0 []) }
+        ensures { IfOk result (λ b. b ≡ book_view (loads_of units.now.units) units.now.slots order.now nodes (Free ∷ []) ([] ∷ []) None 0 [] open_leaf None) }
     {
         let loads = Loads::new(alloc, units)?;
         let order = Vec::from_slice(alloc, order)?;
@@ -188,6 +215,44 @@ impl Book {
             taken: 0,
             low: 0,
             log: Vec::new(alloc),
+            given: Tree::OpenLeaf,
+            given_value: None,
+        })
+    }
+
+    /// A book that goes on with the tree of a certificate for these units, where at most so many nodes more may be split
+    /// or closed: its pieces are the open leaves of that tree, in preorder from 0, and its best plan is the
+    /// certificate's. The book has copies of all these.
+    pub fn resume(alloc: Global, units: &Units, cert: &Cert, nodes: u64) -> Result<Book, AllocError>
+        requires order { IsOrder (length units.now.units) cert.now.order }
+        requires best { IsBestPlan (loads_of units.now.units) units.now.slots cert.now.best }
+        requires tree { IsPartialTree (line_by turned_time (loads_of units.now.units) units.now.slots) (value_of cert.now.best) (shape_of cert.now.tree) (no_places (loads_of units.now.units)) cert.now.order }
+        ensures { IfOk result (λ b. b ≡ book_view (loads_of units.now.units) units.now.slots cert.now.order nodes (replicate (open_count (shape_of cert.now.tree)) Free)
+            (open_places (line_by turned_time (loads_of units.now.units) units.now.slots) cert.now.order (shape_of cert.now.tree) []) cert.now.best 0 [] (shape_of cert.now.tree) (value_of cert.now.best)) }
+    {
+        let loads = Loads::new(alloc, units)?;
+        let order = Vec::from_slice(alloc, cert.order.as_slice())?;
+        let best = copy_of_best(alloc, &cert.best)?;
+        let given = copy_of(alloc, &cert.tree)?;
+        let prefixes = opened_by(alloc, &loads, order.as_slice(), &[], &given)?;
+        let mut pieces = Vec::with_capacity(alloc, prefixes.len())?;
+        add_free(&mut pieces, prefixes.len());
+        let given_value = value_in(&best);
+        Ok(Book {
+            loads,
+            order,
+            nodes,
+            pieces,
+            prefixes,
+            reports: Vec::new(alloc),
+            best,
+            spent: 0,
+            held: 0,
+            taken: 0,
+            low: 0,
+            log: Vec::new(alloc),
+            given,
+            given_value,
         })
     }
 
@@ -519,7 +584,7 @@ impl Book {
             Ok(built) => built,
             Err(error) => return Err((self, error)),
         };
-        let tree = assembled(self.reports, built);
+        let tree = assembled(self.given, self.reports, built);
         Ok(Finished {
             best: self.best,
             tree,

@@ -1,9 +1,10 @@
 //! The tree that the reports make.
 
 ghost use Rattle.std.specs.Prelude.{◌≡◌, ◌≤◌, IfOk, length, replicate};
+ghost use Rattle.ec_loads.specs.Search.{open_count};
 ghost use Rattle.ec_cert.specs.Shapes.{shape_of};
 ghost use Rattle.ec_cert.specs.declared.tree.Tree.{OpenLeaf};
-ghost use Rattle.ec_book.specs.Numbered.{gap, draw};
+ghost use Rattle.ec_book.specs.Numbered.{numbered, draw};
 ghost use Rattle.ec_book.specs.Grown.{Chain, grown, shape_at};
 
 use crate::report::Report;
@@ -23,10 +24,10 @@ pub(crate) fn open_leaves(alloc: Global, count: usize) -> Result<Vec<Tree>, Allo
     Ok(built)
 }
 
-/// The tree that the reports make, from the last one to the first.
-pub(crate) fn assembled(reports: Vec<Report>, built: Vec<Tree>) -> Tree
-    requires { Chain 1 reports.items (length built.items) }
-    ensures { shape_of result ≡ draw (shape_at built.items) (grown (gap 0) reports.items) }
+/// The tree that the reports make of the given one, from the last report to the first.
+pub(crate) fn assembled(given: Tree, reports: Vec<Report>, built: Vec<Tree>) -> Tree
+    requires { Chain (open_count (shape_of given)) reports.items (length built.items) }
+    ensures { shape_of result ≡ draw (shape_at built.items) (grown (numbered 0 (shape_of given)) reports.items) }
 {
     let mut reports = reports;
     let mut built = built;
@@ -35,8 +36,5 @@ pub(crate) fn assembled(reports: Vec<Report>, built: Vec<Tree>) -> Tree
         let sub = filled(tree, &mut built);
         built[piece] = sub;
     }
-    match built.pop() {
-        Some(tree) => tree,
-        None => unreachable!(),
-    }
+    filled(given, &mut built)
 }

@@ -1,5 +1,5 @@
 -- A leaf that holds bounds every legal plan that extends its prefix, and holds at each smaller value.
-use Rattle.std.proofs.Common.{◌≡◌, ℕ, ◌*◌, ◌≤◌, List, map, Option, Some, None, refl, subst, arith, le_trans}
+use Rattle.std.proofs.Common.{ℕ, ◌*◌, ◌≤◌, List, map, Option, Some, arith, le_trans}
 use Rattle.std.proofs.Math.Nat.{mul-le-mul_right}
 use Rattle.ec_hyper.specs.Lcm.{lcm_of}
 use Rattle.ec_units.specs.declared.slave.Place.{Place}
@@ -8,7 +8,7 @@ use Rattle.ec_units.specs.Load.{periods_of}
 use Rattle.ec_loads.specs.Cost.{plan_items}
 use Rattle.ec_loads.specs.Held.{AreLoads}
 use Rattle.ec_loads.specs.Legal.{IsLegal}
-use Rattle.ec_loads.specs.Search.{Prefix, Extends, TickHolds, FullHolds, AverageHolds, HasTick, IsAtMost}
+use Rattle.ec_loads.specs.Search.{Prefix, Extends, TickHolds, FullHolds, AverageHolds, HasTick}
 use Rattle.ec_loads.specs.Shape.{tick, full, average, weighted}
 use Rattle.ec_bounds.specs.Laws.{LeavesBound, LeavesFall}
 use Rattle.ec_loads.proofs.ItemLemmas.{DivideAll-loads}

@@ -1,7 +1,10 @@
 -- Which units are left, and what they send.
-use Rattle.std.proofs.Common.{◌≡◌, ℕ, ◌+◌, ◌*◌, ◌/◌, ◌%◌, ◌<◌, ◌≤◌, Bool, true, cond, is_none, List, [], ◌∷◌, map, length, take, drop, set, get_or, replicate, Option, Some, None, refl, sym, ap, subst, ◌∙◌, arith, add-one, drop-cons, take_all, length-take}
-use Rattle.std.specs.Prelude.{IsTrue, nat_lt, ◌↔◌}
+use Rattle.std.proofs.Common.{◌≡◌, ℕ, ◌+◌, ◌*◌, ◌/◌, ◌%◌, ◌<◌, ◌≤◌, Bool, true, cond, is_none, List, [], ◌∷◌, map, length, take, drop, set, get_or, replicate, Option, Some, None, refl, sym, ap, subst, ◌∙◌, arith, add-one, drop-cons, take_all, length-take, inl, inr}
+use Rattle.std.specs.Prelude.{IsTrue, nat_lt, min, ◌↔◌}
+use Rattle.std.proofs.Math.Nat.{mul-le-mul_right}
+use Rattle.std.proofs.lemmas.Bool.{cases_lt}
 use Rattle.std.proofs.lemmas.Bool.Decides.{nat_tests}
+use Rattle.std.proofs.lemmas.Grind.{div_ceil_times}
 use Rattle.std.proofs.Math.Seq.{take-set-lt}
 use Rattle.std.proofs.lemmas.List.{take-replicate}
 use Rattle.ec_units.specs.declared.unit.Load.{Load}
@@ -65,6 +68,33 @@ average-iff val v p q x h total is pv qh xt = (
       let same : found.0 ≡ v = some_same (sym found.1 ∙ is) in
       below_to (p * q) x (subst (λ (w : ℕ). p * q < w) (sym xt) (subst (λ (w : ℕ). w < total + h) (sym (λ i. pv i * qh i)) (subst (λ (w : ℕ). w * h < total + h) same found.2))),
 )
+
+-- a product with h that is below the total and h has a factor of at most r, where r of them hold the total
+not_above : (b r h total : ℕ) → total ≤ r * h → b * h < total + h → b ≤ r
+not_above b r h total low below = elim (cases_lt r b) [
+  | inr most ↦ most
+  | inl more ↦
+      let times : (r + 1) * h ≤ b * h = mul-le-mul_right h (omega (arith, more)) in
+      let step : (r + 1) * h ≡ r * h + h = grind arith in
+      absurd (omega (arith, times, step, low, below))
+]
+
+-- the values at which the average holds, where r of them for each tick hold the bytes and fewer don't
+pub average-most : (b r h total : ℕ) → total ≤ r * h → r * h < total + h → ((b ≤ r) ↔ ((a : ℕ) × (Some b ≡ Some a) × (a * h < total + h)))
+average-most b r h total low high = (
+  λ most. let times : b * h ≤ r * h = mul-le-mul_right h most in (b, refl, omega (arith, times, high)),
+  λ (found : (a : ℕ) × (Some b ≡ Some a) × (a * h < total + h)).
+      let same : b ≡ found.0 = some_same found.1 in
+      let below : b * h < total + h = subst (λ w. w * h < total + h) (sym same) found.2 in
+      not_above b r h total low below,
+)
+
+-- so many rounded up
+pub ceil-most : (b bytes q r h total : ℕ) → bytes ≡ total → q ≡ h → 0 < h → r ≡ bytes / q + min 1 (bytes % q) → ((b ≤ r) ↔ ((a : ℕ) × (Some b ≡ Some a) × (a * h < total + h)))
+ceil-most b bytes q r h total all each pos is =
+    let up : r ≡ total / h + min 1 (total % h) = is ∙ (λ i. all i / each i + min 1 (all i % each i)) in
+    let times = div_ceil_times total h pos in
+    average-most b r h total (subst (λ w. total ≤ w * h) (sym up) times.0) (subst (λ w. w * h < total + h) (sym up) times.1)
 
 -- what the loop over all units made
 pub table-done : (all us : List SyncUnit) (xs : List Load) (i : ℕ) → all ≡ us → length all ≤ i → i ≤ length all → take i xs ≡ loads_of (take i all) → take (length all) xs ≡ loads_of us

@@ -1,16 +1,14 @@
 -- Weighted sums over a hyperperiod, and what weights that hold show of the plans that extend a prefix.
 use Rattle.std.proofs.Common.{◌≡◌, ℕ, zero, suc, ◌+◌, ◌-◌, ◌*◌, ◌%◌, ◌<◌, ◌≤◌, ◌==◌, cond, min, Bool, true, false, is_none, List, [], ◌∷◌, map, length, get_or, All, Option, Some, None, refl, sym, ap, ◌∙◌, subst, arith, inl, inr, mul_comm, mul-add, suc-mul, mul-zero, mul-le-mul_left, add-one, add-zero, drop, drop-cons, mod-eq_of_lt}
 use Rattle.std.specs.Prelude.{IsTrue, nat_lt, ◌↔◌}
-use Rattle.std.proofs.lemmas.Bool.{cases_lt, cases_eq, eq-eqb, ne_eqb}
+use Rattle.std.proofs.lemmas.Bool.{cases_eq, eq-eqb, ne_eqb}
 use Rattle.std.proofs.lemmas.List.{get_or_past}
 use Rattle.std.proofs.lemmas.List.Elements.{All-head, All-tail}
 use Rattle.std.proofs.Math.Nat.{mul-le-mul_right}
-use Rattle.std.proofs.lemmas.Nat.{mod_below}
 use Rattle.ec_hyper.specs.Lcm.{lcm_of}
 use Rattle.ec_units.specs.declared.slave.Place.{Place}
 use Rattle.ec_units.specs.declared.unit.Load.{Load}
 use Rattle.ec_units.specs.Load.{periods_of}
-use Rattle.ec_loads.specs.declared.item.Item.{Item}
 use Rattle.ec_loads.specs.Cost.{items, plan_items, sum_below, tick_cost, raw_cost}
 use Rattle.ec_loads.specs.Legal.{IsLegal}
 use Rattle.ec_loads.specs.Search.{Prefix, Extends, free, same, HasTick, IsAtMost}
@@ -18,7 +16,7 @@ use Rattle.ec_loads.specs.Weights.{weight_of, total_weight, weight_at, least_bel
 use Rattle.ec_loads.proofs.CellLemmas.{one_remainder}
 use Rattle.ec_bounds.specs.Left.{weighted_left}
 use Rattle.ec_bounds.proofs.SubLemmas.{Sub-items, All-Sub, sum_below-le, below_some}
-use Rattle.ec_bounds.proofs.AverageLemmas.{sum_below-add, sum_below-agree, sum_below-none, sum_below-split, sends, moved, heads, heads-Sub, raw_cost-parts, raw_cost-le, above_or_all}
+use Rattle.ec_bounds.proofs.AverageLemmas.{sum_below-add, sum_below-agree, sum_below-none, sum_below-split, sends, moved, heads-Sub, raw_cost-parts, raw_cost-le, above_or_all}
 use Rattle.ec_bounds.proofs.LeftLemmas.{some_same, below_from, below_to}
 
 -- sums

@@ -1,7 +1,6 @@
 -- What a leaf that holds means for the plans that extend its prefix, and for smaller values.
 use Rattle.std.specs.Prelude.{ℕ, ◌<◌, ◌≤◌, List, map, Option, Some}
 use Rattle.ec_units.specs.declared.slave.Place.{Place}
-use Rattle.ec_units.specs.declared.unit.Load.{Load}
 use Rattle.ec_loads.specs.declared.item.Item.{Item}
 use Rattle.ec_loads.specs.Cost.{raw_cost, tick_cost}
 use Rattle.ec_loads.specs.Held.{Held, AreLoads}

@@ -1,4 +1,4 @@
-//! The bounds themselves; none takes memory.
+//! The bounds themselves, and the greatest value at which the average holds; none takes memory.
 
 ghost use Rattle.std.specs.Prelude.{◌≡◌, ℕ, ◌<◌, ◌≤◌, ◌↔◌, IsTrue, MatchOption, None, Some};
 ghost use Rattle.ec_loads.specs.Search.{TickHolds, FullHolds, AverageHolds};
@@ -36,4 +36,13 @@ pub fn average_bound(loads: &Loads, rest: &Rest, value: Option<u64>) -> bool
     let ticks = u128::from(loads.ticks());
     let bytes = u128::from(loads.raw_total()) + u128::from(rest.demand());
     u128::from(value) * ticks < bytes + ticks
+}
+
+/// The greatest value at which the average holds, in bytes: the least whole number that isn't below the bytes of a
+/// hyperperiod, without padding and with those of the units that have no place, for each of its ticks.
+pub fn average_level(loads: &Loads, rest: &Rest) -> u64
+    ensures { IsRestOf rest.now loads.now → (b : ℕ) → ((b ≤ result) ↔ AverageHolds loads.now.loads loads.now.slots (Some b) loads.now.places) }
+{
+    let bytes = loads.raw_total() + rest.demand();
+    bytes.div_ceil(u64::from(loads.ticks()))
 }

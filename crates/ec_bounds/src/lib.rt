@@ -6,7 +6,7 @@ mod law;
 mod rest;
 mod weight;
 
-pub use bound::{average_bound, full_bound, tick_bound};
+pub use bound::{average_bound, average_level, full_bound, tick_bound};
 pub use law::{leaves_bound, leaves_fall, raw_at_most_cost};
 pub use rest::Rest;
 pub use weight::weight_bound;

@@ -33,7 +33,8 @@ pub record CertView : Type 0 where
   pub units : List UnitLine
   pub order : List ℕ
   pub best : Option Best
+  pub level : Option ℕ
   pub tree : Shape
 
 abbrev pub cert_view : Cert → CertView
-cert_view c = record { version = c.version; slots = c.slots; units = c.units; order = c.order; best = c.best; tree = shape_of c.tree }
+cert_view c = record { version = c.version; slots = c.slots; units = c.units; order = c.order; best = c.best; level = c.level; tree = shape_of c.tree }

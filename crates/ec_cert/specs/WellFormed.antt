@@ -27,7 +27,7 @@ abbrev mutual
   HasLevels version zero s = ⊥
   HasLevels version (suc d) (split ss) = (1 ≤ shape_count ss) × (shape_count ss ≤ 480) × HaveLevels version d ss
   HasLevels version (suc d) (leaf l) = IsLeafLine version l
-  HasLevels version (suc d) open_leaf = ⊥
+  HasLevels version (suc d) open_leaf = 3 ≤ version
 
   pub HaveLevels : ℕ → ℕ → Shapes → Type 0
   HaveLevels version d no_shapes = Unit {0}
@@ -54,10 +54,15 @@ abbrev pub IsBestOrNone : ℕ → Option Best → Type 0
 IsBestOrNone units None = Unit {0}
 IsBestOrNone units (Some b) = IsBest units b
 
+-- certificates of version 3 have a level, which is at most 12304; others have none
+abbrev pub IsLevelLine : ℕ → Option ℕ → Type 0
+IsLevelLine version None = version ≤ 2
+IsLevelLine version (Some level) = (3 ≤ version) × (level ≤ 12304)
+
 -- a certificate that has a text: its parts are in the ranges of the text and of its version, its counts agree, and no node has more than 48 splits above it
 pub record IsWellFormed (c : CertView) : Type 0 where
   pub least_version : 1 ≤ c.version
-  pub most_version : c.version ≤ 2
+  pub most_version : c.version ≤ 3
   pub least_slots : 1 ≤ c.slots
   pub most_slots : c.slots ≤ 8
   pub least_units : 1 ≤ length c.units
@@ -66,4 +71,5 @@ pub record IsWellFormed (c : CertView) : Type 0 where
   pub order_count : length c.order ≡ length c.units
   pub order : All (λ i. i < length c.units) c.order
   pub best : IsBestOrNone (length c.units) c.best
+  pub level : IsLevelLine c.version c.level
   pub tree : HasLevels c.version 49 c.tree

@@ -13,7 +13,8 @@ pub struct Best {
 }
 
 /// A certificate (own profile): for which units, slots and order of the units which tree shows that no legal plan
-/// is better than the best one, or without a best one, that no plan is legal.
+/// is better than the best one, or without a best one, that no plan is legal. One of version 3 is partial: its tree may
+/// have open leaves, and shows no more than that each legal plan has a tick that costs at least the level, in wire bytes.
 #[derive(Debug, Drop)]
 pub struct Cert {
     pub version: u8,
@@ -21,6 +22,7 @@ pub struct Cert {
     pub units: UnitLines,
     pub order: Order,
     pub best: Option<Best>,
+    pub level: Option<u64>,
     pub tree: Tree,
 }
 

@@ -2,6 +2,7 @@
 #![tactic(auto)]
 
 mod cert;
+mod copying;
 mod lists;
 mod order;
 mod ranges;
@@ -9,6 +10,7 @@ mod tree;
 mod weights;
 
 pub use cert::{Best, Cert, Subtree};
+pub use copying::copy_of;
 pub use lists::{UnitLine, UnitLines};
 pub use order::Order;
 pub use ranges::{LEVELS, is_name, well_formed};

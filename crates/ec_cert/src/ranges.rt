@@ -4,7 +4,7 @@ ghost use Rattle.std.specs.Prelude.{◌≡◌, ℕ, ◌<◌, ◌≤◌, ◌↔�
 ghost use Rattle.std.specs.List.{All, list_all};
 ghost use Rattle.ec_units.specs.Names.{is_name as is_name_spec, is_name_byte as is_name_byte_spec};
 ghost use Rattle.ec_cert.specs.Shapes.{shape_of, shapes_of, cert_view};
-ghost use Rattle.ec_cert.specs.WellFormed.{HasLevels, HaveLevels, IsUnitLine, IsPlaceLine, AreWeights, IsBest, IsBestOrNone, IsWellFormed};
+ghost use Rattle.ec_cert.specs.WellFormed.{HasLevels, HaveLevels, IsUnitLine, IsPlaceLine, AreWeights, IsBest, IsBestOrNone, IsLevelLine, IsWellFormed};
 
 use crate::cert::{Best, Cert};
 use crate::lists::UnitLine;
@@ -74,6 +74,16 @@ fn is_best(best: &Best, units: usize) -> bool
     84 <= best.busiest && best.busiest <= 12304 && places.len() == units && are_places(places)
 }
 
+/// Whether certificates of this version have such a level.
+fn is_level(version: u8, level: Option<u64>) -> bool
+    ensures { IsTrue result ↔ IsLevelLine version level }
+{
+    match level {
+        None => version <= 2,
+        Some(level) => 3 <= version && level <= 12304,
+    }
+}
+
 fn is_child_count(count: usize) -> bool
     ensures { IsTrue result ↔ ((1 ≤ count) × (count ≤ 480)) }
 {
@@ -103,7 +113,7 @@ fn has_levels(version: u8, tree: &Tree, levels: u8) -> bool
         Tree::FullLeaf(tick, slot) => *tick <= 1023 && *slot <= 7,
         Tree::Average => true,
         Tree::Weights(weights) => 2 <= version && are_weights(weights.as_slice()),
-        Tree::OpenLeaf => false,
+        Tree::OpenLeaf => 3 <= version,
     }
 }
 
@@ -131,7 +141,7 @@ pub fn well_formed(cert: &Cert) -> bool
         Some(best) => is_best(best, units.len()),
     };
     1 <= cert.version
-        && cert.version <= 2
+        && cert.version <= 3
         && 1 <= cert.slots
         && cert.slots <= 8
         && 1 <= units.len()
@@ -140,5 +150,6 @@ pub fn well_formed(cert: &Cert) -> bool
         && order.len() == units.len()
         && are_below(order, units.len())
         && is_best_right
+        && is_level(cert.version, cert.level)
         && has_levels(cert.version, &cert.tree, LEVELS)
 }

@@ -16,6 +16,6 @@ pub enum Tree {
     /// Closed: some tick costs at least the value, by the average of all with a weight for each tick of the
     /// hyperperiod; no text of version 1 has it.
     Weights(Weights),
-    /// Left open; no text has it.
+    /// Left open; no text before version 3 has it.
     OpenLeaf,
 }

@@ -15,8 +15,8 @@ use Rattle.ec_cert.specs.declared.cert.Best.{Best}
 use Rattle.ec_cert.specs.declared.cert.Cert.{Cert}
 use Rattle.ec_cert.specs.Shapes.{CertView, cert_view}
 use Rattle.ec_cert_text.specs.Reading.{Gives, is_text_byte, reading}
-use Rattle.ec_cert.specs.WellFormed.{IsLeafLine, HasLevels, HaveLevels, IsUnitLine, IsPlaceLine, IsBestOrNone, IsWellFormed}
-use Rattle.ec_cert_text.specs.Text.{version_line, slots_line, unit_line, index_word, order_line, value_line, place_line, best_lines, split_line, leaf_line, node_lines, row_lines, tree_lines, certificate_text}
+use Rattle.ec_cert.specs.WellFormed.{IsLeafLine, HasLevels, HaveLevels, IsUnitLine, IsPlaceLine, IsBestOrNone, IsLevelLine, IsWellFormed}
+use Rattle.ec_cert_text.specs.Text.{version_line, slots_line, unit_line, index_word, order_line, value_line, place_line, best_lines, level_line, split_line, leaf_line, node_lines, row_lines, tree_lines, certificate_text}
 use Rattle.ec_cert_text.proofs.WordLaws.{own, if_err, if_ok}
 use Rattle.ec_cert_text.proofs.ManyLaws.{Rec-from_All}
 use Rattle.ec_cert_text.proofs.TextLaws.{body_found, body_again}
@@ -72,6 +72,10 @@ text-best units None f = refl
 text-best units (Some b) f =
     text-append (value_line b.busiest) _ (text-number b.busiest _ (omega (arith, f.most)) refl) (text-flat_map place_line IsPlaceLine text-place b.plan.places (Rec-from_All IsPlaceLine b.plan.places f.places))
 
+text-level : (version : ℕ) (o : Option ℕ) → IsLevelLine version o → are_text (level_line o) ≡ true
+text-level version None f = refl
+text-level version (Some n) f = text-number n _ (omega (arith, f.1)) refl
+
 text-leaf : (version : ℕ) (l : Leaf) → IsLeafLine version l → are_text (leaf_line l) ≡ true
 text-leaf version (tick t) f = text-number t _ (omega arith) refl
 text-leaf version (full t s) f = text-number t _ (omega (arith, f.0)) (text-number s _ (omega (arith, f.1)) refl)
@@ -83,7 +87,7 @@ mutual
   text-nodes version zero s f = absurd f
   text-nodes version (suc d) (split ss) f = text-append (split_line (shape_count ss)) (row_lines ss) (text-number (shape_count ss) _ (omega (arith, f.1)) refl) (text-row version d ss f.2)
   text-nodes version (suc d) (leaf l) f = text-leaf version l f
-  text-nodes version (suc d) open_leaf f = absurd f
+  text-nodes version (suc d) open_leaf f = refl
 
   text-row : (version d : ℕ) (ss : Shapes) → HaveLevels version d ss → are_text (row_lines ss) ≡ true
   text-row version d no_shapes f = refl
@@ -95,7 +99,8 @@ text-order units order few h = text-append (flat_map index_word order) _ (text-f
 pub text-certificate : (c : CertView) → IsWellFormed c → are_text (certificate_text c) ≡ true
 text-certificate c f =
     let tree = text-append (node_lines c.tree) (codes "end\n") (text-nodes c.version 49 c.tree f.tree) refl in
-    let best = text-append (best_lines c.best) (tree_lines c.tree) (text-best (length c.units) c.best f.best) tree in
+    let level = text-append (level_line c.level) (tree_lines c.tree) (text-level c.version c.level f.level) tree in
+    let best = text-append (best_lines c.best) _ (text-best (length c.units) c.best f.best) level in
     let order = text-append (order_line c.order) _ (text-order (length c.units) c.order f.most_units (Rec-from_All (λ i. i < length c.units) c.order f.order)) best in
     let units = text-append (flat_map unit_line c.units) _ (text-flat_map unit_line IsUnitLine text-unit c.units (Rec-from_All IsUnitLine c.units f.units)) order in
     let slots = text-append (slots_line c.slots) _ (text-number c.slots _ (omega (arith, f.most_slots)) refl) units in

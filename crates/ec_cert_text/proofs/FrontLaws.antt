@@ -18,7 +18,7 @@ use Rattle.ec_cert_text.proofs.FrontLemmas.{at}
 use Rattle.ec_cert_text.proofs.PartLaws.{starts_front, parts_closed}
 
 abbrev IsKnown : ℕ → Type 0
-IsKnown k = (k ≡ 1) ⊎ (k ≡ 2)
+IsKnown k = (k ≡ 1) ⊎ ((k ≡ 2) ⊎ (k ≡ 3))
 
 -- the first line of a text of version k
 abbrev first_line : ℕ → List ℕ
@@ -34,11 +34,12 @@ reading_body text r =
 body_after : (k : ℕ) (rest : List ℕ) → IsKnown k → body (first_line k ++ rest) ≡ parts_at k (at 2 rest)
 unfolding version_at
 body_after k rest (inl is) = rw is refl
-body_after k rest (inr is) = rw is refl
+body_after k rest (inr (inl is)) = rw is refl
+body_after k rest (inr (inr is)) = rw is refl
 
-body_without : (text : List ℕ) → starts_with nat_eq text (first_line 1) ≡ false → starts_with nat_eq text (first_line 2) ≡ false → body text ≡ Err fault.Version
+body_without : (text : List ℕ) → starts_with nat_eq text (first_line 1) ≡ false → starts_with nat_eq text (first_line 2) ≡ false → starts_with nat_eq text (first_line 3) ≡ false → body text ≡ Err fault.Version
 unfolding version_at
-body_without text h g = rw (h, g) refl
+body_without text one two three = rw (one, two, three) refl
 
 -- ---- faults that stay
 
@@ -62,9 +63,13 @@ begun_1 a s some = starts_front (10 ∷ []) (λ b l r. refl) a s (codes "ecplan 
 begun_2 : (a s : List ℕ) → 1 ≤ feed_count a → starts_with nat_eq (a ++ s) (first_line 2) ≡ starts_with nat_eq a (first_line 2)
 begun_2 a s some = starts_front (10 ∷ []) (λ b l r. refl) a s (codes "ecplan 2") refl some
 
+begun_3 : (a s : List ℕ) → 1 ≤ feed_count a → starts_with nat_eq (a ++ s) (first_line 3) ≡ starts_with nat_eq a (first_line 3)
+begun_3 a s some = starts_front (10 ∷ []) (λ b l r. refl) a s (codes "ecplan 3") refl some
+
 feeds : (k : ℕ) (r : List ℕ) → IsKnown k → feed_count (first_line k ++ r) ≡ 1 + feed_count r
 feeds k r (inl is) = rw is refl
-feeds k r (inr is) = rw is refl
+feeds k r (inr (inl is)) = rw is refl
+feeds k r (inr (inr is)) = rw is refl
 
 stays_after : (k : ℕ) (a x y : List ℕ) (f : CertFault) → IsKnown k → starts_with nat_eq a (first_line k) ≡ true → fault_line f ≤ feed_count a → body (a ++ x) ≡ Err f → body (a ++ y) ≡ Err f
 stays_after k a x y f known is low h =
@@ -73,14 +78,15 @@ stays_after k a x y f known is low h =
     let before : body (first_line k ++ (drop 9 a ++ x)) ≡ Err f = subst (λ l. body (l ++ x) ≡ Err f) front h in
     subst (λ l. body (l ++ y) ≡ Err f) (sym front) (rest_stays k (drop 9 a) x y f known (omega arith) before)
 
-body_stays_by : (a x y : List ℕ) (f : CertFault) (b c : Bool) → starts_with nat_eq a (first_line 1) ≡ b → starts_with nat_eq a (first_line 2) ≡ c → 1 ≤ feed_count a → fault_line f ≤ feed_count a → body (a ++ x) ≡ Err f → body (a ++ y) ≡ Err f
-body_stays_by a x y f true c one two some low h = stays_after 1 a x y f (inl refl) one low h
-body_stays_by a x y f false true one two some low h = stays_after 2 a x y f (inr refl) two low h
-body_stays_by a x y f false false one two some low h =
-    body_without (a ++ y) (begun_1 a y some ∙ one) (begun_2 a y some ∙ two) ∙ sym (body_without (a ++ x) (begun_1 a x some ∙ one) (begun_2 a x some ∙ two)) ∙ h
+body_stays_by : (a x y : List ℕ) (f : CertFault) (b c d : Bool) → starts_with nat_eq a (first_line 1) ≡ b → starts_with nat_eq a (first_line 2) ≡ c → starts_with nat_eq a (first_line 3) ≡ d → 1 ≤ feed_count a → fault_line f ≤ feed_count a → body (a ++ x) ≡ Err f → body (a ++ y) ≡ Err f
+body_stays_by a x y f true c d one two three some low h = stays_after 1 a x y f (inl refl) one low h
+body_stays_by a x y f false true d one two three some low h = stays_after 2 a x y f (inr (inl refl)) two low h
+body_stays_by a x y f false false true one two three some low h = stays_after 3 a x y f (inr (inr refl)) three low h
+body_stays_by a x y f false false false one two three some low h =
+    body_without (a ++ y) (begun_1 a y some ∙ one) (begun_2 a y some ∙ two) (begun_3 a y some ∙ three) ∙ sym (body_without (a ++ x) (begun_1 a x some ∙ one) (begun_2 a x some ∙ two) (begun_3 a x some ∙ three)) ∙ h
 
 pub fault_stays : (a x y : List ℕ) (f : CertFault) → 1 ≤ fault_line f → fault_line f ≤ feed_count a → reading (a ++ x) ≡ Err f → IsReadable (a ++ y) → reading (a ++ y) ≡ Err f
-fault_stays a x y f some low h readable = reading_body (a ++ y) readable ∙ body_stays_by a x y f (starts_with nat_eq a (first_line 1)) (starts_with nat_eq a (first_line 2)) refl refl (omega arith) low (body_fault (a ++ x) f some h)
+fault_stays a x y f some low h readable = reading_body (a ++ y) readable ∙ body_stays_by a x y f (starts_with nat_eq a (first_line 1)) (starts_with nat_eq a (first_line 2)) (starts_with nat_eq a (first_line 3)) refl refl refl (omega arith) low (body_fault (a ++ x) f some h)
 
 -- ---- texts that were cut off
 
@@ -102,7 +108,8 @@ short_front k a true is short =
 
 pub no_version : (c : CertView) (a b : List ℕ) → IsWellFormed c → certificate_text c ≡ a ++ b → length a < 9 → reading a ≡ Err fault.Version
 no_version c a b f same short =
-    reading_body a (front_readable c a b f same (omega arith)) ∙ body_without a (short_front 1 a (starts_with nat_eq a (first_line 1)) refl short) (short_front 2 a (starts_with nat_eq a (first_line 2)) refl short)
+    reading_body a (front_readable c a b f same (omega arith))
+    ∙ body_without a (short_front 1 a (starts_with nat_eq a (first_line 1)) refl short) (short_front 2 a (starts_with nat_eq a (first_line 2)) refl short) (short_front 3 a (starts_with nat_eq a (first_line 3)) refl short)
 
 starts_whole : (k : ℕ) (a s : List ℕ) → 9 ≤ length a → starts_with nat_eq (a ++ s) (first_line k) ≡ starts_with nat_eq a (first_line k)
 starts_whole k a s long = rw take-append-le refl
@@ -117,7 +124,10 @@ body_starts text c h =
     let (v, first, then) = bind_ok (version_at text) (λ v. parts_at v.0 v.1) c h in
     elim (chosen (starts_with nat_eq text (first_line 1)) _ _ _ first) [
       | inl y ↦ (1, inl refl, y.0)
-      | inr y ↦ (2, inr refl, (if_ok (starts_with nat_eq text (first_line 2)) _ _ v y.1).0)
+      | inr y ↦ elim (chosen (starts_with nat_eq text (first_line 2)) _ _ _ y.1) [
+        | inl z ↦ (2, inr (inl refl), z.0)
+        | inr z ↦ (3, inr (inr refl), (if_ok (starts_with nat_eq text (first_line 3)) _ _ v z.1).0)
+      ]
     ]
 
 rest_cut : (k : ℕ) (c : CertView) (r : List ℕ) (b : ℕ) (bs : List ℕ) → IsKnown k → body (first_line k ++ (r ++ b ∷ bs)) ≡ Ok c → body (first_line k ++ r) ≡ Err (fault.Early (2 + feed_count r))

@@ -1,5 +1,5 @@
 -- The lines before the tree: what is read is spelled so, and is read again.
-use Rattle.std.proofs.Common.{◌≡◌, ℕ, zero, suc, ◌+◌, ◌-◌, ◌^◌, ◌<◌, ◌≤◌, Bool, true, false, ◌==◌, nat_eq, List, [], ◌∷◌, ◌++◌, length, drop, codes, Option, Some, None, Ok, refl, ap, sym, subst, ◌∙◌, arith, inl, inr, append_assoc, append-nil}
+use Rattle.std.proofs.Common.{◌≡◌, ℕ, zero, suc, ◌+◌, ◌-◌, ◌^◌, ◌<◌, ◌≤◌, Bool, true, false, ◌==◌, nat_eq, nat_le, List, [], ◌∷◌, ◌++◌, length, drop, codes, Option, Some, None, Ok, refl, ap, sym, subst, ◌∙◌, arith, inl, inr, append_assoc, append-nil}
 use Rattle.std.specs.List.{starts_with, flat_map, AllByRecursion, list_all}
 use Rattle.std.specs.Str.{bytes_eq, all_ascii_digits}
 use Rattle.std.specs.Fmt.{decimal}
@@ -11,9 +11,9 @@ use Rattle.ec_units.specs.Names.{is_name, is_name_byte}
 use Rattle.ec_units.specs.declared.slave.Place.{Place}
 use Rattle.ec_cert.specs.declared.lists.UnitLine.{UnitLine}
 use Rattle.ec_cert.specs.declared.cert.Best.{Best}
-use Rattle.ec_cert_text.specs.Reading.{At, cut, line_at, number_in, pair_in, on_line, with_front, slots_in, slots_at, unit_from, unit_in, unit_at, is_unit_next, units_from, first_unit_at, units_at, are_numbers, many_from, index_from, index_in, indexes_in, order_in, order_at, place_in, place_at, value_in, best_with, best_at, start_at}
-use Rattle.ec_cert.specs.WellFormed.{IsUnitLine, IsPlaceLine, IsBestOrNone}
-use Rattle.ec_cert_text.specs.Text.{slots_line, unit_line, index_word, order_line, value_line, place_line, best_lines}
+use Rattle.ec_cert_text.specs.Reading.{At, cut, line_at, number_in, pair_in, on_line, with_front, slots_in, slots_at, unit_from, unit_in, unit_at, is_unit_next, units_from, first_unit_at, units_at, are_numbers, many_from, index_from, index_in, indexes_in, order_in, order_at, place_in, place_at, value_in, best_with, best_at, level_in, level_line_at, level_at, start_at}
+use Rattle.ec_cert.specs.WellFormed.{IsUnitLine, IsPlaceLine, IsBestOrNone, IsLevelLine}
+use Rattle.ec_cert_text.specs.Text.{slots_line, unit_line, index_word, order_line, value_line, place_line, best_lines, level_line}
 use Rattle.ec_cert_text.proofs.WordLaws.{own, if_ok, bind_ok, chosen, ok_map_ok, on_line_ok, lacks, lacks-append, cut_found, cut_again, decimal_lacks, number_found, is_number-decimal, number_again, pair_found, pair_again, begins, same_bytes, line_found, line_again, one_line_found, one_line_again}
 use Rattle.ec_cert_text.proofs.ManyLaws.{many_found, many_again, All-from_Rec, Rec-from_All}
 
@@ -386,6 +386,57 @@ best_again k units (Some b) rest f =
     let after = flat_map place_line ps ++ rest in
     let text : line ++ 10 ∷ after ≡ best_lines (Some b) ++ rest = ap (λ l. codes "value " ++ l) (regroup_1 (decimal b.busiest) after) ∙ sym (append_assoc (value_line b.busiest) (flat_map place_line ps) rest) in
     (m, rw (← text, line_again k line after (decimal_lacks 10 b.busiest (omega arith) fits), no_none b.busiest fits, value_in_again b.busiest f.least f.most, ← f.count, es) refl)
+
+-- ---- the level
+
+level_in_found : (line : List ℕ) (n : ℕ) → level_in line ≡ Ok n → (line ≡ codes "level " ++ decimal n) × (n ≤ 12304)
+unfolding level_in
+level_in_found line n h =
+    let (starts, read) = if_ok _ _ _ n h in
+    let (text, low, high) = number_found 0 12304 (drop 6 line) n (omega arith) read in
+    (begins line (codes "level ") starts ∙ ap (λ l. codes "level " ++ l) text, high)
+
+level_line_found : (p : At) (x : ℕ × At) → level_line_at p ≡ Ok x → (x.0 ≤ 12304) × (p.rest ≡ level_line (Some x.0) ++ x.1.rest)
+unfolding level_line_at
+level_line_found p x h =
+    let (line, said, is) = one_line_found level_in p x h in
+    let (text, high) = level_in_found line x.0 said in
+    (high, is ∙ ap (λ l. l ++ 10 ∷ x.1.rest) text ∙ ap (λ l. codes "level " ++ l) (regroup_1 (decimal x.0) x.1.rest))
+
+pub level_found : (version : ℕ) (p : At) (x : Option ℕ × At) → level_at version p ≡ Ok x → IsLevelLine version x.0 × (p.rest ≡ level_line x.0 ++ x.1.rest)
+unfolding level_at
+level_found version p x h =
+    elim (chosen (nat_le 3 version) _ _ _ h) [
+      | inl y ↦
+          let (n, read, last) = bind_ok (level_line_at p) (λ n. Ok (Some n.0, n.1)) x y.1 in
+          let is : (Some n.0, n.1) ≡ x = cc (last) in
+          let (high, text) = level_line_found p n read in
+          let third : 3 ≤ version = grind (arith, nat_tests, y.0) in
+          rw (← is) ((third, high), text)
+      | inr y ↦
+          let is : (None, p) ≡ x = cc (y.1) in
+          let early : version ≤ 2 = grind (arith, nat_tests, y.0) in
+          rw (← is) (early, refl)
+    ]
+
+level_in_again : (n : ℕ) → n ≤ 12304 → level_in (codes "level " ++ decimal n) ≡ Ok n
+unfolding level_in
+level_in_again n h = number_again 0 12304 n (omega arith) (omega arith) h
+
+level_line_again : (k n : ℕ) (rest : List ℕ) → n ≤ 12304 → level_line_at (record { line = k; rest = level_line (Some n) ++ rest }) ≡ Ok (n, record { line = k + 1; rest = rest })
+unfolding level_line_at
+level_line_again k n rest h =
+    let text : codes "level " ++ (decimal n ++ 10 ∷ rest) ≡ level_line (Some n) ++ rest = ap (λ l. codes "level " ++ l) (regroup_1 (decimal n) rest) in
+    rw (← text) (one_line_again level_in k (codes "level " ++ decimal n) n rest (decimal_lacks 10 n (omega arith) (omega arith)) (level_in_again n h))
+
+pub level_again : (k version : ℕ) (o : Option ℕ) (rest : List ℕ) → IsLevelLine version o → (m : ℕ) × (level_at version (record { line = k; rest = level_line o ++ rest }) ≡ Ok (o, record { line = m; rest = rest }))
+unfolding level_at
+level_again k version None rest f =
+    let early : nat_le 3 version ≡ false = grind (arith, nat_tests, f) in
+    (k, rw early refl)
+level_again k version (Some n) rest f =
+    let later : nat_le 3 version ≡ true = grind (arith, nat_tests, f.0) in
+    (k + 1, rw (later, level_line_again k n rest f.1) refl)
 
 -- ---- the line before the tree
 

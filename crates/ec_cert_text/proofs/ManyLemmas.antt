@@ -10,7 +10,7 @@ regroup front t (Ok x) = ap (λ l. Ok (l, x.1)) (sym (append_assoc front (t ∷ 
 regroup front t (Err f) = refl
 
 -- a fault of a part is the fault of the whole
-fails_as : {A B : Type 0} (f : CertFault) (one : Result A CertFault) (total : Result B CertFault) → ((e : CertFault) → one ≡ Err e → total ≡ Err e) → Fails f one → Fails f total
+pub fails_as : {A B : Type 0} (f : CertFault) (one : Result A CertFault) (total : Result B CertFault) → ((e : CertFault) → one ≡ Err e → total ≡ Err e) → Fails f one → Fails f total
 fails_as fault.OutOfMemory one total along h = tt
 fails_as fault.NotText one total along h = along _ h
 fails_as fault.Version one total along h = along _ h

@@ -67,6 +67,7 @@ fits_each version (node.TickLeaf t) f = f
 fits_each version (node.FullLeaf t s) f = f
 fits_each version node.Average f = tt
 fits_each version (node.Weights w) f = absurd (omega (arith, f.0))
+fits_each version node.OpenLeaf f = absurd (omega arith)
 
 node_on_found : (version n : ℕ) (line : List ℕ) (h : Node) → node_on version n line ≡ Ok h → NodeFits version h × (line ≡ node_words h)
 unfolding node_on
@@ -78,9 +79,16 @@ node_on_found version n line h e =
           let (fits, text) = weights_found n (drop 2 line) w read in
           let second : 2 ≤ version = grind (arith, nat_tests) in
           rw (← is) ((second, fits), begins line (codes "W ") starts ∙ ap (λ l. codes "W" ++ l) text)
-      | inr y ↦
-          let (fits, text) = node_in_found line h (on_line_ok n (node_in line) h y.1) in
-          (fits_each version h fits, text)
+      | inr y ↦ elim (chosen (bytes_eq line (codes "O") && nat_le 3 version) _ _ _ y.1) [
+        | inl z ↦
+            let (same, later) = and_parts (bytes_eq line (codes "O")) (nat_le 3 version) z.0 in
+            let is : node.OpenLeaf ≡ h = cc (z.1) in
+            let third : 3 ≤ version = grind (arith, nat_tests) in
+            rw (← is) (third, same_bytes line (codes "O") same)
+        | inr z ↦
+            let (fits, text) = node_in_found line h (on_line_ok n (node_in line) h z.1) in
+            (fits_each version h fits, text)
+      ]
     ]
 
 node_in_again : (h : Node) → NodeFits 1 h → node_in (node_words h) ≡ Ok h
@@ -90,6 +98,7 @@ node_in_again (node.TickLeaf t) f = rw (number_again 0 1023 t (omega arith) (ome
 node_in_again (node.FullLeaf t s) f = rw (pair_again 0 1023 7 t s (omega arith) (omega arith) (omega arith) f.0 (omega arith) f.1) refl
 node_in_again node.Average f = refl
 node_in_again (node.Weights w) f = absurd (omega (arith, f.0))
+node_in_again node.OpenLeaf f = absurd (omega arith)
 
 node_on_again : (version n : ℕ) (h : Node) → NodeFits version h → node_on version n (node_words h) ≡ Ok h
 unfolding node_on
@@ -101,6 +110,9 @@ node_on_again version n (node.Weights w) f =
     let again = weights_again n w f.1 in
     let later : nat_le 2 version ≡ true = grind (arith, nat_tests, f.0) in
     rw (← again.spelled, later, again.read) refl
+node_on_again version n node.OpenLeaf f =
+    let later : nat_le 3 version ≡ true = grind (arith, nat_tests, f) in
+    rw later refl
 
 node_lacks : (version : ℕ) (h : Node) → NodeFits version h → lacks 10 (node_words h) ≡ true
 node_lacks version (node.Split n) f = decimal_lacks 10 n (omega arith) (omega (arith, f.1))
@@ -108,6 +120,7 @@ node_lacks version (node.TickLeaf t) f = decimal_lacks 10 t (omega arith) (omega
 node_lacks version (node.FullLeaf t s) f = lacks-append 10 (decimal t) (32 ∷ decimal s) (decimal_lacks 10 t (omega arith) (omega (arith, f.0))) (decimal_lacks 10 s (omega arith) (omega (arith, f.1)))
 node_lacks version node.Average f = refl
 node_lacks version (node.Weights w) f = weights_lack w f.1
+node_lacks version node.OpenLeaf f = refl
 
 node_no_end : (h : Node) → bytes_eq (node_words h) (codes "end") ≡ false
 node_no_end (node.Split n) = refl
@@ -115,6 +128,7 @@ node_no_end (node.TickLeaf t) = refl
 node_no_end (node.FullLeaf t s) = refl
 node_no_end node.Average = refl
 node_no_end (node.Weights w) = refl
+node_no_end node.OpenLeaf = refl
 
 node_found : (version d : ℕ) (p : At) (x : Node × At) → node_at version d p ≡ Ok x → NodeFits version x.0 × (p.rest ≡ node_words x.0 ++ 10 ∷ x.1.rest) × (0 < d)
 unfolding node_at
@@ -144,6 +158,12 @@ tick_spelled version zero n t text rest lt b = absurd (omega arith)
 tick_spelled version (suc d) n t text rest lt b = rw (node_spelled version (suc d) n text rest (node.TickLeaf t) lt b) refl
 
 -- ---- trees
+
+-- a fault of its first line is that of a tree
+pub tree_fails : (version d : ℕ) (p : At) (e : CertFault) → node_at version d p ≡ Err e → tree_at version d p ≡ Err e
+unfolding tree_at
+tree_fails version zero p e h = rw h refl
+tree_fails version (suc d) p e h = rw h refl
 
 HaveLevels-shapes : (version d : ℕ) (ss : List Shape) → AllByRecursion (HasLevels version d) ss → HaveLevels version d (shapes ss)
 HaveLevels-shapes version d [] h = tt
@@ -191,6 +211,9 @@ below_found version d one law node.Average p x f e =
 below_found version d one law (node.Weights w) p x f e =
     let is : (leaf (weighted w), p) ≡ x = cc in
     rw (← is) (f, weights_text w p.rest)
+below_found version d one law node.OpenLeaf p x f e =
+    let is : (open_leaf, p) ≡ x = cc in
+    rw (← is) (f, refl)
 
 pub tree_found : (version d : ℕ) → Spells at_bytes node_lines (HasLevels version d) (tree_at version d)
 unfolding tree_at
@@ -225,7 +248,7 @@ mutual
       let (m, e) = trees_again version d (n + 1) ss rest f.2 in
       (m, rw (← split_text (shape_count ss) ss rest (row_lines ss ++ rest) refl refl, node_again version d n (node.Split (shape_count ss)) (row_lines ss ++ rest) (f.0, f.1), e, shapes-list_of ss) refl)
   tree_again version (suc d) n (leaf l) rest f = (n + 1, leaf_again version d n l rest f)
-  tree_again version (suc d) n open_leaf rest f = absurd f
+  tree_again version (suc d) n open_leaf rest f = (n + 1, rw (node_again version d n node.OpenLeaf rest f) refl)
 
   pub trees_again : (version d n : ℕ) (ss : Shapes) (rest : List ℕ) → HaveLevels version d ss → (m : ℕ) × (many_from (tree_at version d) (shape_count ss) (record { line = n; rest = row_lines ss ++ rest }) ≡ Ok (list_of ss, record { line = m; rest = rest }))
   trees_again version d n no_shapes rest f = (n, refl)

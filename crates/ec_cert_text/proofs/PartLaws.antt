@@ -5,7 +5,7 @@ use Rattle.std.specs.List.{starts_with}
 use Rattle.std.specs.Str.{bytes_eq}
 use Rattle.std.proofs.lemmas.Bool.{cases_lt}
 use Rattle.std.proofs.lemmas.Bool.Decides.{nat_tests}
-use Rattle.ec_loads.specs.Shape.{tick, full, average, weighted, Shape, split, leaf}
+use Rattle.ec_loads.specs.Shape.{tick, full, average, weighted, Shape, split, leaf, open_leaf}
 use Rattle.ec_cert_text.specs.declared.fault.CertFault.{CertFault}
 use Rattle.ec_cert_text.specs.declared.fault.CertFault.TheVariants as fault
 use Rattle.ec_cert_text.specs.declared.words.Wrong.{Wrong}
@@ -15,7 +15,7 @@ use Rattle.ec_cert_text.specs.declared.nodes.Node.TheVariants as node
 use Rattle.ec_cert.specs.declared.lists.UnitLine.{UnitLine}
 use Rattle.ec_cert.specs.declared.cert.Best.{Best}
 use Rattle.ec_cert.specs.Shapes.{CertView, shapes}
-use Rattle.ec_cert_text.specs.Reading.{◌>>=◌, At, cut, line_at, fault_of, ok_map, on_line, number_in, with_front, slots_in, slots_at, unit_in, unit_at, is_unit_next, units_from, first_unit_at, units_at, are_numbers, many_from, index_from, index_in, indexes_in, order_in, order_at, place_in, place_at, value_in, best_with, best_at, start_at, node_in, space_count, weights_in, node_on, node_at, below, tree_at, end_at, parts_at}
+use Rattle.ec_cert_text.specs.Reading.{◌>>=◌, At, cut, line_at, fault_of, ok_map, on_line, number_in, with_front, slots_in, slots_at, unit_in, unit_at, is_unit_next, units_from, first_unit_at, units_at, are_numbers, many_from, index_from, index_in, indexes_in, order_in, order_at, place_in, place_at, value_in, best_with, best_at, level_in, level_line_at, level_at, start_at, node_in, space_count, weights_in, node_on, node_at, below, tree_at, end_at, parts_at}
 use Rattle.ec_cert_text.specs.Fronts.{feed_count, fault_line}
 use Rattle.ec_cert_text.proofs.FrontLemmas.{at, Goes, Alike, IsReader, IsJudge, alike_none, is_done, is_then, is_many, judged, is_judged}
 use Rattle.ec_cert_text.proofs.CloserLemmas.{IsCloser, is_closed, is_ending}
@@ -200,6 +200,20 @@ best_reads : (units : ℕ) → IsReader (best_at units)
 best_reads units =
     subst (IsReader {X = Option Best}) (sym (fun_ext (best_same units))) (is_then (judged value_or_none) (plan_at units) (is_judged value_or_none (judge_of value_or_none value_judged)) (plan_reads units))
 
+-- ---- the level
+
+level_line_reads : IsReader level_line_at
+unfolding level_line_at
+level_line_reads = is_said level_in
+
+level_reads_by : (b : Bool) → IsReader (λ (p : At). cond b (level_line_at p >>= (λ n. Ok (Some n.0, n.1))) (Ok (None, p)))
+level_reads_by true = is_then level_line_at _ level_line_reads (λ n. is_done (Some n))
+level_reads_by false = is_done None
+
+level_reads : (version : ℕ) → IsReader (level_at version)
+unfolding level_at
+level_reads version = level_reads_by (nat_le 3 version)
+
 -- ---- the tree
 
 abbrev due_line : Bool → ℕ → Result (Unit {0}) CertFault
@@ -219,7 +233,8 @@ weights_at n text =
 node_on_at : (version n : ℕ) (line : List ℕ) → AtLine n (node_on version n line)
 unfolding node_on
 node_on_at version n line =
-    chosen_at n (starts_with nat_eq line (codes "W ") && nat_le 2 version) (ok_map node.Weights (weights_in n (drop 2 line))) (on_line n (node_in line)) (map_at n node.Weights (weights_in n (drop 2 line)) (weights_at n (drop 2 line))) (said_at n (node_in line))
+    chosen_at n (starts_with nat_eq line (codes "W ") && nat_le 2 version) (ok_map node.Weights (weights_in n (drop 2 line))) (cond (bytes_eq line (codes "O") && nat_le 3 version) (Ok node.OpenLeaf) (on_line n (node_in line)))
+    (map_at n node.Weights (weights_in n (drop 2 line)) (weights_at n (drop 2 line))) (chosen_at n (bytes_eq line (codes "O") && nat_le 3 version) (Ok node.OpenLeaf) (on_line n (node_in line)) tt (said_at n (node_in line)))
 
 -- the node that a line says, unless it is the last line of a text
 abbrev said_node : ℕ → ℕ → List ℕ → Result Node CertFault
@@ -261,6 +276,7 @@ below_reads one r (node.TickLeaf t) = is_done (leaf (tick t))
 below_reads one r (node.FullLeaf t s) = is_done (leaf (full t s))
 below_reads one r node.Average = is_done (leaf average)
 below_reads one r (node.Weights w) = is_done (leaf (weighted w))
+below_reads one r node.OpenLeaf = is_done open_leaf
 
 -- a node below the last level is a fault
 abbrev deep_due : ℕ → ℕ → List ℕ → Result Shape CertFault
@@ -298,8 +314,8 @@ tree_reads version (suc d) = is_then (node_at version (suc d)) (below (tree_at v
 
 -- ---- the lines after the first
 
-abbrev whole_view : ℕ → ℕ → List UnitLine → List ℕ → Option Best → Shape → CertView
-whole_view version slots units order best tree = record { version = version; slots = slots; units = units; order = order; best = best; tree = tree }
+abbrev whole_view : ℕ → ℕ → List UnitLine → List ℕ → Option Best → Option ℕ → Shape → CertView
+whole_view version slots units order best level tree = record { version = version; slots = slots; units = units; order = order; best = best; level = level; tree = tree }
 
 start_line_same : {A : Type 0} (n : ℕ) (q : At) (k : At → Result A CertFault) (test : Bool) → (cond test (Ok q) (Err (fault.BadLine n)) >>= k) ≡ ((due_line test n >>= with_rest q) >>= (λ x. k x.1))
 start_line_same n q k true = refl
@@ -324,4 +340,5 @@ parts_closed version =
     is_closed units_at _ units_read (λ units.
     is_closed (order_at (length units)) _ (order_reads (length units)) (λ order.
     is_closed (best_at (length units)) _ (best_reads (length units)) (λ best.
-    start_closed _ (is_closed (tree_at version 49) (λ tree p. end_at p >>= (λ last. Ok (whole_view version slots units order best tree))) (tree_reads version 49) (λ tree. is_ending (whole_view version slots units order best tree)))))))
+    is_closed (level_at version) _ (level_reads version) (λ level.
+    start_closed _ (is_closed (tree_at version 49) (λ tree p. end_at p >>= (λ last. Ok (whole_view version slots units order best level tree))) (tree_reads version 49) (λ tree. is_ending (whole_view version slots units order best level tree))))))))

@@ -4,7 +4,7 @@ use Rattle.std.specs.List.{starts_with, list_all}
 use Rattle.std.specs.Str.{all_ascii_digits, bytes_eq}
 use Rattle.ec_units.specs.Names.{is_name}
 use Rattle.ec_units.specs.declared.slave.Place.{Place}
-use Rattle.ec_loads.specs.Shape.{tick, full, average, weighted, Shape, split, leaf}
+use Rattle.ec_loads.specs.Shape.{tick, full, average, weighted, Shape, split, leaf, open_leaf}
 use Rattle.ec_cert_text.specs.declared.fault.CertFault.{CertFault}
 use Rattle.ec_cert_text.specs.declared.fault.CertFault.TheVariants as fault
 use Rattle.ec_cert_text.specs.declared.words.Wrong.{Wrong}
@@ -103,11 +103,12 @@ pair_in low high0 high1 text = pair_from low high0 high1 (cut 32 text)
 
 -- ---- the lines of the head
 
--- the first line; versions 1 and 2 are known
+-- the first line; versions 1 to 3 are known
 unfoldable pub version_at : List ℕ → Result (ℕ × At) CertFault
 version_at text =
     if starts_with nat_eq text (codes "ecplan 1\n") then Ok (1, record { line = 2; rest = drop 9 text })
     else if starts_with nat_eq text (codes "ecplan 2\n") then Ok (2, record { line = 2; rest = drop 9 text })
+    else if starts_with nat_eq text (codes "ecplan 3\n") then Ok (3, record { line = 2; rest = drop 9 text })
     else Err fault.Version
 
 unfoldable pub slots_in : List ℕ → Result ℕ Wrong
@@ -216,6 +217,19 @@ best_at units p = do
   if bytes_eq l.0 (codes "value none") then Ok (None, l.1)
       else on_line p.line (value_in l.0) >>= (λ v. many_from place_at units l.1 >>= (λ ps. Ok (best_with v ps.0, ps.1)))
 
+unfoldable pub level_in : List ℕ → Result ℕ Wrong
+level_in line = if starts_with nat_eq line (codes "level ") then number_in 0 12304 (drop 6 line) else Err wrong.Words
+
+unfoldable pub level_line_at : At → Result (ℕ × At) CertFault
+level_line_at p = do
+  l ← line_at p
+  n ← on_line p.line (level_in l.0)
+  Ok (n, l.1)
+
+-- the level, which texts from version 3 on have
+unfoldable pub level_at : ℕ → At → Result (Option ℕ × At) CertFault
+level_at version p = if nat_le 3 version then level_line_at p >>= (λ n. Ok (Some n.0, n.1)) else Ok (None, p)
+
 -- ---- the tree
 
 -- the line before the tree
@@ -248,6 +262,7 @@ weights_in n text =
 unfoldable pub node_on : ℕ → ℕ → List ℕ → Result Node CertFault
 node_on version n line =
     if starts_with nat_eq line (codes "W ") && nat_le 2 version then ok_map node.Weights (weights_in n (drop 2 line))
+    else if bytes_eq line (codes "O") && nat_le 3 version then Ok node.OpenLeaf
     else on_line n (node_in line)
 
 -- the line of a node, where the tree may have so many levels from it on
@@ -264,6 +279,7 @@ below one (node.TickLeaf t) p = Ok (leaf (tick t), p)
 below one (node.FullLeaf t s) p = Ok (leaf (full t s), p)
 below one node.Average p = Ok (leaf average, p)
 below one (node.Weights w) p = Ok (leaf (weighted w), p)
+below one node.OpenLeaf p = Ok (open_leaf, p)
 
 -- a tree of so many levels at most
 unfoldable pub tree_at : ℕ → ℕ → At → Result (Shape × At) CertFault
@@ -289,10 +305,11 @@ parts_at version p = do
   units ← units_at slots.1
   order ← order_at (length units.0) units.1
   best ← best_at (length units.0) order.1
-  start ← start_at best.1
+  level ← level_at version best.1
+  start ← start_at level.1
   tree ← tree_at version 49 start
   last ← end_at tree.1
-  Ok (record { version = version; slots = slots.0; units = units.0; order = order.0; best = best.0; tree = tree.0 })
+  Ok (record { version = version; slots = slots.0; units = units.0; order = order.0; best = best.0; level = level.0; tree = tree.0 })
 
 -- a line feed, or one of the 95 bytes from the space to `~`
 abbrev pub is_text_byte : ℕ → Bool

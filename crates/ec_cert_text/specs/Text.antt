@@ -34,6 +34,11 @@ abbrev pub best_lines : Option Best → List ℕ
 best_lines None = codes "value none\n"
 best_lines (Some b) = value_line b.busiest ++ flat_map place_line b.plan.places
 
+-- the level, of a certificate that has one
+abbrev pub level_line : Option ℕ → List ℕ
+level_line None = []
+level_line (Some level) = codes "level " ++ (decimal level ++ codes "\n")
+
 abbrev pub split_line : ℕ → List ℕ
 split_line count = codes "S " ++ (decimal count ++ codes "\n")
 
@@ -70,4 +75,4 @@ tree_lines s = codes "tree\n" ++ (node_lines s ++ codes "end\n")
 -- the whole text
 abbrev pub certificate_text : CertView → List ℕ
 certificate_text c =
-    version_line c.version ++ (slots_line c.slots ++ (flat_map unit_line c.units ++ (order_line c.order ++ (best_lines c.best ++ tree_lines c.tree))))
+    version_line c.version ++ (slots_line c.slots ++ (flat_map unit_line c.units ++ (order_line c.order ++ (best_lines c.best ++ (level_line c.level ++ tree_lines c.tree)))))

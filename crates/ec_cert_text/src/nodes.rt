@@ -24,6 +24,7 @@ pub(crate) enum Node {
     FullLeaf(u32, u8),
     Average,
     Weights(Weights),
+    OpenLeaf,
 }
 
 /// What a line says, of a node of a kind that every version has.
@@ -55,6 +56,9 @@ fn node_on(alloc: Global, version: u8, number: u32, line: &[u8]) -> Result<Node,
     if line.starts_with(b"W ") && 2 <= version {
         let weights = weights_on(alloc, number, &line[2..])?;
         return Ok(Node::Weights(Weights::new(weights)));
+    }
+    if line == b"O".as_slice() && 3 <= version {
+        return Ok(Node::OpenLeaf);
     }
     match node_in(line) {
         Ok(node) => Ok(node),
@@ -144,6 +148,7 @@ pub(crate) fn tree_of(
         Node::FullLeaf(tick, slot) => Ok((Tree::FullLeaf(tick, slot), rest)),
         Node::Average => Ok((Tree::Average, rest)),
         Node::Weights(weights) => Ok((Tree::Weights(weights), rest)),
+        Node::OpenLeaf => Ok((Tree::OpenLeaf, rest)),
     }
 }
 

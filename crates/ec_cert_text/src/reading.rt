@@ -1,6 +1,6 @@
 //! Certificates read from their texts.
 
-ghost use Rattle.std.specs.Prelude.{◌≡◌, ℕ, ◌+◌, ◌^◌, ◌<◌, ◌≤◌, length, Ok, IfOk};
+ghost use Rattle.std.specs.Prelude.{◌≡◌, ℕ, ◌+◌, ◌^◌, ◌<◌, ◌≤◌, length, drop, Ok, IfOk};
 ghost use Rattle.std.specs.List.{list_all};
 ghost use Rattle.ec_cert_text.specs.Reading.{Gives, is_text_byte, version_at, end_at, parts_at, reading};
 ghost use Rattle.ec_cert.specs.Shapes.{CertView, cert_view};
@@ -9,7 +9,7 @@ ghost use Rattle.ec_cert_text.specs.Text.{certificate_text};
 ghost use Rattle.ec_cert_text.specs.Views.{at_view};
 
 use crate::fault::CertFault;
-use crate::head::{best_of, slots_of, start_of, units_of};
+use crate::head::{best_of, level_of, slots_of, start_of, units_of};
 use crate::indexes::order_of;
 use crate::lines::line_of;
 use crate::nodes::tree_of;
@@ -30,6 +30,19 @@ fn is_text(text: &[u8]) -> bool
     all
 }
 
+/// The place after a first line of 9 bytes.
+fn second_line(text: &[u8]) -> TextPlace<'_>
+    requires first { 9 ≤ length text.now }
+    requires short { length text.now ≤ 67108864 }
+    ensures line { result.line ≡ 2 }
+    ensures rest { result.rest.now ≡ drop 9 text.now }
+{
+    TextPlace {
+        line: 2,
+        rest: &text[9..],
+    }
+}
+
 /// The version that the first line says, and the place after it.
 #[tactic(auto, unfolding(crate::specs::Reading::version_at))]
 fn version_of(text: &[u8]) -> Result<(u8, TextPlace<'_>), CertFault>
@@ -37,18 +50,13 @@ fn version_of(text: &[u8]) -> Result<(u8, TextPlace<'_>), CertFault>
     ensures { Gives (λ x. (x.0, at_view x.1)) result (version_at text.now) }
 {
     if text.starts_with(b"ecplan 1\n") {
-        let next = TextPlace {
-            line: 2,
-            rest: &text[9..],
-        };
-        return Ok((1, next));
+        return Ok((1, second_line(text)));
     }
     if text.starts_with(b"ecplan 2\n") {
-        let next = TextPlace {
-            line: 2,
-            rest: &text[9..],
-        };
-        return Ok((2, next));
+        return Ok((2, second_line(text)));
+    }
+    if text.starts_with(b"ecplan 3\n") {
+        return Ok((3, second_line(text)));
     }
     Err(CertFault::Version)
 }
@@ -79,6 +87,7 @@ fn parts_of(alloc: Global, version: u8, place: TextPlace<'_>) -> Result<Cert, Ce
     let count = units.as_slice().len() as u8;
     let (order, rest) = order_of(alloc, count, rest)?;
     let (best, rest) = best_of(alloc, count, rest)?;
+    let (level, rest) = level_of(version, rest)?;
     let rest = start_of(rest)?;
     let (tree, rest) = tree_of(alloc, version, LEVELS, rest)?;
     end_of(rest)?;
@@ -88,6 +97,7 @@ fn parts_of(alloc: Global, version: u8, place: TextPlace<'_>) -> Result<Cert, Ce
         units,
         order,
         best,
+        level,
         tree,
     })
 }
@@ -106,7 +116,7 @@ fn cert_of(alloc: Global, text: &[u8]) -> Result<Cert, CertFault>
     parts_of(alloc, version, rest)
 }
 
-/// Reads the certificate, of version 1 or 2, that a text is the text of. Of several faults the first in this order is
+/// Reads the certificate, of version 1, 2 or 3, that a text is the text of. Of several faults the first in this order is
 /// answered: the length, the bytes, the first line, and then the first line at fault. Want of memory may come before
 /// another fault.
 pub fn read_cert(alloc: Global, text: &[u8]) -> Result<Cert, CertFault>

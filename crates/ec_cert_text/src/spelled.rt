@@ -45,8 +45,8 @@ pub(crate) fn spelled_tick(text: &[u8]) -> Option<(u32, &[u8])>
     }
 }
 
-/// The node whose line a text begins with, and the bytes after that line. Of a line of weights, of one that isn't
-/// written as certificates are, and of one that no line feed ends, nothing is said.
+/// The node whose line a text begins with, and the bytes after that line. Of an open leaf, of a line of weights, of one
+/// that isn't written as certificates are, and of one that no line feed ends, nothing is said.
 pub(crate) fn spelled_node(text: &[u8]) -> Option<(Node, &[u8])>
     ensures { IfSome result (λ x. BeginsWithNode text.now x.0 x.1.now) }
 {

@@ -7,7 +7,7 @@ ghost use Rattle.ec_wire.specs.Stream.{stream, has_failed, WritesFront};
 ghost use Rattle.ec_cert_text.specs.Waiting.{Gathers, GathersFront};
 ghost use Rattle.ec_cert.specs.Shapes.{shape_of, shapes_of, cert_view};
 ghost use Rattle.ec_cert.specs.WellFormed.{IsUnitLine, IsWellFormed};
-ghost use Rattle.ec_cert_text.specs.Text.{unit_line as unit_line_spec, index_word, order_line, place_line, best_lines, weights_line, node_lines, row_lines, tree_lines, certificate_text};
+ghost use Rattle.ec_cert_text.specs.Text.{unit_line as unit_line_spec, index_word, order_line, place_line, best_lines, level_line, weights_line, node_lines, row_lines, tree_lines, certificate_text};
 
 use crate::buffer::Waiting;
 use crate::digits::{number_line, number_word, pair_line, unit_line};
@@ -99,6 +99,22 @@ fn write_best<W: Write>(
             waiting.write(io, line.as_slice())?;
             write_places(places, io, waiting)
         }
+    }
+}
+
+fn write_level<W: Write>(
+    level: Option<u64>,
+    io: &mut Io<W>,
+    waiting: &mut Waiting,
+) -> Result<(), WriteFault>
+    ensures all { OnOk result (Gathers (W.contents (stream io.old)) waiting.old.bytes.items (W.contents (stream io.new)) waiting.new.bytes.items (level_line level)) }
+    ensures front { GathersFront (W.contents (stream io.old)) waiting.old.bytes.items (W.contents (stream io.new)) (level_line level) }
+    ensures ok { OnOk result (has_failed io.new ≡ has_failed io.old) }
+    ensures err { OnErr result (has_failed io.new ≡ true) }
+{
+    match level {
+        None => Ok(()),
+        Some(level) => waiting.write(io, number_line(b"level ", level as usize).as_slice()),
     }
 }
 
@@ -216,6 +232,7 @@ fn write_lines<W: Write>(
     write_units(units, io, waiting)?;
     write_order(order, io, waiting)?;
     write_best(&cert.best, io, waiting)?;
+    write_level(cert.level, io, waiting)?;
     write_tree(&cert.tree, io, waiting)
 }
 

@@ -1,41 +1,53 @@
 -- From what is found in a certificate to what the checker answers.
-use Rattle.std.proofs.Common.{◌≡◌, ℕ, Bool, List, length, Option, Some, None, Result, Ok, Err, refl, ap, sym, subst, ◌∙◌}
+use Rattle.std.proofs.Common.{◌≡◌, ℕ, Bool, List, length, Option, Some, None, Result, Ok, Err, refl, sym, subst, ◌∙◌, ◌<◌, arith}
 use Rattle.std.proofs.lemmas.List.{length-map}
 use Rattle.ec_units.specs.declared.unit.Unit.{Unit as SyncUnit}
 use Rattle.ec_units.specs.declared.unit.Load.{Load}
 use Rattle.ec_units.specs.Load.{load_of, loads_of}
 use Rattle.ec_loads.specs.Cost.{plan_items}
-use Rattle.ec_loads.specs.Held.{Held, no_places}
-use Rattle.ec_loads.specs.Line.{rules_if, line_by}
-use Rattle.ec_loads.specs.Search.{IsTree, BoundsAll}
+use Rattle.ec_loads.specs.Held.{Held, AreLoads, no_places}
+use Rattle.ec_loads.specs.Line.{Line, rules_if, line_by}
+use Rattle.ec_loads.specs.Search.{TreeWith}
+use Rattle.ec_loads.specs.Shape.{Shape}
 use Rattle.ec_loads.proofs.CostLemmas.{one_busiest}
 use Rattle.ec_loads.proofs.ItemLemmas.{AreLoads-loads_of}
 use Rattle.ec_cert.specs.declared.cert.Best.{Best}
 use Rattle.ec_cert.specs.Shapes.{CertView}
 use Rattle.ec_cert.specs.Versions.{rules_of}
 use Rattle.ec_symmetry.specs.Orders.{IsOrder}
-use Rattle.ec_tree.specs.Trees.{TreesBound}
+use Rattle.ec_tree.specs.Trees.{TreesBound, LevelsBound}
 use Rattle.ec_checker.specs.declared.fault.CheckFault.{CheckFault}
 use Rattle.ec_checker.specs.declared.fault.CheckFault.TheVariants as fault
 use Rattle.ec_checker.specs.declared.fault.Verdict.{Verdict}
-use Rattle.ec_checker.specs.declared.fault.Verdict.TheVariants as verdict
 use Rattle.ec_cert.specs.BestPlan.{value_of, IsBestPlan}
-use Rattle.ec_checker.specs.Certified.{HasHead, IsCertified, verdict_of, tree_found, IsPlanFault, IsNodeFault, IsFaultOf, IsClaim}
+use Rattle.ec_checker.specs.Certified.{IsFor, HasHead, IsLevelIn, IsShown, IsCertified, verdict_of, tree_found, IsLevelFault, IsPlanFault, IsNodeFault, IsFaultOf, IsClaim}
 use Rattle.ec_checker.specs.Judged.{tree_judged}
 use Rattle.ec_checker.specs.Laws.{FaultsRefute}
-use Rattle.ec_checker.proofs.FoundLemmas.{Found, found_tree}
+use Rattle.ec_checker.proofs.FoundLemmas.{Found, open_is, found_tree}
 
 abbrev IsTreeOf : List Load → ℕ → CertView → Type 0
-IsTreeOf loads n c = IsTree (line_by (rules_of c.version) loads n) (value_of c.best) c.tree (no_places loads) c.order
+IsTreeOf loads n c = TreeWith (open_is (line_by (rules_of c.version) loads n) c.level) (line_by (rules_of c.version) loads n) (value_of c.best) c.tree (no_places loads) c.order
 
-found_of : (loads : List Load) (n : ℕ) (c : CertView) → Found (IsTreeOf loads n c) (tree_found loads n c)
-found_of loads n c = found_tree (line_by (rules_of c.version) loads n) (value_of c.best) c.tree (no_places loads) c.order 0
+-- a tree whose leaves hold, the open ones at the level, shows what it is to show; and the other way round
+shown_from : (line : Line) (v level : Option ℕ) (tree : Shape) (order : List ℕ) → IsLevelIn level v → TreeWith (open_is line level) line v tree (no_places line.loads) order → IsShown line v level tree order
+shown_from line v None tree order low h = h
+shown_from line v (Some l) tree order low h = (low, h)
 
-pub tree_from : (loads : List Load) (n : ℕ) (c : CertView) (k : ℕ) → tree_found loads n c ≡ Ok k → IsTreeOf loads n c
-tree_from loads n c k e = subst (Found (IsTreeOf loads n c)) e (found_of loads n c)
+tree_of : (line : Line) (v level : Option ℕ) (tree : Shape) (order : List ℕ) → IsShown line v level tree order → TreeWith (open_is line level) line v tree (no_places line.loads) order
+tree_of line v None tree order h = h
+tree_of line v (Some l) tree order h = h.1
 
-node_from : (loads : List Load) (n : ℕ) (c : CertView) (e : CheckFault) → tree_found loads n c ≡ Err e → IsNodeFault e × (¬ (IsTreeOf loads n c))
-node_from loads n c e is = subst (Found (IsTreeOf loads n c)) is (found_of loads n c)
+found_of : (units : List SyncUnit) (n : ℕ) (c : CertView) → Found (IsTreeOf (loads_of units) n c) (tree_found (loads_of units) n c)
+found_of units n c = found_tree (line_by (rules_of c.version) (loads_of units) n) (value_of c.best) c.level c.tree (no_places (loads_of units)) c.order 0 (AreLoads-loads_of units)
+
+pub tree_from : (units : List SyncUnit) (n : ℕ) (c : CertView) (k : ℕ) → IsLevelIn c.level (value_of c.best) → tree_found (loads_of units) n c ≡ Ok k → IsShown (line_by (rules_of c.version) (loads_of units) n) (value_of c.best) c.level c.tree c.order
+tree_from units n c k low e =
+    shown_from (line_by (rules_of c.version) (loads_of units) n) (value_of c.best) c.level c.tree c.order low (subst (Found (IsTreeOf (loads_of units) n c)) e (found_of units n c))
+
+node_from : (units : List SyncUnit) (n : ℕ) (c : CertView) (e : CheckFault) → tree_found (loads_of units) n c ≡ Err e → IsNodeFault e × (¬ (IsShown (line_by (rules_of c.version) (loads_of units) n) (value_of c.best) c.level c.tree c.order))
+node_from units n c e is =
+    let found = subst (Found (IsTreeOf (loads_of units) n c)) is (found_of units n c) in
+    (found.0, λ h. found.1 (tree_of (line_by (rules_of c.version) (loads_of units) n) (value_of c.best) c.level c.tree c.order h))
 
 fault_by_node : (units : List SyncUnit) (n : ℕ) (c : CertView) (e : CheckFault) → HasHead units n c → tree_found (loads_of units) n c ≡ Err e → IsNodeFault e → IsFaultOf units n c e
 fault_by_node units n c fault.OutOfMemory head is node = absurd node
@@ -46,29 +58,46 @@ fault_by_node units n c (fault.Value s f) head is node = absurd node
 fault_by_node units n c (fault.Children k w g) head is node = (head, is)
 fault_by_node units n c (fault.Leaf k) head is node = (head, is)
 fault_by_node units n c (fault.Depth k) head is node = (head, is)
+fault_by_node units n c (fault.Level l v) head is node = absurd node
 
 -- the first fault of a tree
 pub fault_from : (units : List SyncUnit) (n : ℕ) (c : CertView) (e : CheckFault) → HasHead units n c → tree_found (loads_of units) n c ≡ Err e → IsFaultOf units n c e
-fault_from units n c e head is = fault_by_node units n c e head is (node_from (loads_of units) n c e is).0
+fault_from units n c e head is = fault_by_node units n c e head is (node_from units n c e is).0
 
-pub verdict_some : (best : Option Best) (o : Option ℕ) (v : ℕ) → o ≡ Some v → o ≡ value_of best → verdict.Least v ≡ verdict_of best
-verdict_some None o v is of = absurd cc
-verdict_some (Some b) o v is of = let e : v ≡ b.busiest = cc in ap verdict.Least e
+-- a fault of the level
+pub level_fault : (units : List SyncUnit) (n : ℕ) (c : CertView) (e : CheckFault) → IsFor units n c → IsOrder (length units) c.order → IsBestPlan (loads_of units) n c.best → IsLevelFault c.level (value_of c.best) e → IsFaultOf units n c e
+level_fault units n c fault.OutOfMemory same order best h = absurd h
+level_fault units n c fault.OtherUnits same order best h = absurd h
+level_fault units n c fault.Order same order best h = absurd h
+level_fault units n c (fault.Plan e) same order best h = absurd h
+level_fault units n c (fault.Value s f) same order best h = absurd h
+level_fault units n c (fault.Children k w g) same order best h = absurd h
+level_fault units n c (fault.Leaf k) same order best h = absurd h
+level_fault units n c (fault.Depth k) same order best h = absurd h
+level_fault units n c (fault.Level l v) same order best h = (same, order, best, h.0, h.1, h.2)
 
-pub verdict_none : (best : Option Best) (o : Option ℕ) → o ≡ None → o ≡ value_of best → verdict.NoPlan ≡ verdict_of best
-verdict_none None o is of = refl
-verdict_none (Some b) o is of = absurd cc
+-- it is never want of memory
+pub level_memory : (level value : Option ℕ) (e : CheckFault) → IsLevelFault level value e → e ≡ fault.OutOfMemory → ⊥
+level_memory level value e h is = subst (IsLevelFault level value) is h
 
-claim_of : (loads : List Load) (n : ℕ) (best : Option Best) → BoundsAll loads n (value_of best) → IsBestPlan loads n best → IsClaim loads n best (verdict_of best)
-claim_of loads n None bounds right = λ plan legal. let h = bounds plan legal in let e = h.1 in absurd cc
-claim_of loads n (Some b) bounds right = (record { plan = b.plan.places; legal = right.0; busiest = right.1; bounds = bounds }, (b, refl, right.0, right.1))
+-- a level that is above the value isn't in it
+level_above : (level value : Option ℕ) (l v : ℕ) → level ≡ Some l → value ≡ Some v → v < l → ¬ (IsLevelIn level value)
+level_above level value l v is at above low =
+    let own : IsLevelIn (Some l) (Some v) = subst (λ w. IsLevelIn (Some l) w) at (subst (λ w. IsLevelIn w value) is low) in
+    absurd (omega (arith, own, above))
+
+claim_of : TreesBound → LevelsBound → (line : Line) (best : Option Best) (level : Option ℕ) (tree : Shape) (order : List ℕ) → AreLoads line.loads → IsOrder (length line.loads) order → IsShown line (value_of best) level tree order → IsBestPlan line.loads line.slots best → IsClaim line.loads line.slots best (verdict_of best level)
+claim_of trees levels line best (Some l) tree order within is shown right = (levels line (value_of best) l tree order within is shown, right)
+claim_of trees levels line None None tree order within is shown right = λ plan legal. let h = trees line None tree order within is shown plan legal in let e = h.1 in absurd cc
+claim_of trees levels line (Some b) None tree order within is shown right =
+    (record { plan = b.plan.places; legal = right.0; busiest = right.1; bounds = trees line (Some b.busiest) tree order within is shown }, (b, refl, right.0, right.1))
 
 -- what a yes claims
-pub claim_from : TreesBound → (units : List SyncUnit) (n : ℕ) (c : CertView) (v : Verdict) → IsCertified units n c → v ≡ verdict_of c.best → IsClaim (loads_of units) n c.best v
-claim_from law units n c v is said =
+pub claim_from : TreesBound → LevelsBound → (units : List SyncUnit) (n : ℕ) (c : CertView) (v : Verdict) → IsCertified units n c → v ≡ verdict_of c.best c.level → IsClaim (loads_of units) n c.best v
+claim_from trees levels units n c v is said =
     let loads = loads_of units in
     let order : IsOrder (length loads) c.order = subst (λ k. IsOrder k c.order) (sym (length-map units load_of)) is.head.order in
-    subst (IsClaim loads n c.best) (sym said) (claim_of loads n c.best (law (line_by (rules_of c.version) loads n) (value_of c.best) c.tree c.order (AreLoads-loads_of units) order is.tree) is.head.best)
+    subst (IsClaim loads n c.best) (sym said) (claim_of trees levels (line_by (rules_of c.version) loads n) c.best c.level c.tree c.order (AreLoads-loads_of units) order is.shown is.head.best)
 
 pub plan_refutes : (loads : List Load) (n : ℕ) (best : Option Best) (e : CheckFault) → IsPlanFault loads n best e → ¬ (IsBestPlan loads n best)
 plan_refutes loads n best fault.OutOfMemory h right = absurd h
@@ -81,6 +110,7 @@ plan_refutes loads n best (fault.Value s f) h right =
 plan_refutes loads n best (fault.Children k w g) h right = absurd h
 plan_refutes loads n best (fault.Leaf k) h right = absurd h
 plan_refutes loads n best (fault.Depth k) h right = absurd h
+plan_refutes loads n best (fault.Level l v) h right = absurd h
 
 pub refutes : FaultsRefute
 refutes units n c fault.OutOfMemory other h = λ is. other refl
@@ -88,14 +118,15 @@ refutes units n c fault.OtherUnits other h = λ is. h is.head.same
 refutes units n c fault.Order other h = λ is. h.1 is.head.order
 refutes units n c (fault.Plan e) other h = λ is. plan_refutes (loads_of units) n c.best (fault.Plan e) h.2 is.head.best
 refutes units n c (fault.Value s f) other h = λ is. plan_refutes (loads_of units) n c.best (fault.Value s f) h.2 is.head.best
-refutes units n c (fault.Children k w g) other h = λ is. (node_from (loads_of units) n c (fault.Children k w g) h.1).1 is.tree
-refutes units n c (fault.Leaf k) other h = λ is. (node_from (loads_of units) n c (fault.Leaf k) h.1).1 is.tree
-refutes units n c (fault.Depth k) other h = λ is. (node_from (loads_of units) n c (fault.Depth k) h.1).1 is.tree
+refutes units n c (fault.Children k w g) other h = λ is. (node_from units n c (fault.Children k w g) h.1).1 is.shown
+refutes units n c (fault.Leaf k) other h = λ is. (node_from units n c (fault.Leaf k) h.1).1 is.shown
+refutes units n c (fault.Depth k) other h = λ is. (node_from units n c (fault.Depth k) h.1).1 is.shown
+refutes units n c (fault.Level l v) other h = λ is. level_above c.level (value_of c.best) l v h.3 h.4 h.5 is.head.level
 
 -- what the walk found
-pub found_is : (loads : List Load) (n : ℕ) (c : CertView) (held : Held) (turned : Bool) (value : Option ℕ) (order : List ℕ) (r : Result ℕ CheckFault) → held ≡ record { loads = loads; slots = n; places = no_places loads } → rules_if turned ≡ rules_of c.version → value ≡ value_of c.best → order ≡ c.order → r ≡ tree_judged (line_by (rules_if turned) held.loads held.slots) value c.tree held.places order 0 → r ≡ tree_found loads n c
-found_is loads n c held turned value order r at by val ord is = is ∙ (λ j. tree_judged (line_by (by j) (at j).loads (at j).slots) (val j) c.tree (at j).places (ord j) 0)
+pub found_is : (loads : List Load) (n : ℕ) (c : CertView) (held : Held) (turned : Bool) (value level : Option ℕ) (order : List ℕ) (r : Result ℕ CheckFault) → held ≡ record { loads = loads; slots = n; places = no_places loads } → rules_if turned ≡ rules_of c.version → value ≡ value_of c.best → level ≡ c.level → order ≡ c.order → r ≡ tree_judged (line_by (rules_if turned) held.loads held.slots) value level c.tree held.places order 0 → r ≡ tree_found loads n c
+found_is loads n c held turned value level order r at by val low ord is = is ∙ (λ j. tree_judged (line_by (by j) (at j).loads (at j).slots) (val j) (low j) c.tree (at j).places (ord j) 0)
 
 -- what is found in a tree is never want of memory
-pub tree_memory : (loads : List Load) (n : ℕ) (c : CertView) (e : CheckFault) → tree_found loads n c ≡ Err e → e ≡ fault.OutOfMemory → ⊥
-tree_memory loads n c e found is = subst IsNodeFault is (node_from loads n c e found).0
+pub tree_memory : (units : List SyncUnit) (n : ℕ) (c : CertView) (e : CheckFault) → tree_found (loads_of units) n c ≡ Err e → e ≡ fault.OutOfMemory → ⊥
+tree_memory units n c e found is = subst IsNodeFault is (node_from units n c e found).0

@@ -1,26 +1,37 @@
 -- What is found in a tree: it is one, or it isn't and the fault is a node's.
-use Rattle.std.proofs.Common.{◌≡◌, ℕ, suc, ◌+◌, ◌*◌, ◌<◌, ◌≤◌, ◌==◌, ◌&&◌, nat_le, nat_lt, if◌then◌else◌, Bool, true, false, List, [], ◌∷◌, length, set, Option, Some, None, Result, Ok, Err, MatchResult, refl, ap, sym, subst, arith}
-use Rattle.std.proofs.lemmas.Bool.{eqb-true, eq-eqb, leb-true, le-leb, ltb-true, lt-ltb, false≢true}
+use Rattle.std.proofs.Common.{◌≡◌, ℕ, suc, ◌+◌, ◌*◌, ◌<◌, ◌≤◌, ◌%◌, ◌==◌, ◌&&◌, ◌||◌, nat_le, nat_lt, if◌then◌else◌, Bool, true, false, List, [], ◌∷◌, length, set, get_or, Option, Some, None, Result, Ok, Err, MatchResult, refl, ap, sym, subst, ◌∙◌, inl, inr, arith}
+use Rattle.std.proofs.Math.Bool.{or-true}
+use Rattle.std.proofs.lemmas.Bool.{eqb-true, eq-eqb, leb-true, le-leb, ltb-true, lt-ltb, or_cases, false≢true}
+use Rattle.std.specs.List.{list_any, range_with_len}
+use Rattle.std.proofs.lemmas.List.Folds.{list_any_at}
+use Rattle.std.proofs.lemmas.List.FromFn.{length-range_with_len, get_or-range_with_len}
+use Rattle.std.proofs.lemmas.Nat.{mod_below}
 use Rattle.ec_hyper.specs.Lcm.{lcm_of}
+use Rattle.ec_hyper.proofs.LcmLemmas.{lcm_of-pos}
 use Rattle.ec_units.specs.declared.slave.Place.{Place}
 use Rattle.ec_units.specs.declared.unit.Load.{Load}
 use Rattle.ec_units.specs.Load.{periods_of}
 use Rattle.ec_loads.specs.Cost.{items, payload, tick_cost}
+use Rattle.ec_loads.specs.Held.{AreLoads}
 use Rattle.ec_loads.specs.Line.{Line}
 use Rattle.ec_loads.specs.Shape.{Leaf, tick, full, average, weighted, Shape, Shapes, split, leaf, open_leaf, no_shapes, more, shape_count}
-use Rattle.ec_loads.specs.Search.{Prefix, children, least_raw, TickHolds, FullHolds, AverageHolds, LeafHolds, TreeWith, TreesWith}
+use Rattle.ec_loads.specs.Search.{Prefix, children, least_raw, TickHolds, FullHolds, AverageHolds, LevelHolds, LeafHolds, TreeWith, TreesWith}
 use Rattle.ec_loads.specs.Weights.{total_weight, weighted_raw, weighted_demand, WeightsHold}
+use Rattle.ec_loads.proofs.CostLemmas.{tick_cost-mod}
+use Rattle.ec_loads.proofs.ItemLemmas.{positive_loads, DivideAll-loads}
 use Rattle.ec_checker.specs.declared.fault.CheckFault.{CheckFault}
 use Rattle.ec_checker.specs.declared.fault.CheckFault.TheVariants as fault
 use Rattle.ec_checker.specs.Certified.{IsNodeFault}
-use Rattle.ec_checker.specs.Judged.{next, tick_holds, full_holds, average_holds, weights_hold, leaf_holds, leaf_judged, then_judged, tree_judged, trees_judged}
+use Rattle.ec_checker.specs.Judged.{next, tick_holds, full_holds, average_holds, weights_hold, tick_reaches, level_holds, leaf_holds, leaf_judged, then_judged, tree_judged, trees_judged}
 
 -- yes where it holds, and else the fault of a node
 abbrev pub Found : Type 0 → Result ℕ CheckFault → Type 0
 Found P r = MatchResult r (λ _. P) (λ e. IsNodeFault e × (¬ P))
 
-abbrev closed : Prefix → List ℕ → Type 0
-closed ps order = ⊥
+-- what an open leaf has to be: nothing is enough where there is no level
+abbrev pub open_is : Line → Option ℕ → Prefix → List ℕ → Type 0
+open_is line None ps order = ⊥
+open_is line (Some l) ps order = LevelHolds line (Some l) ps
 
 found_leaf : (P : Type 0) (b : Bool) (k : ℕ) → (b ≡ true → P) → (P → b ≡ true) → Found P (leaf_judged b k)
 found_leaf P true k to back = to refl
@@ -101,33 +112,85 @@ found_closed line v ps (full t s) k = found_full line.loads line.slots ps t s k
 found_closed line v ps average k = found_average line.loads line.slots v ps k
 found_closed line v ps (weighted w) k = found_weights line.loads line.slots v ps w k
 
+-- the test of a level says whether it holds
+below_is : (line : Line) (l : ℕ) (ps : Prefix) (t : ℕ) → nat_le l (tick_cost (items line.loads ps) line.slots t) ≡ true → TickHolds line.loads line.slots (Some l) ps t
+below_is line l ps t e = (l, refl, leb-true l (tick_cost (items line.loads ps) line.slots t) e)
+
+some_below : (line : Line) (l : ℕ) (ps : Prefix) (ticks : List ℕ) → list_any (λ t. nat_le l (tick_cost (items line.loads ps) line.slots t)) ticks ≡ true → (t : ℕ) × TickHolds line.loads line.slots (Some l) ps t
+some_below line l ps [] e = absurd (false≢true e)
+some_below line l ps (t ∷ ts) e = elim (or_cases (nat_le l (tick_cost (items line.loads ps) line.slots t)) _ e) [
+  | inl here ↦ (t, below_is line l ps t here)
+  | inr later ↦ some_below line l ps ts later
+]
+
+average_from : (line : Line) (l : ℕ) (ps : Prefix) → average_holds line.loads line.slots (Some l) ps ≡ true → AverageHolds line.loads line.slots (Some l) ps
+average_from line l ps e =
+    let m = lcm_of (periods_of line.loads) in
+    (l, refl, ltb-true (l * m) (least_raw line.loads line.slots ps m + m) e)
+
+pub reaches_from : (line : Line) (l : ℕ) (ps : Prefix) → tick_reaches line.loads line.slots l ps ≡ true → (t : ℕ) × TickHolds line.loads line.slots (Some l) ps t
+reaches_from line l ps e = some_below line l ps (range_with_len 0 (lcm_of (periods_of line.loads))) e
+
+level_from : (line : Line) (l : ℕ) (ps : Prefix) → level_holds line (Some l) ps ≡ true → LevelHolds line (Some l) ps
+level_from line l ps e = elim (or_cases (tick_reaches line.loads line.slots l ps) (average_holds line.loads line.slots (Some l) ps) e) [
+  | inl found ↦ inl (reaches_from line l ps found)
+  | inr holds ↦ inr (average_from line l ps holds)
+]
+
+-- a tick that costs enough repeats below the hyperperiod
+pub reaches_to : (line : Line) (l : ℕ) (ps : Prefix) → AreLoads line.loads → (t : ℕ) → TickHolds line.loads line.slots (Some l) ps t → tick_reaches line.loads line.slots l ps ≡ true
+reaches_to line l ps within t h =
+    let m = lcm_of (periods_of line.loads) in
+    let pos : 0 < m = lcm_of-pos (periods_of line.loads) (positive_loads line.loads within) in
+    let turned = tick_cost-mod (items line.loads ps) line.slots m t (DivideAll-loads line.loads ps m within refl) in
+    let e : l ≡ h.0 = cc in
+    let enough : l ≤ tick_cost (items line.loads ps) line.slots (t % m) = omega (arith, e, h.2, turned) in
+    let place : get_or (range_with_len 0 m) (t % m) 0 ≡ t % m = omega (arith, get_or-range_with_len 0 m (t % m) 0 (mod_below t m pos)) in
+    list_any_at (λ i. nat_le l (tick_cost (items line.loads ps) line.slots i)) (range_with_len 0 m) (t % m) 0
+    (omega (arith, mod_below t m pos, length-range_with_len 0 m))
+    (ap (λ i. nat_le l (tick_cost (items line.loads ps) line.slots i)) place ∙ le-leb l (tick_cost (items line.loads ps) line.slots (t % m)) enough)
+
+average_to : (line : Line) (l : ℕ) (ps : Prefix) → AverageHolds line.loads line.slots (Some l) ps → average_holds line.loads line.slots (Some l) ps ≡ true
+average_to line l ps h =
+    let m = lcm_of (periods_of line.loads) in
+    let e : l ≡ h.0 = cc in
+    lt-ltb (l * m) (least_raw line.loads line.slots ps m + m) (subst (λ w. w * m < least_raw line.loads line.slots ps m + m) (sym e) h.2)
+
+level_to : (line : Line) (l : ℕ) (ps : Prefix) → AreLoads line.loads → LevelHolds line (Some l) ps → level_holds line (Some l) ps ≡ true
+level_to line l ps within (inl (t, h)) = λ j. reaches_to line l ps within t h j || average_holds line.loads line.slots (Some l) ps
+level_to line l ps within (inr h) = ap (λ w. tick_reaches line.loads line.slots l ps || w) (average_to line l ps h) ∙ or-true (tick_reaches line.loads line.slots l ps)
+
+found_open : (line : Line) (level : Option ℕ) (ps : Prefix) (order : List ℕ) (k : ℕ) → AreLoads line.loads → Found (open_is line level ps order) (leaf_judged (level_holds line level ps) k)
+found_open line None ps order k within = (tt, λ h. h)
+found_open line (Some l) ps order k within = found_leaf (LevelHolds line (Some l) ps) (level_holds line (Some l) ps) k (level_from line l ps) (level_to line l ps within)
+
 -- as many trees as children
-trees_count : (line : Line) (v : Option ℕ) (ts : Shapes) (ps : Prefix) (u : ℕ) (order : List ℕ) (places : List Place) → TreesWith closed line v ts ps u order places → shape_count ts ≡ length places
-trees_count line v no_shapes ps u order [] h = refl
-trees_count line v no_shapes ps u order (p ∷ rest) h = absurd h
-trees_count line v (more t ts) ps u order [] h = absurd h
-trees_count line v (more t ts) ps u order (p ∷ rest) h = ap suc (trees_count line v ts ps u order rest h.1)
+trees_count : (line : Line) (v level : Option ℕ) (ts : Shapes) (ps : Prefix) (u : ℕ) (order : List ℕ) (places : List Place) → TreesWith (open_is line level) line v ts ps u order places → shape_count ts ≡ length places
+trees_count line v level no_shapes ps u order [] h = refl
+trees_count line v level no_shapes ps u order (p ∷ rest) h = absurd h
+trees_count line v level (more t ts) ps u order [] h = absurd h
+trees_count line v level (more t ts) ps u order (p ∷ rest) h = ap suc (trees_count line v level ts ps u order rest h.1)
 
 found_split : (P : Type 0) (b : Bool) (r : Result ℕ CheckFault) (k want got : ℕ) → (b ≡ true → Found P r) → (P → b ≡ true) → Found P (if b then r else Err (fault.Children k want got))
 found_split P true r k want got to back = to refl
 found_split P false r k want got to back = (tt, λ p. false≢true (back p))
 
 mutual
-  pub found_tree : (line : Line) (v : Option ℕ) (t : Shape) (ps : Prefix) (order : List ℕ) (k : ℕ) → Found (TreeWith closed line v t ps order) (tree_judged line v t ps order k)
-  found_tree line v (split ts) ps [] k = (tt, λ h. h)
-  found_tree line v (split ts) ps (u ∷ order) k =
+  pub found_tree : (line : Line) (v level : Option ℕ) (t : Shape) (ps : Prefix) (order : List ℕ) (k : ℕ) → AreLoads line.loads → Found (TreeWith (open_is line level) line v t ps order) (tree_judged line v level t ps order k)
+  found_tree line v level (split ts) ps [] k within = (tt, λ h. h)
+  found_tree line v level (split ts) ps (u ∷ order) k within =
       let kids = children line ps u in
-      found_split (TreesWith closed line v ts ps u order kids) (shape_count ts == length kids) (trees_judged line v ts ps u order kids (next k)) k (length kids) (shape_count ts)
-      (λ e. found_trees line v ts ps u order kids (next k) (eqb-true (shape_count ts) (length kids) e))
-      (λ h. eq-eqb (shape_count ts) (length kids) (trees_count line v ts ps u order kids h))
-  found_tree line v (leaf l) ps order k = found_closed line v ps l k
-  found_tree line v open_leaf ps order k = (tt, λ h. h)
+      found_split (TreesWith (open_is line level) line v ts ps u order kids) (shape_count ts == length kids) (trees_judged line v level ts ps u order kids (next k)) k (length kids) (shape_count ts)
+      (λ e. found_trees line v level ts ps u order kids (next k) within (eqb-true (shape_count ts) (length kids) e))
+      (λ h. eq-eqb (shape_count ts) (length kids) (trees_count line v level ts ps u order kids h))
+  found_tree line v level (leaf l) ps order k within = found_closed line v ps l k
+  found_tree line v level open_leaf ps order k within = found_open line level ps order k within
 
-  found_trees : (line : Line) (v : Option ℕ) (ts : Shapes) (ps : Prefix) (u : ℕ) (order : List ℕ) (places : List Place) (k : ℕ) → shape_count ts ≡ length places → Found (TreesWith closed line v ts ps u order places) (trees_judged line v ts ps u order places k)
-  found_trees line v no_shapes ps u order [] k e = tt
-  found_trees line v no_shapes ps u order (p ∷ rest) k e = absurd (omega (arith, e))
-  found_trees line v (more t ts) ps u order [] k e = absurd (omega (arith, e))
-  found_trees line v (more t ts) ps u order (p ∷ rest) k e =
-      found_then (TreeWith closed line v t (set ps u (Some p)) order) (TreesWith closed line v ts ps u order rest) (tree_judged line v t (set ps u (Some p)) order k) (λ j. trees_judged line v ts ps u order rest j)
-      (found_tree line v t (set ps u (Some p)) order k)
-      (λ j. found_trees line v ts ps u order rest j (omega (arith, e)))
+  found_trees : (line : Line) (v level : Option ℕ) (ts : Shapes) (ps : Prefix) (u : ℕ) (order : List ℕ) (places : List Place) (k : ℕ) → AreLoads line.loads → shape_count ts ≡ length places → Found (TreesWith (open_is line level) line v ts ps u order places) (trees_judged line v level ts ps u order places k)
+  found_trees line v level no_shapes ps u order [] k within e = tt
+  found_trees line v level no_shapes ps u order (p ∷ rest) k within e = absurd (omega (arith, e))
+  found_trees line v level (more t ts) ps u order [] k within e = absurd (omega (arith, e))
+  found_trees line v level (more t ts) ps u order (p ∷ rest) k within e =
+      found_then (TreeWith (open_is line level) line v t (set ps u (Some p)) order) (TreesWith (open_is line level) line v ts ps u order rest) (tree_judged line v level t (set ps u (Some p)) order k) (λ j. trees_judged line v level ts ps u order rest j)
+      (found_tree line v level t (set ps u (Some p)) order k within)
+      (λ j. found_trees line v level ts ps u order rest j within (omega (arith, e)))

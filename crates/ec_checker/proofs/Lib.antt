@@ -1,4 +1,5 @@
 pub mod CheckLemmas
 pub mod FoundLemmas
 pub mod HeadLemmas
+pub mod LevelLemmas
 pub mod WalkLemmas

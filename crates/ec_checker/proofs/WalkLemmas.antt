@@ -16,55 +16,55 @@ use Rattle.ec_checker.specs.declared.fault.CheckFault.TheVariants as fault
 use Rattle.ec_checker.specs.Judged.{IsReady, next, then_judged, tree_judged, trees_judged}
 
 -- what is found in these trees, for these children
-abbrev pub judged_from : Rules → Held → Option ℕ → List Tree → ℕ → List ℕ → List Place → ℕ → Result ℕ CheckFault
-judged_from rules held v ts u order places k = trees_judged (line_of rules held) v (shapes_of ts) held.places u order places k
+abbrev pub judged_from : Rules → Held → Option ℕ → Option ℕ → List Tree → ℕ → List ℕ → List Place → ℕ → Result ℕ CheckFault
+judged_from rules held v level ts u order places k = trees_judged (line_of rules held) v level (shapes_of ts) held.places u order places k
 
-abbrev pub tree_at : Rules → Held → Option ℕ → Shape → List ℕ → ℕ → Result ℕ CheckFault
-tree_at rules held v t order k = tree_judged (line_of rules held) v t held.places order k
+abbrev pub tree_at : Rules → Held → Option ℕ → Option ℕ → Shape → List ℕ → ℕ → Result ℕ CheckFault
+tree_at rules held v level t order k = tree_judged (line_of rules held) v level t held.places order k
 
 abbrev pub kids : Rules → Held → ℕ → List Place
 kids rules held u = children (line_of rules held) held.places u
 
 -- one more child
-pub child_step : (rules : Rules) (held placed : Held) (v : Option ℕ) (ts : List Tree) (u : ℕ) (order : List ℕ) (ps rest : List Place) (p : Place) (i k : ℕ) (t : Tree) (r : Result ℕ CheckFault) → i < length ts → t ≡ get_or ts i t → ps ≡ p ∷ rest → placed ≡ with_place held u (Some p) → r ≡ tree_at rules placed v (shape_of t) order k
-    → judged_from rules held v (drop i ts) u order ps k ≡ then_judged r (λ j. judged_from rules held v (drop (i + 1) ts) u order rest j)
-child_step rules held placed v ts u order ps rest p i k t r h is first made judged =
-    let later : ℕ → Result ℕ CheckFault = λ j. judged_from rules held v (drop (i + 1) ts) u order rest j in
-    let one : tree_judged (line_of rules held) v (shape_of (get_or ts i t)) (set held.places u (Some p)) order k ≡ r =
-    ap (λ x. tree_judged (line_of rules held) v (shape_of x) (set held.places u (Some p)) order k) (sym is)
-    ∙ ap (λ (w : Held). tree_at rules w v (shape_of t) order k) (sym made)
+pub child_step : (rules : Rules) (held placed : Held) (v level : Option ℕ) (ts : List Tree) (u : ℕ) (order : List ℕ) (ps rest : List Place) (p : Place) (i k : ℕ) (t : Tree) (r : Result ℕ CheckFault) → i < length ts → t ≡ get_or ts i t → ps ≡ p ∷ rest → placed ≡ with_place held u (Some p) → r ≡ tree_at rules placed v level (shape_of t) order k
+    → judged_from rules held v level (drop i ts) u order ps k ≡ then_judged r (λ j. judged_from rules held v level (drop (i + 1) ts) u order rest j)
+child_step rules held placed v level ts u order ps rest p i k t r h is first made judged =
+    let later : ℕ → Result ℕ CheckFault = λ j. judged_from rules held v level (drop (i + 1) ts) u order rest j in
+    let one : tree_judged (line_of rules held) v level (shape_of (get_or ts i t)) (set held.places u (Some p)) order k ≡ r =
+    ap (λ x. tree_judged (line_of rules held) v level (shape_of x) (set held.places u (Some p)) order k) (sym is)
+    ∙ ap (λ (w : Held). tree_at rules w v level (shape_of t) order k) (sym made)
     ∙ sym judged in
-    ap (λ s. trees_judged (line_of rules held) v s held.places u order ps k) (shapes_of-drop ts i t h)
-    ∙ ap (λ w. trees_judged (line_of rules held) v (more (shape_of (get_or ts i t)) (shapes_of (drop (i + 1) ts))) held.places u order w k) first
+    ap (λ s. trees_judged (line_of rules held) v level s held.places u order ps k) (shapes_of-drop ts i t h)
+    ∙ ap (λ w. trees_judged (line_of rules held) v level (more (shape_of (get_or ts i t)) (shapes_of (drop (i + 1) ts))) held.places u order w k) first
     ∙ ap (λ w. then_judged w later) one
 
 -- no tree is left
-pub no_more_trees : (rules : Rules) (held : Held) (v : Option ℕ) (ts : List Tree) (u : ℕ) (order : List ℕ) (ps : List Place) (i k : ℕ) → length ts ≤ i → judged_from rules held v (drop i ts) u order ps k ≡ Ok k
-no_more_trees rules held v ts u order ps i k h = ap (λ w. judged_from rules held v w u order ps k) (drop_all i ts h)
+pub no_more_trees : (rules : Rules) (held : Held) (v level : Option ℕ) (ts : List Tree) (u : ℕ) (order : List ℕ) (ps : List Place) (i k : ℕ) → length ts ≤ i → judged_from rules held v level (drop i ts) u order ps k ≡ Ok k
+no_more_trees rules held v level ts u order ps i k h = ap (λ w. judged_from rules held v level w u order ps k) (drop_all i ts h)
 
 -- no child is left
-pub no_more_children : (rules : Rules) (held : Held) (v : Option ℕ) (ts : List Tree) (u : ℕ) (order : List ℕ) (ps : List Place) (k : ℕ) → ps ≡ [] → judged_from rules held v ts u order ps k ≡ Ok k
-no_more_children rules held v [] u order ps k e = refl
-no_more_children rules held v (t ∷ ts) u order ps k e = ap (λ w. judged_from rules held v (t ∷ ts) u order w k) e
+pub no_more_children : (rules : Rules) (held : Held) (v level : Option ℕ) (ts : List Tree) (u : ℕ) (order : List ℕ) (ps : List Place) (k : ℕ) → ps ≡ [] → judged_from rules held v level ts u order ps k ≡ Ok k
+no_more_children rules held v level [] u order ps k e = refl
+no_more_children rules held v level (t ∷ ts) u order ps k e = ap (λ w. judged_from rules held v level (t ∷ ts) u order w k) e
 
 -- a split whose trees are as many as the children
-pub split_is : (rules : Rules) (held : Held) (v : Option ℕ) (tree : Tree) (trees : Vec Tree Global) (order later : List ℕ) (u k : ℕ) → tree ≡ Split trees → order ≡ u ∷ later → length trees.items ≡ length (kids rules held u)
-    → tree_at rules held v (shape_of tree) order k ≡ judged_from rules held v trees.items u later (kids rules held u) (next k)
-split_is rules held v tree trees order later u k is from count =
+pub split_is : (rules : Rules) (held : Held) (v level : Option ℕ) (tree : Tree) (trees : Vec Tree Global) (order later : List ℕ) (u k : ℕ) → tree ≡ Split trees → order ≡ u ∷ later → length trees.items ≡ length (kids rules held u)
+    → tree_at rules held v level (shape_of tree) order k ≡ judged_from rules held v level trees.items u later (kids rules held u) (next k)
+split_is rules held v level tree trees order later u k is from count =
     let whole : shape_of tree ≡ split (shapes_of trees.items) = ap shape_of is ∙ shape_of-Split trees in
     let same : (shape_count (shapes_of trees.items) == length (kids rules held u)) ≡ true = eq-eqb (shape_count (shapes_of trees.items)) (length (kids rules held u)) (shape_count-shapes_of trees.items ∙ count) in
-    (λ j. tree_at rules held v (whole j) (from j) k)
-    ∙ ap (λ b. if b then judged_from rules held v trees.items u later (kids rules held u) (next k) else Err (fault.Children k (length (kids rules held u)) (shape_count (shapes_of trees.items)))) same
+    (λ j. tree_at rules held v level (whole j) (from j) k)
+    ∙ ap (λ b. if b then judged_from rules held v level trees.items u later (kids rules held u) (next k) else Err (fault.Children k (length (kids rules held u)) (shape_count (shapes_of trees.items)))) same
 
 -- a split with another count of trees
-pub split_wrong : (rules : Rules) (held : Held) (v : Option ℕ) (tree : Tree) (trees : Vec Tree Global) (order later : List ℕ) (u k : ℕ) → tree ≡ Split trees → order ≡ u ∷ later → (length trees.items ≡ length (kids rules held u) → ⊥)
-    → tree_at rules held v (shape_of tree) order k ≡ Err (fault.Children k (length (kids rules held u)) (length trees.items))
-split_wrong rules held v tree trees order later u k is from other =
+pub split_wrong : (rules : Rules) (held : Held) (v level : Option ℕ) (tree : Tree) (trees : Vec Tree Global) (order later : List ℕ) (u k : ℕ) → tree ≡ Split trees → order ≡ u ∷ later → (length trees.items ≡ length (kids rules held u) → ⊥)
+    → tree_at rules held v level (shape_of tree) order k ≡ Err (fault.Children k (length (kids rules held u)) (length trees.items))
+split_wrong rules held v level tree trees order later u k is from other =
     let whole : shape_of tree ≡ split (shapes_of trees.items) = ap shape_of is ∙ shape_of-Split trees in
     let count = shape_count-shapes_of trees.items in
     let differs : (shape_count (shapes_of trees.items) == length (kids rules held u)) ≡ false = ne_eqb (shape_count (shapes_of trees.items)) (length (kids rules held u)) (λ e. other (sym count ∙ e)) in
-    (λ j. tree_at rules held v (whole j) (from j) k)
-    ∙ ap (λ b. if b then judged_from rules held v trees.items u later (kids rules held u) (next k) else Err (fault.Children k (length (kids rules held u)) (shape_count (shapes_of trees.items)))) differs
+    (λ j. tree_at rules held v level (whole j) (from j) k)
+    ∙ ap (λ b. if b then judged_from rules held v level trees.items u later (kids rules held u) (next k) else Err (fault.Children k (length (kids rules held u)) (shape_count (shapes_of trees.items)))) differs
     ∙ ap (λ c. Err (fault.Children k (length (kids rules held u)) c)) count
 
 -- the next unit of a ready order

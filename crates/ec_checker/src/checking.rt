@@ -1,13 +1,15 @@
 //! The checker.
 
-ghost use Rattle.std.specs.Prelude.{◌≡◌, ◌≢◌, IfOk, Err};
+ghost use Rattle.std.specs.Prelude.{◌≡◌, ◌≢◌, Option, IfOk, IfErr, Err};
 ghost use Rattle.ec_units.specs.Load.{loads_of};
+ghost use Rattle.ec_cert.specs.declared.cert.Best.{Best};
+ghost use Rattle.ec_cert.specs.BestPlan.{value_of as value_of_best};
 ghost use Rattle.ec_cert.specs.Shapes.{cert_view};
 ghost use Rattle.ec_cert.specs.Versions.{rules_of};
 ghost use Rattle.ec_loads.specs.Held.{no_places};
 ghost use Rattle.ec_loads.specs.Line.{rules_if};
 ghost use Rattle.ec_checker.specs.declared.fault.CheckFault.TheVariants.{OutOfMemory};
-ghost use Rattle.ec_checker.specs.Certified.{IsAnswer, IsClaim};
+ghost use Rattle.ec_checker.specs.Certified.{IsAnswer, IsClaim, IsLevelIn, IsLevelFault, verdict_of};
 
 use crate::best::value_of;
 use crate::fault::{CheckFault, Verdict};
@@ -17,7 +19,7 @@ use crate::walk::walk;
 use ec_bounds::Rest;
 use ec_cert::Cert;
 use ec_loads::Loads;
-use ec_tree::trees_bound;
+use ec_tree::{levels_bound, trees_bound};
 use ec_units::Units;
 use std::alloc::Global;
 
@@ -28,9 +30,38 @@ fn is_turned(version: u8) -> bool
     1 < version
 }
 
+/// Whether the level, if there is one, isn't above the value.
+fn level_within(level: Option<u64>, value: Option<u64>) -> Result<(), CheckFault>
+    ensures ok { IfOk result (λ _. IsLevelIn level value) }
+    ensures fault { IfErr result (IsLevelFault level value) }
+{
+    match (level, value) {
+        (Some(level), Some(value)) if value < level => Err(CheckFault::Level(level, value)),
+        _ => Ok(()),
+    }
+}
+
+/// What a certificate with this level, and a best plan of this value, shows where nothing in it is at fault.
+fn verdict_at(level: Option<u64>, value: Option<u64>) -> Verdict
+    ensures { (best : Option Best) → value ≡ value_of_best best → result ≡ verdict_of best level }
+{
+    match level {
+        Some(level) => Verdict::AtLeast(level),
+        None => match value {
+            Some(value) => Verdict::Least(value),
+            None => Verdict::NoPlan,
+        },
+    }
+}
+
 /// Whether a certificate, whoever made it, shows that its plan is the best of all legal plans of these units, or
-/// that none is legal. A yes says so of every legal plan; a no is the first fault: of the units, the order, the
-/// plan, its stated cost, and then of the tree, node by node.
+/// that none is legal; or where it has a level, that every legal plan has a tick that costs at least this. A yes says so
+/// of every legal plan; a no is the first fault: of the units, the order, the plan, its stated cost, the level, and then
+/// of the tree, node by node.
+///
+/// Where there is a level, whatever the version, the tree may have open leaves, at each of which the level has to hold
+/// by a tick of its places or by the average; a level above the value is a fault, and the value itself is never shown
+/// then, not even where no leaf is open. Without a level an open leaf doesn't hold.
 ///
 /// The tree is judged by the rules of the certificate's own version: in version 1 the children of a prefix are made by
 /// slots alone, in later ones time is turned, which leaves the first unit of the order phase 0 alone. A leaf by
@@ -48,6 +79,7 @@ pub fn check_in(loads: &mut Loads, units: &Units, cert: &Cert) -> Result<Verdict
     ensures memory { result ≢ Err OutOfMemory }
 {
     trees_bound();
+    levels_bound();
     if !is_for(units, cert) {
         return Err(CheckFault::OtherUnits);
     }
@@ -56,13 +88,13 @@ pub fn check_in(loads: &mut Loads, units: &Units, cert: &Cert) -> Result<Verdict
         return Err(CheckFault::Order);
     }
     let value = value_of(units, &cert.best)?;
+    level_within(cert.level, value)?;
     let mut rest = Rest::all(units);
     let turned = is_turned(cert.version);
-    walk(loads, &mut rest, turned, value, order, &cert.tree, 0)?;
-    match value {
-        Some(value) => Ok(Verdict::Least(value)),
-        None => Ok(Verdict::NoPlan),
-    }
+    walk(
+        loads, &mut rest, turned, value, cert.level, order, &cert.tree, 0,
+    )?;
+    Ok(verdict_at(cert.level, value))
 }
 
 /// What `check_in` answers, over loads that are made for it. It takes memory once, for the places of the units.

@@ -14,6 +14,9 @@ pub enum Verdict {
     Least(u64),
     /// No plan is legal.
     NoPlan,
+    /// The certificate's plan, where it has one, is legal with its stated cost, and every legal plan has a tick that
+    /// costs at least this, in wire bytes.
+    AtLeast(u64),
 }
 
 /// Why a certificate shows nothing. Nodes are numbered from 0, each before its children; a number that a `usize`
@@ -33,10 +36,12 @@ pub enum CheckFault {
     /// A split has not one tree for each child that the rules of its version give: the node, the count of children,
     /// and the count of trees.
     Children(usize, usize, usize),
-    /// This leaf doesn't hold.
+    /// This leaf doesn't hold, an open one at the level.
     Leaf(usize),
     /// This node is a split where every unit has a place.
     Depth(usize),
+    /// The level is above the value: both, in wire bytes. Judged before the nodes.
+    Level(u64, u64),
 }
 
 impl From<AllocError> for CheckFault {

@@ -8,8 +8,10 @@ mod law;
 mod leaf;
 mod order;
 mod same;
+mod shown;
 mod walk;
 
 pub use checking::{check, check_in};
 pub use fault::{CheckFault, Verdict};
 pub use law::faults_refute;
+pub use shown::{level, level_in};

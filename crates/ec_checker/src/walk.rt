@@ -7,20 +7,21 @@ ghost use Rattle.ec_cert.specs.Shapes.{shape_of};
 ghost use Rattle.ec_checker.specs.Judged.{IsReady, tree_judged};
 
 use crate::fault::CheckFault;
-use crate::leaf::{average_holds, full_holds, judged, tick_holds, weights_hold};
+use crate::leaf::{average_holds, full_holds, judged, level_holds, tick_holds, weights_hold};
 use ec_bounds::Rest;
 use ec_cert::Tree;
 use ec_loads::Loads;
 use ec_symmetry::children_of;
 
-/// Whether a tree holds at the places so far, its children by slots alone or where time is turned: the number of the
-/// node after it, or its first fault. The places are as before afterwards. Each node is visited once, and no recursion
-/// is deeper than the order is long.
+/// Whether a tree holds at the places so far, its children by slots alone or where time is turned, its open leaves at
+/// the level, which none do where there is no level: the number of the node after it, or its first fault. The places
+/// are as before afterwards. Each node is visited once, and no recursion is deeper than the order is long.
 pub(crate) fn walk(
     loads: &mut Loads,
     rest: &mut Rest,
     turned: bool,
     value: Option<u64>,
+    level: Option<u64>,
     order: &[u8],
     tree: &Tree,
     number: usize,
@@ -29,7 +30,7 @@ pub(crate) fn walk(
     requires left { IsRestOf rest.old loads.old }
     ensures same { loads.new ≡ loads.old }
     ensures left { IsRestOf rest.new loads.new }
-    ensures judged { result ≡ tree_judged (line_of (rules_if turned) loads.old) value (shape_of tree.now) loads.old.places order.now number }
+    ensures judged { result ≡ tree_judged (line_of (rules_if turned) loads.old) value level (shape_of tree.now) loads.old.places order.now number }
 {
     match tree {
         Tree::Split(trees) => match order.split_first() {
@@ -47,7 +48,7 @@ pub(crate) fn walk(
                     };
                     loads.place(unit, place);
                     rest.placed(unit);
-                    let child = walk(loads, rest, turned, value, later, &trees[i], at);
+                    let child = walk(loads, rest, turned, value, level, later, &trees[i], at);
                     loads.remove(unit);
                     rest.unplaced(unit);
                     at = child?;
@@ -62,6 +63,6 @@ pub(crate) fn walk(
             weights_hold(loads, rest, value, weights.as_slice()),
             number,
         ),
-        Tree::OpenLeaf => judged(false, number),
+        Tree::OpenLeaf => judged(level_holds(loads, rest, level), number),
     }
 }

@@ -1,17 +1,18 @@
 -- What several workers make of a book.
-use Rattle.std.specs.Prelude.{ℕ, List}
+use Rattle.std.specs.Prelude.{ℕ, List, Option}
 use Rattle.ec_units.specs.declared.unit.Load.{Load}
 use Rattle.ec_units.specs.declared.unit.Unit.{Unit as SyncUnit}
+use Rattle.ec_loads.specs.Shape.{Shape}
 use Rattle.ec_book.specs.declared.book.Finished.{Finished}
 use Rattle.ec_book.specs.Views.{BookView}
-use Rattle.ec_book.specs.Books.{IsBookOf}
+use Rattle.ec_book.specs.Books.{IsBookOf, BeganWith}
 use Rattle.ec_book.specs.Finishing.{IsFinishedOf}
 use Rattle.ec_seats.specs.Seats.{IsFor}
 
--- it came of some book for these loads, this slot count and this order
-abbrev pub IsClosedFor : List Load → ℕ → List ℕ → Finished → Type 0
-IsClosedFor loads n order f = (b : BookView) × IsFor loads n order b × IsFinishedOf b f
+-- it came of some book for these loads, this slot count and this order, whose search was given this tree and this value
+abbrev pub IsClosedFor : List Load → ℕ → List ℕ → Shape → Option ℕ → Finished → Type 0
+IsClosedFor loads n order given value f = (b : BookView) × IsFor loads n order b × BeganWith given value b × IsFinishedOf b f
 
--- it came of some book for these units and this order
-abbrev pub IsCrewed : List SyncUnit → ℕ → List ℕ → Finished → Type 0
-IsCrewed us n order f = (b : BookView) × IsBookOf us n order b × IsFinishedOf b f
+-- it came of some book for these units and this order, whose search was given this tree and this value
+abbrev pub IsCrewed : List SyncUnit → ℕ → List ℕ → Shape → Option ℕ → Finished → Type 0
+IsCrewed us n order given value f = (b : BookView) × IsBookOf us n order b × BeganWith given value b × IsFinishedOf b f

@@ -3,6 +3,7 @@ use Rattle.std.specs.Prelude.{◌≡◌, ◌≢◌, ℕ, ◌≤◌, List, Option
 use Rattle.ec_units.specs.declared.unit.Load.{Load}
 use Rattle.ec_loads.specs.Line.{turned_time, line_by}
 use Rattle.ec_loads.specs.Search.{IsAtMost}
+use Rattle.ec_loads.specs.Shape.{Shape}
 use Rattle.ec_symmetry.specs.Orders.{IsReachedPrefix}
 use Rattle.ec_cert.specs.BestPlan.{value_of}
 use Rattle.ec_book.specs.declared.step.Step.{Step}
@@ -26,6 +27,6 @@ LeavesPiece steps piece (became.Again v) = Unit {0}
 LeavesPiece steps piece (became.Stopped e) = e ≢ ended.Refused → holds steps piece ≡ false
 
 -- where a piece is to be explored again, it is at the value of some book of the search, and that is above the value at which the leaves hold
-abbrev pub FindsValue : List Load → ℕ → List ℕ → Option ℕ → Turn → Type 0
-FindsValue loads n order threshold (became.Again v) = HasBook loads n order (λ b. (v ≡ value_of b.best) × (¬ (IsAtMost v threshold)))
-FindsValue loads n order threshold _ = Unit {0}
+abbrev pub FindsValue : List Load → ℕ → List ℕ → Shape → Option ℕ → Option ℕ → Turn → Type 0
+FindsValue loads n order given value threshold (became.Again v) = HasBook loads n order given value (λ b. (v ≡ value_of b.best) × (¬ (IsAtMost v threshold)))
+FindsValue loads n order given value threshold _ = Unit {0}

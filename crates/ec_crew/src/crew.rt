@@ -2,7 +2,7 @@
 
 ghost use Rattle.std.specs.Prelude.{◌≡◌, ◌≢◌, ◌≤◌, IfOk, [], length, vec_len, vec_capacity, All};
 ghost use Rattle.ec_symmetry.specs.Orders.{IsOrder};
-ghost use Rattle.ec_book.specs.Books.{IsBookOf};
+ghost use Rattle.ec_book.specs.Books.{IsBookOf, BeganWith};
 ghost use Rattle.ec_seats.specs.Seats.{AreOf};
 ghost use Rattle.ec_seats.specs.Closing.{IsJournal};
 ghost use Rattle.ec_tickets.specs.Lowest.{IsNewReader};
@@ -13,7 +13,7 @@ use crate::ended::Ended;
 use crate::gate::Gate;
 use crate::pieces::left_free;
 use crate::post::Post;
-use crate::seeding::seed;
+use crate::seeding::{Opening, seed};
 use crate::threads::{deal, into_slots, joined, out_of_slots, work_all};
 use ec_book::{Book, Finished};
 use ec_seats::{CloseFault, Search, Seat, Shared};
@@ -55,7 +55,7 @@ fn closed<S: Search>(
     ended: Ended,
 ) -> Result<Crewed, CrewFault>
     requires { vec_len seats ≡ S.parts }
-    ensures closed { IfOk result (λ c. IsClosedFor S.loads S.slots S.order c.finished) }
+    ensures closed { IfOk result (λ c. IsClosedFor S.loads S.slots S.order S.given S.given_value c.finished) }
     ensures journal { IfOk result (λ c. c.ended ≢ Refused → (c.ended ≡ ended) × IsJournal seats.entry.items c.finished.log) }
 {
     match shared.close(alloc, seats) {
@@ -69,12 +69,13 @@ fn closed<S: Search>(
     }
 }
 
-/// Lets worker 0 seed and then each worker work in a thread of its own; why they ended, if one of them could be started.
+/// Lets worker 0 seed, from what it begins with, and then each worker work in a thread of its own; why they ended, if one of them could be started.
 fn run_all<S: Search + Send + Sync, R: Threads + Wait + Sync, G: Gate + Sync>(
     rt: &R,
     alloc: Global,
     shared: &Shared<S>,
     slots: &[Mutex<Post<'_, '_, '_, S>>],
+    opening: Opening,
     gate: &G,
     handles: Vec<JoinHandle<Ended>>,
 ) -> Option<Ended>
@@ -82,8 +83,15 @@ fn run_all<S: Search + Send + Sync, R: Threads + Wait + Sync, G: Gate + Sync>(
     requires empty { vec_len handles ≡ 0 }
     requires room { length slots.now ≤ vec_capacity handles }
 {
-    let seeded = seed(rt, alloc, shared, &mut *slots[0].lock(rt), slots.len());
-    let (first, end) = left_free(slots[0].lock(rt).seat.receipts());
+    let seeded = seed(
+        rt,
+        alloc,
+        shared,
+        &mut *slots[0].lock(rt),
+        opening,
+        slots.len(),
+    );
+    let (first, end) = left_free(slots[0].lock(rt).seat.receipts(), opening.pieces as u64);
     deal(rt, slots, first, end);
     let others = match seeded {
         Some(_) => &slots[1..],
@@ -119,6 +127,7 @@ fn search_on<S: Search + Send + Sync, R: Threads + Wait + Sync, G: Gate + Sync>(
     units: &Units,
     order: &[u8],
     workers: usize,
+    greedy: bool,
     gate: &G,
 ) -> Result<Crewed, CrewFault>
     requires name { blank.name ≡ S.name }
@@ -127,9 +136,15 @@ fn search_on<S: Search + Send + Sync, R: Threads + Wait + Sync, G: Gate + Sync>(
     requires order { IsOrder (length units.now.units) order.now }
     requires search { AreOf S.loads S.slots S.order units.now.units units.now.slots order.now }
     requires book { IsBookOf units.now.units units.now.slots order.now book }
+    requires began { BeganWith S.given S.given_value book }
     requires unused { book.log ≡ [] }
-    ensures { IfOk result (λ c. IsClosedFor S.loads S.slots S.order c.finished) }
+    ensures { IfOk result (λ c. IsClosedFor S.loads S.slots S.order S.given S.given_value c.finished) }
 {
+    let opening = Opening {
+        value: book.value(),
+        pieces: book.open_pieces(),
+        greedy,
+    };
     let Ok((bound, readers, tickets)) = shared_means(alloc, workers) else {
         return Err(CrewFault::OutOfMemory);
     };
@@ -146,15 +161,17 @@ fn search_on<S: Search + Send + Sync, R: Threads + Wait + Sync, G: Gate + Sync>(
         return Err(CrewFault::OutOfMemory);
     };
     let slots = into_slots(seats, &bound, readers, tickets, slots);
-    let Some(ended) = run_all(rt, alloc, &shared, slots.as_slice(), gate, handles) else {
+    let Some(ended) = run_all(rt, alloc, &shared, slots.as_slice(), opening, gate, handles) else {
         return Err(CrewFault::Spawn);
     };
     closed(alloc, shared, out_of_slots(slots, back), ended)
 }
 
-/// Searches on a book on which nothing has happened, with 1 to 16 workers, each in a thread of its own. Worker 0 first
-/// offers the greedy plan and splits and closes single nodes until as many pieces are free as there are workers; the
-/// free pieces are then dealt to the workers in turn. `gate` is told before each later node. What the workers did comes back in the finished book, in whatever order they did it.
+/// Searches on a book on which nothing has happened, with 1 to 16 workers, each in a thread of its own. They begin at the
+/// value of the book, if it has one. Worker 0 first offers the greedy plan, where `greedy` says so, and splits and closes
+/// single nodes until as many pieces are free as there are workers; the free pieces are then dealt to the workers in
+/// turn. `gate` is told before each later node. What the workers did comes back in the finished book, in whatever order
+/// they did it; a book that goes on with a tree was given that tree.
 pub fn search_by_crew<R: Threads + Wait + Sync, G: Gate + Sync>(
     rt: &R,
     alloc: Global,
@@ -162,14 +179,15 @@ pub fn search_by_crew<R: Threads + Wait + Sync, G: Gate + Sync>(
     units: &Units,
     order: &[u8],
     workers: usize,
+    greedy: bool,
     gate: &G,
 ) -> Result<Crewed, CrewFault>
     requires few { (1 ≤ workers) × (workers ≤ 16) }
     requires order { IsOrder (length units.now.units) order.now }
     requires book { IsBookOf units.now.units units.now.slots order.now book }
     requires unused { book.log ≡ [] }
-    ensures { IfOk result (λ c. IsCrewed units.now.units units.now.slots order.now c.finished) }
+    ensures { IfOk result (λ c. IsCrewed units.now.units units.now.slots order.now book.given book.given_value c.finished) }
 {
     let blank = Blank::new(workers as u64);
-    search_on::<Brand, R, G>(rt, alloc, blank, book, units, order, workers, gate)
+    search_on::<Brand, R, G>(rt, alloc, blank, book, units, order, workers, greedy, gate)
 }

@@ -18,4 +18,4 @@ mod work;
 pub use copying::{copy_of, has_nodes};
 pub use crew::{CrewFault, Crewed, search_by_crew};
 pub use ended::Ended;
-pub use gate::Gate;
+pub use gate::{Gate, Quiet};

@@ -19,11 +19,11 @@ pub(crate) fn published(steps: &[Step]) -> Option<u64> {
     }
 }
 
-/// The pieces that are free when worker 0 has seeded: those after the ones that it reported, since it took the lowest
-/// free one each time. They are given as `opened` gives its pieces.
-pub(crate) fn left_free(steps: &[Step]) -> (u64, u64) {
+/// The pieces that are free when worker 0 has seeded, on a book that had so many at first: those after the ones that it
+/// reported, since it took the lowest free one each time. They are given as `opened` gives its pieces.
+pub(crate) fn left_free(steps: &[Step], pieces: u64) -> (u64, u64) {
     let mut low = 0u64;
-    let mut end = 1u64;
+    let mut end = pieces;
     for step in steps {
         if let Step::Reported { first, count, .. } = step {
             low = low.saturating_add(1);

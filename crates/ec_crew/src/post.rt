@@ -8,7 +8,7 @@ ghost use Rattle.ec_book.specs.Faults.{IsPlanOf};
 ghost use Rattle.ec_book.specs.declared.step.Step.TheVariants.{Better};
 ghost use Rattle.ec_seats.specs.Receipts.{holds};
 ghost use Rattle.ec_seats.specs.Seats.{IsOf, HasSeatBook, noted};
-ghost use Rattle.ec_tickets.specs.Lowest.{IsAtMost};
+ghost use Rattle.ec_tickets.specs.Lowest.{IsAtMost, IsLowered};
 ghost use Rattle.ec_crew.specs.Turns.{IsStart};
 ghost use Rattle.ec_crew.specs.declared.ended.Ended.TheVariants.{Done};
 
@@ -141,14 +141,22 @@ impl<'u, 'o, 'b, S: Search> Post<'u, 'o, 'b, S> {
         self.bound.read(&mut self.reader)
     }
 
+    /// Publishes a value, in wire bytes, if a legal plan can have it.
+    pub(crate) fn lower(&mut self, value: u64)
+        ensures same { self.new.seat ≡ self.old.seat }
+        ensures lowered { value ≤ 12304 → IsLowered self.old.reader value self.new.reader }
+    {
+        if value <= MOST_VALUE {
+            self.bound.lower(&mut self.reader, value);
+        }
+    }
+
     /// Publishes the value of the worker's last step, if it is a better plan.
     fn publish(&mut self)
         ensures { self.new.seat ≡ self.old.seat }
     {
         if let Some(value) = published(self.seat.receipts()) {
-            if value <= MOST_VALUE {
-                self.bound.lower(&mut self.reader, value);
-            }
+            self.lower(value);
         }
     }
 
@@ -181,7 +189,7 @@ impl<'u, 'o, 'b, S: Search> Post<'u, 'o, 'b, S> {
         requires plan { IsPlanOf S.loads S.slots best.plan.places best.busiest }
         ensures value { IfOk result (λ v. v ≤ best.busiest) }
         ensures known { IfOk result (λ v. ((v ≡ best.busiest) × (self.new.seat ≡ noted self.old.seat (Better self.old.seat.worker v)))
-            ⊎ (HasSeatBook self.old.seat (λ b. value_of b.best ≡ Some v) × (self.new.seat ≡ self.old.seat))) }
+            ⊎ (HasSeatBook self.old.seat S.given S.given_value (λ b. value_of b.best ≡ Some v) × (self.new.seat ≡ self.old.seat))) }
         ensures ended { IfErr result (λ e. e ≢ Done) }
     {
         let busiest = best.busiest;

@@ -3,7 +3,7 @@
 ghost use Rattle.std.specs.Prelude.{◌≡◌, ◌≢◌, ◌≤◌};
 
 use crate::ended::Ended;
-use crate::gate::Gate;
+use crate::gate::Quiet;
 use crate::ground::{Ground, ground_of};
 use crate::pieces::opened;
 use crate::post::Post;
@@ -14,11 +14,15 @@ use ec_seats::{Search, Shared};
 use std::alloc::Global;
 use std::sync::Wait;
 
-/// Nobody is told of nodes that are split or closed before the workers start.
-struct Quiet;
-
-impl Gate for Quiet {
-    fn before(&self, _worker: usize, _piece: u64) {}
+/// What worker 0 begins with.
+#[derive(Clone, Copy)]
+pub(crate) struct Opening {
+    /// The value of the book, in wire bytes.
+    pub(crate) value: Option<u64>,
+    /// How many pieces are free in the book.
+    pub(crate) pieces: usize,
+    /// Whether the greedy plan is offered.
+    pub(crate) greedy: bool,
 }
 
 /// Offers the greedy plan, if there is one; why the worker ends, if it does.
@@ -36,17 +40,19 @@ fn offered_greedy<S: Search, R: Wait>(
     post.offer(rt, shared, plan)
 }
 
-/// Splits or closes one node after another, each of the lowest free piece, until as many pieces are free as there are
-/// workers, or nothing can be handed out; why the worker ends, if it does.
+/// Splits or closes one node after another, each of the lowest free piece, on a book with so many free pieces, until as
+/// many are free as there are workers, or nothing can be handed out; why the worker ends, if it does. Nobody is told of
+/// these nodes.
 fn split_up<S: Search, R: Wait>(
     rt: &R,
     alloc: Global,
     shared: &Shared<S>,
     post: &mut Post<'_, '_, '_, S>,
     ground: &mut Ground<S>,
+    pieces: usize,
     workers: usize,
 ) -> Option<Ended> {
-    let mut free = 1usize;
+    let mut free = pieces;
     for _ in rt.forever() {
         if free >= workers {
             return None;
@@ -67,20 +73,34 @@ fn split_up<S: Search, R: Wait>(
     unreachable!()
 }
 
-/// Offers the greedy plan, and then makes pieces for as many workers; why worker 0 ends before the others start, if it
-/// does.
+/// Publishes the value that the book has, if it has one, offers the greedy plan where it is to, and then makes pieces for
+/// as many workers; why worker 0 ends before the others start, if it does.
 pub(crate) fn seed<S: Search, R: Wait>(
     rt: &R,
     alloc: Global,
     shared: &Shared<S>,
     post: &mut Post<'_, '_, '_, S>,
+    opening: Opening,
     workers: usize,
 ) -> Option<Ended> {
-    if let Some(ended) = offered_greedy(rt, alloc, shared, post) {
-        return Some(ended);
+    if let Some(value) = opening.value {
+        post.lower(value);
+    }
+    if opening.greedy {
+        if let Some(ended) = offered_greedy(rt, alloc, shared, post) {
+            return Some(ended);
+        }
     }
     let Ok(mut ground) = ground_of(alloc, post) else {
         return Some(Ended::Memory);
     };
-    split_up(rt, alloc, shared, post, &mut ground, workers)
+    split_up(
+        rt,
+        alloc,
+        shared,
+        post,
+        &mut ground,
+        opening.pieces,
+        workers,
+    )
 }

@@ -38,7 +38,7 @@ impl<'a, 'u, 'o, 'b, S: Search, R: Wait, G: Gate> Guide for CrewWatch<'a, 'u, 'o
     ghost known = { λ s. s.value };
 
     fn bound(&mut self) -> Option<u64> {
-        self.gate.before(self.post.worker(), self.piece);
+        self.gate.before(self.post.worker(), self.piece, self.value);
         if self.reads {
             self.value = lesser(self.value, self.post.read());
         }

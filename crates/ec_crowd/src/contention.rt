@@ -2,7 +2,7 @@
 
 ghost use Rattle.std.specs.Prelude.{◌≡◌, ◌≤◌, ◌<◌, IfOk, length, vec_len, []};
 ghost use Rattle.ec_symmetry.specs.Orders.{IsOrder};
-ghost use Rattle.ec_book.specs.Books.{IsBookOf};
+ghost use Rattle.ec_book.specs.Books.{IsBookOf, BeganWith};
 ghost use Rattle.ec_seats.specs.Seats.{AreOf};
 
 use crate::turns::work;
@@ -91,6 +91,7 @@ fn crowd_on<S: Search + Send + Sync, R: Threads + Wait + Sync>(
     requires order { IsOrder (length units.now.units) order.now }
     requires search { AreOf S.loads S.slots S.order units.now.units units.now.slots order.now }
     requires book { IsBookOf units.now.units units.now.slots order.now book }
+    requires began { BeganWith S.given S.given_value book }
     requires unused { book.log ≡ [] }
 {
     let Ok((shared, seats)) = Shared::<S>::new(alloc, blank, book, units, order, 16) else {

@@ -4,6 +4,6 @@
 mod explaining;
 mod plain;
 
-pub use ec_remarks::{Inputs, advice};
-pub use explaining::explain;
+pub use ec_remarks::Inputs;
+pub use explaining::{advice, explain};
 pub use plain::plain_text;

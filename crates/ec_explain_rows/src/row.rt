@@ -1,5 +1,5 @@
 //! A row of the table: its head is the line that refuses, and below it `cert PATH`, `out PATH` and `reason WORDS`
-//! where the job had them. Or it is the text of a plan that ended without a proof.
+//! where the job had them. Or it is the text of a search that ended without a proof, with `out PATH` below it.
 
 use ec_explain::{Inputs, advice, explain};
 use std::alloc::{AllocError, Global};
@@ -29,7 +29,7 @@ pub(crate) fn answer_to<'x>(
         reason: part(head, "reason "),
     };
     if head.starts_with("unproved ") {
-        return String::from_str(alloc, advice(head));
+        return advice(alloc, head, inputs.out_path);
     }
     let line = head.lines().next().unwrap_or("");
     explain(alloc, line, &inputs)

@@ -1,5 +1,5 @@
 -- Each certificate has one answer for units that are seen alike.
-use Rattle.std.proofs.Common.{◌≡◌, ◌≢◌, ℕ, List, [], ◌∷◌, length, map, Option, Some, Result, Err, refl, sym, ap, subst, ◌∙◌, inl, inr}
+use Rattle.std.proofs.Common.{◌≡◌, ◌≢◌, ℕ, ◌<◌, List, [], ◌∷◌, length, map, Option, Some, None, Result, Err, refl, sym, ap, subst, ◌∙◌, inl, inr, arith}
 use Rattle.std.specs.Prelude.{◌⊎◌}
 use Rattle.std.proofs.lemmas.List.{length-map}
 use Rattle.ec_units.specs.declared.unit.Load.{Load}
@@ -10,10 +10,8 @@ use Rattle.ec_units.specs.Views.{UnitView, UnitsView, unit_view, units_view, vie
 use Rattle.ec_units.proofs.Viewed.{loads_of-views, view_bytes-slaves}
 use Rattle.ec_loads.specs.declared.plan.Illegal.{Illegal}
 use Rattle.ec_loads.specs.Cost.{plan_items, IsBusiest}
-use Rattle.ec_loads.specs.Held.{no_places}
 use Rattle.ec_loads.specs.Legal.{IsLegal, IsIllegalBy}
 use Rattle.ec_loads.specs.Line.{line_by}
-use Rattle.ec_loads.specs.Search.{IsTree}
 use Rattle.ec_symmetry.specs.Orders.{IsOrder}
 use Rattle.ec_cert.specs.declared.cert.Best.{Best}
 use Rattle.ec_cert.specs.declared.lists.UnitLine.{UnitLine}
@@ -22,7 +20,7 @@ use Rattle.ec_cert.specs.Versions.{rules_of}
 use Rattle.ec_checker.specs.declared.fault.CheckFault.{CheckFault}
 use Rattle.ec_checker.specs.declared.fault.CheckFault.TheVariants as fault
 use Rattle.ec_cert.specs.BestPlan.{value_of, IsBestPlan}
-use Rattle.ec_checker.specs.Certified.{line_of, lines_of, IsFor, HasHead, IsCertified, IsFaultOf, IsPlanFault, tree_found}
+use Rattle.ec_checker.specs.Certified.{line_of, lines_of, IsFor, HasHead, IsLevelIn, IsShown, IsCertified, IsFaultOf, IsPlanFault, tree_found}
 use Rattle.ec_loads.proofs.CostLemmas.{one_busiest}
 use Rattle.ec_checker.proofs.CheckLemmas.{plan_refutes, refutes}
 use Rattle.ec_lines.specs.declared.refusal.Refusal.TheVariants as refusal
@@ -69,12 +67,13 @@ head_alike us vs n c same h = record {
   same = for_alike us vs n c same h.same;
   order = order_alike us vs c same h.order;
   best = subst (λ ls. IsBestPlan ls n c.best) same.loads h.best;
+  level = h.level;
 }
 
 certified_alike : (us vs : List SyncUnit) (n : ℕ) (c : CertView) → Alike us vs → IsCertified us n c → IsCertified vs n c
 certified_alike us vs n c same h = record {
   head = head_alike us vs n c same h.head;
-  tree = subst (λ ls. IsTree (line_by (rules_of c.version) ls n) (value_of c.best) c.tree (no_places ls) c.order) same.loads h.tree;
+  shown = subst (λ ls. IsShown (line_by (rules_of c.version) ls n) (value_of c.best) c.level c.tree c.order) same.loads h.shown;
 }
 
 plan_alike : (us vs : List SyncUnit) (n : ℕ) (c : CertView) (f : CheckFault) → Alike us vs → IsPlanFault (loads_of us) n c.best f → IsPlanFault (loads_of vs) n c.best f
@@ -85,13 +84,18 @@ found_alike us vs n c f same h = subst (λ ls. tree_found ls n c ≡ Err f) same
 
 -- ---- one fault
 
+-- the level is above the value
+abbrev IsAbove : CertView → CheckFault → Type 0
+IsAbove c f = (l : ℕ) × (v : ℕ) × (f ≡ fault.Level l v) × (c.level ≡ Some l) × (value_of c.best ≡ Some v) × (v < l)
+
 -- when a fault is judged, and what is right by then
 abbrev Staged : List SyncUnit → ℕ → CertView → CheckFault → Type 0
 Staged us n c f =
     ((f ≡ fault.OtherUnits) × (¬ (IsFor us n c)))
     ⊎ (((f ≡ fault.Order) × IsFor us n c × (¬ (IsOrder (length us) c.order)))
     ⊎ ((IsFor us n c × IsOrder (length us) c.order × IsPlanFault (loads_of us) n c.best f)
-    ⊎ (HasHead us n c × (tree_found (loads_of us) n c ≡ Err f))))
+    ⊎ ((IsFor us n c × IsOrder (length us) c.order × IsBestPlan (loads_of us) n c.best × IsAbove c f)
+    ⊎ (HasHead us n c × (tree_found (loads_of us) n c ≡ Err f)))))
 
 staged : (us : List SyncUnit) (n : ℕ) (c : CertView) (f : CheckFault) → f ≢ fault.OutOfMemory → IsFaultOf us n c f → Staged us n c f
 staged us n c fault.OutOfMemory other h = absurd (other refl)
@@ -99,15 +103,39 @@ staged us n c fault.OtherUnits other h = inl (refl, h)
 staged us n c fault.Order other h = inr (inl (refl, h.0, h.1))
 staged us n c (fault.Plan e) other h = inr (inr (inl (h.0, h.1, h.2)))
 staged us n c (fault.Value s f) other h = inr (inr (inl (h.0, h.1, h.2)))
-staged us n c (fault.Children k w g) other h = inr (inr (inr (h.0, h.1)))
-staged us n c (fault.Leaf k) other h = inr (inr (inr (h.0, h.1)))
-staged us n c (fault.Depth k) other h = inr (inr (inr (h.0, h.1)))
+staged us n c (fault.Children k w g) other h = inr (inr (inr (inr (h.0, h.1))))
+staged us n c (fault.Leaf k) other h = inr (inr (inr (inr (h.0, h.1))))
+staged us n c (fault.Depth k) other h = inr (inr (inr (inr (h.0, h.1))))
+staged us n c (fault.Level l v) other h = inr (inr (inr (inl (h.0, h.1, h.2, (l, v, refl, h.3, h.4, h.5)))))
 
 staged_alike : (us vs : List SyncUnit) (n : ℕ) (c : CertView) (f : CheckFault) → Alike us vs → Staged us n c f → Staged vs n c f
 staged_alike us vs n c f same (inl h) = inl (h.0, λ is. h.1 (for_alike vs us n c (back us vs same) is))
 staged_alike us vs n c f same (inr (inl h)) = inr (inl (h.0, for_alike us vs n c same h.1, λ is. h.2 (order_alike vs us c (back us vs same) is)))
 staged_alike us vs n c f same (inr (inr (inl h))) = inr (inr (inl (for_alike us vs n c same h.0, order_alike us vs c same h.1, plan_alike us vs n c f same h.2)))
-staged_alike us vs n c f same (inr (inr (inr h))) = inr (inr (inr (head_alike us vs n c same h.0, found_alike us vs n c f same h.1)))
+staged_alike us vs n c f same (inr (inr (inr (inl h)))) =
+    inr (inr (inr (inl (for_alike us vs n c same h.0, order_alike us vs c same h.1, subst (λ ls. IsBestPlan ls n c.best) same.loads h.2, h.3))))
+staged_alike us vs n c f same (inr (inr (inr (inr h)))) = inr (inr (inr (inr (head_alike us vs n c same h.0, found_alike us vs n c f same h.1))))
+
+-- a level above the value is in no head
+above_refutes : (level v : Option ℕ) (l w : ℕ) → level ≡ Some l → v ≡ Some w → w < l → ¬ (IsLevelIn level v)
+above_refutes None v l w is at above low = absurd cc
+above_refutes (Some k) None l w is at above low = absurd cc
+above_refutes (Some k) (Some x) l w is at above low =
+    let one : k ≡ l = cc in
+    let two : x ≡ w = cc in
+    omega (arith, one, two, above, low)
+
+not_above : (us : List SyncUnit) (n : ℕ) (c : CertView) (f : CheckFault) → IsAbove c f → HasHead us n c → ⊥
+not_above us n c f h head = above_refutes c.level (value_of c.best) h.0 h.1 h.3 h.4 h.5 head.level
+
+number_same : (o : Option ℕ) (a b : ℕ) → o ≡ Some a → o ≡ Some b → a ≡ b
+number_same o a b e f = cc
+
+one_above : (c : CertView) (f g : CheckFault) → IsAbove c f → IsAbove c g → f ≡ g
+one_above c f g h k =
+    let level = number_same c.level h.0 k.0 h.3 k.3 in
+    let value = number_same (value_of c.best) h.1 k.1 h.4 k.4 in
+    h.2 ∙ (λ i. fault.Level (level i) (value i)) ∙ sym k.2
 
 best_same : (best : Option Best) (a b : Best) → best ≡ Some a → best ≡ Some b → a ≡ b
 best_same best a b e f = cc
@@ -141,19 +169,28 @@ one_fault : (us : List SyncUnit) (n : ℕ) (c : CertView) (f g : CheckFault) →
 one_fault us n c f g (inl h) (inl k) = h.0 ∙ sym k.0
 one_fault us n c f g (inl h) (inr (inl k)) = absurd (h.1 k.1)
 one_fault us n c f g (inl h) (inr (inr (inl k))) = absurd (h.1 k.0)
-one_fault us n c f g (inl h) (inr (inr (inr k))) = absurd (h.1 k.0.same)
+one_fault us n c f g (inl h) (inr (inr (inr (inl k)))) = absurd (h.1 k.0)
+one_fault us n c f g (inl h) (inr (inr (inr (inr k)))) = absurd (h.1 k.0.same)
 one_fault us n c f g (inr (inl h)) (inl k) = absurd (k.1 h.1)
 one_fault us n c f g (inr (inl h)) (inr (inl k)) = h.0 ∙ sym k.0
 one_fault us n c f g (inr (inl h)) (inr (inr (inl k))) = absurd (h.2 k.1)
-one_fault us n c f g (inr (inl h)) (inr (inr (inr k))) = absurd (h.2 k.0.order)
+one_fault us n c f g (inr (inl h)) (inr (inr (inr (inl k)))) = absurd (h.2 k.1)
+one_fault us n c f g (inr (inl h)) (inr (inr (inr (inr k)))) = absurd (h.2 k.0.order)
 one_fault us n c f g (inr (inr (inl h))) (inl k) = absurd (k.1 h.0)
 one_fault us n c f g (inr (inr (inl h))) (inr (inl k)) = absurd (k.2 h.1)
 one_fault us n c f g (inr (inr (inl h))) (inr (inr (inl k))) = one_plan (loads_of us) n c.best f g h.2 k.2
-one_fault us n c f g (inr (inr (inl h))) (inr (inr (inr k))) = absurd (plan_refutes (loads_of us) n c.best f h.2 k.0.best)
-one_fault us n c f g (inr (inr (inr h))) (inl k) = absurd (k.1 h.0.same)
-one_fault us n c f g (inr (inr (inr h))) (inr (inl k)) = absurd (k.2 h.0.order)
-one_fault us n c f g (inr (inr (inr h))) (inr (inr (inl k))) = absurd (plan_refutes (loads_of us) n c.best g k.2 h.0.best)
-one_fault us n c f g (inr (inr (inr h))) (inr (inr (inr k))) = fault_same (tree_found (loads_of us) n c) f g h.1 k.1
+one_fault us n c f g (inr (inr (inl h))) (inr (inr (inr (inl k)))) = absurd (plan_refutes (loads_of us) n c.best f h.2 k.2)
+one_fault us n c f g (inr (inr (inl h))) (inr (inr (inr (inr k)))) = absurd (plan_refutes (loads_of us) n c.best f h.2 k.0.best)
+one_fault us n c f g (inr (inr (inr (inl h)))) (inl k) = absurd (k.1 h.0)
+one_fault us n c f g (inr (inr (inr (inl h)))) (inr (inl k)) = absurd (k.2 h.1)
+one_fault us n c f g (inr (inr (inr (inl h)))) (inr (inr (inl k))) = absurd (plan_refutes (loads_of us) n c.best g k.2 h.2)
+one_fault us n c f g (inr (inr (inr (inl h)))) (inr (inr (inr (inl k)))) = one_above c f g h.3 k.3
+one_fault us n c f g (inr (inr (inr (inl h)))) (inr (inr (inr (inr k)))) = absurd (not_above us n c f h.3 k.0)
+one_fault us n c f g (inr (inr (inr (inr h)))) (inl k) = absurd (k.1 h.0.same)
+one_fault us n c f g (inr (inr (inr (inr h)))) (inr (inl k)) = absurd (k.2 h.0.order)
+one_fault us n c f g (inr (inr (inr (inr h)))) (inr (inr (inl k))) = absurd (plan_refutes (loads_of us) n c.best g k.2 h.0.best)
+one_fault us n c f g (inr (inr (inr (inr h)))) (inr (inr (inr (inl k)))) = absurd (not_above us n c g k.3 h.0)
+one_fault us n c f g (inr (inr (inr (inr h)))) (inr (inr (inr (inr k)))) = fault_same (tree_found (loads_of us) n c) f g h.1 k.1
 
 -- ---- one output
 

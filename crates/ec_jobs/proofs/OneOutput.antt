@@ -23,7 +23,7 @@ use Rattle.ec_lines.specs.declared.refusal.Refusal.TheVariants as refusal
 use Rattle.ec_lines.specs.declared.job.Job.{Job}
 use Rattle.ec_lines.specs.declared.job.Job.TheVariants as job
 use Rattle.ec_lines.specs.Lines.{cost_lines}
-use Rattle.ec_lines.specs.Output.{Written, IsOutput, IsUnitsOutput, IsCheckedOutput, IsPlacedOutput, IsPlacedText, IsBestText, IsCertTextOf, IsCertText, IsTextFor, IsCostText, refused, verdict_output, first_unplaced, places_of}
+use Rattle.ec_lines.specs.Output.{Written, IsOutput, IsUnitsOutput, IsCheckedOutput, IsPlacedOutput, IsPlacedText, IsBestText, IsCertTextOf, IsCertText, IsTextFor, IsCostText, IsCostsText, refused, verdict_output, first_unplaced, places_of}
 use Rattle.ec_lines.specs.Refusals.{refusal_code}
 use Rattle.ec_jobs.proofs.OneCheck.{checked_once}
 use Rattle.ec_jobs.proofs.OneIllegal.{neither_less, illegal_once, legal_none}
@@ -42,6 +42,9 @@ text_once : (xs : List Item) (n h ns : ℕ) (a b : List ℕ) → IsCostText xs n
 text_once xs n h ns a b p q =
     let same = top_once xs n p.top q.top p.at q.at p.busiest q.busiest in
     p.lines ∙ (λ i. cost_lines (tick_cost xs n) h (same.0 i) (same.1 i) ns) ∙ sym q.lines
+
+costs_once : (v : UnitsView) (ps : List Place) (a b : List ℕ) → IsCostsText v ps a → IsCostsText v ps b → a ≡ b
+costs_once v ps a b p q = text_once _ _ _ _ a b p q
 
 placed_once : (v : UnitsView) (ps : List Place) (a b : Written) → IsPlacedOutput v ps a → IsPlacedOutput v ps b → a ≡ b
 placed_once v ps a b (inl p) (inl q) =
@@ -86,22 +89,23 @@ text_planned T once v (Some best) a b p q =
     let code : a.code ≡ b.code = p.1 ∙ sym q.1 in
     (λ i. record { text = text i; code = code i })
 
-verdict_code : (best : Option Best) → (verdict_output (verdict_of best)).code ≤ 1
-verdict_code None = omega arith
-verdict_code (Some b) = omega arith
+verdict_code : (best : Option Best) (level : Option ℕ) → (verdict_output (verdict_of best level)).code ≤ 2
+verdict_code best (Some l) = omega arith
+verdict_code None None = omega arith
+verdict_code (Some b) None = omega arith
 
-yes_or_no : {A : Type 0} (best : Option Best) (r : Refusal) → verdict_output (verdict_of best) ≡ refused r → A
-yes_or_no best r e =
-    let code : (verdict_output (verdict_of best)).code ≡ refusal_code r = ap (λ (w : Written). w.code) e in
-    absurd (omega (arith, code, verdict_code best, code_above r))
+yes_or_no : {A : Type 0} (best : Option Best) (level : Option ℕ) (r : Refusal) → verdict_output (verdict_of best level) ≡ refused r → A
+yes_or_no best level r e =
+    let code : (verdict_output (verdict_of best level)).code ≡ refusal_code r = ap (λ (w : Written). w.code) e in
+    absurd (omega (arith, code, verdict_code best level, code_above r))
 
 certified_of : (T : Texts) → Once T → (v : UnitsView) (c : CertView) (a b : Written) (us vs : Units) → units_view us ≡ v → units_view vs ≡ v → IsCertTextOf T us c a → IsCertTextOf T vs c b → a ≡ b
 certified_of T once v c a b us vs p q (inl h) (inl k) =
     text_planned T once v c.best a b (subst (λ (x : UnitsView). IsBestText T x c.best a) p h.1) (subst (λ (x : UnitsView). IsBestText T x c.best b) q k.1)
 certified_of T once v c a b us vs p q (inl h) (inr k) =
-    yes_or_no c.best (refusal.Check k.0) (checked_once v c (verdict_output (verdict_of c.best)) (refused (refusal.Check k.0)) (us, p, inl (h.0, refl)) (vs, q, inr (k.0, k.1, k.2, refl)))
+    yes_or_no c.best c.level (refusal.Check k.0) (checked_once v c (verdict_output (verdict_of c.best c.level)) (refused (refusal.Check k.0)) (us, p, inl (h.0, refl)) (vs, q, inr (k.0, k.1, k.2, refl)))
 certified_of T once v c a b us vs p q (inr h) (inl k) =
-    yes_or_no c.best (refusal.Check h.0) (checked_once v c (verdict_output (verdict_of c.best)) (refused (refusal.Check h.0)) (vs, q, inl (k.0, refl)) (us, p, inr (h.0, h.1, h.2, refl)))
+    yes_or_no c.best c.level (refusal.Check h.0) (checked_once v c (verdict_output (verdict_of c.best c.level)) (refused (refusal.Check h.0)) (vs, q, inl (k.0, refl)) (us, p, inr (h.0, h.1, h.2, refl)))
 certified_of T once v c a b us vs p q (inr h) (inr k) = checked_once v c a b (us, p, inr h) (vs, q, inr k)
 
 certified_text : (T : Texts) → Once T → (v : UnitsView) (c : CertView) (a b : Written) → IsCertText T v c a → IsCertText T v c b → a ≡ b
@@ -120,11 +124,13 @@ units_once : (j : Job) (cert : Option (List ℕ)) (v : UnitsView) (a b : Written
 units_once job.Cost cert v a b p q =
     option_once (first_unplaced v.units) (IsPlacedOutput v (places_of v.units)) (λ n. refused (refusal.NoPlace n)) (placed_once v (places_of v.units)) a b p q
 units_once (job.Plan workers nodes) cert v a b p q = absurd p
+units_once (job.Resume workers nodes) cert v a b p q = absurd p
 units_once job.Check None v a b p q = absurd p
 units_once job.Check (Some text) v a b p q = cert_once v (cert_reading text) a b p q
 units_once job.Frames cert v a b p q = text_once_for IsFramesText frames_once cert v a b p q
 units_once job.Capture cert v a b p q = text_once_for IsFramesText frames_once cert v a b p q
 units_once job.Play cert v a b p q = text_once_for IsPlayText play_once cert v a b p q
+units_once job.PlanCost cert v a b p q = text_once_for IsCostsText costs_once cert v a b p q
 
 result_once : (j : Job) (cert : Option (List ℕ)) (r : Result UnitsView UnitFault) (a b : Written) → MatchResult r (λ v. IsUnitsOutput j cert v a) (λ f. a ≡ refused (refusal.Unit f)) → MatchResult r (λ v. IsUnitsOutput j cert v b) (λ f. b ≡ refused (refusal.Unit f)) → a ≡ b
 result_once j cert (Ok v) a b p q = units_once j cert v a b p q

@@ -1,59 +1,96 @@
 -- What a plan tells is true.
-use Rattle.std.proofs.Common.{◌≡◌, ℕ, ◌≤◌, List, Option, Some, Result, Ok, refl, ap, subst, sym, ◌∙◌, inl, inr, arith}
+use Rattle.std.proofs.Common.{◌≡◌, ℕ, ◌≤◌, List, length, Option, Some, Result, Ok, refl, ap, subst, sym, ◌∙◌, inl, inr, arith}
+use Rattle.std.proofs.lemmas.List.{length-map}
 use Rattle.ec_units.specs.declared.slave.Place.{Place}
 use Rattle.ec_unit_text.specs.declared.fault.UnitFault.{UnitFault}
 use Rattle.ec_units.specs.declared.unit.Load.{Load}
 use Rattle.ec_units.specs.declared.units.Units.{Units}
-use Rattle.ec_units.specs.Load.{loads_of}
+use Rattle.ec_units.specs.Load.{load_of, loads_of}
 use Rattle.ec_unit_text.specs.Reading.{reading}
 use Rattle.ec_units.specs.Views.{UnitsView, units_view, view_loads}
 use Rattle.ec_units.proofs.Viewed.{loads_of-views}
 use Rattle.ec_loads.specs.Cost.{plan_items, tick_cost, IsBusiest}
-use Rattle.ec_loads.specs.Search.{IsLeast, HasNoPlan}
-use Rattle.ec_cert.specs.Shapes.{cert_view}
-use Rattle.ec_workers.specs.Answers.{Asked, IsOutcome}
+use Rattle.ec_loads.specs.Line.{turned_time, line_by}
+use Rattle.ec_loads.specs.Shape.{Shape}
+use Rattle.ec_loads.specs.Search.{BoundsAll, IsLeast, HasNoPlan, node_count}
+use Rattle.ec_loads.proofs.ItemLemmas.{AreLoads-loads_of}
+use Rattle.ec_cert.specs.declared.cert.Best.{Best}
+use Rattle.ec_cert.specs.BestPlan.{value_of}
+use Rattle.ec_cert.specs.Shapes.{cert_view, shape_of}
+use Rattle.ec_symmetry.specs.Orders.{IsOrder}
+use Rattle.ec_tree.specs.Trees.{LevelsBound}
+use Rattle.ec_checker.specs.Levels.{IsGreatestLevel}
+use Rattle.ec_workers.specs.Answers.{Asked, asked_beyond, IsOutcome}
 use Rattle.ec_workers.specs.declared.outcome.Outcome.{Outcome}
 use Rattle.ec_workers.specs.declared.outcome.Outcome.TheVariants as outcome
 use Rattle.ec_lines.specs.declared.refusal.Refusal.{Refusal}
-use Rattle.ec_lines.specs.Outcomes.{outcome_output, optimal_text}
+use Rattle.ec_lines.specs.Outcomes.{outcome_output, optimal_text, unproved_text, IsLevelOf}
 use Rattle.ec_lines.specs.Output.{Written, refused}
 use Rattle.ec_lines.specs.Refusals.{refusal_code}
-use Rattle.ec_answers.specs.Planned.{IsPlanWritten, outcome_cert}
-use Rattle.ec_jobs.specs.Sound.{TellsOptimal, TellsWithoutPlan, PlanIsTrue, OneLeastEach}
+use Rattle.ec_answers.specs.Planned.{outcome_cert}
+use Rattle.ec_jobs.specs.Sound.{TellsOptimal, TellsWithoutPlan, TellsTruth, PlanIsTrue, ResumeIsTrue, IsSearchTold, OneLeastEach}
 use Rattle.ec_lines.proofs.RefusalLemmas.{code_above}
 
-abbrev Truth : List ℕ → Written → Option (List ℕ) → Type 0
-Truth bytes w cert = (w.code ≡ 0 → TellsOptimal bytes w cert) × (w.code ≡ 1 → TellsWithoutPlan bytes w cert)
-
 -- a refusal has another status
-refusal_true : (bytes : List ℕ) (w : Written) (cert : Option (List ℕ)) (r : Refusal) → w ≡ refused r → Truth bytes w cert
+refusal_true : (bytes : List ℕ) (w : Written) (cert : Option (List ℕ)) (r : Refusal) → w ≡ refused r → TellsTruth bytes w cert
 refusal_true bytes w cert r is =
     let code : w.code ≡ refusal_code r = ap (λ (v : Written). v.code) is in (
       λ zero. absurd (omega (arith, code_above r, code, zero)),
       λ one. absurd (omega (arith, code_above r, code, one)),
+      λ two. absurd (omega (arith, code_above r, code, two)),
     )
 
+-- a level that a search has proved bounds every legal plan
+level_bounds : LevelsBound → (us : Units) (order : List ℕ) (best : Option Best) (tree : Shape) (l : ℕ) → IsOrder (length us.units) order
+    → IsGreatestLevel (line_by turned_time (loads_of us.units) us.slots) (value_of best) tree order l → BoundsAll (loads_of us.units) us.slots (Some l)
+level_bounds levels us order best tree l is greatest =
+    levels (line_by turned_time (loads_of us.units) us.slots) (value_of best) l tree order (AreLoads-loads_of us.units) (subst (λ k. IsOrder k order) (sym (length-map us.units load_of)) is) greatest.shows
+
 -- the text of an outcome says what the outcome does
-outcome_true : (asked : Asked) (bytes : List ℕ) (us : Units) (o : Outcome) (w : Written) (cert : Option (List ℕ)) → reading bytes ≡ Ok (units_view us) → IsOutcome us.units us.slots asked o → w ≡ outcome_output us.units o → cert ≡ outcome_cert o → Truth bytes w cert
-outcome_true asked bytes us (outcome.Optimal plan b c) w cert said h is kept =
+outcome_true : LevelsBound → (asked : Asked) (bytes : List ℕ) (us : Units) (o : Outcome) (level : Option ℕ) (w : Written) (cert : Option (List ℕ)) → reading bytes ≡ Ok (units_view us) → IsOutcome us.units us.slots asked o → IsLevelOf us.units us.slots o level
+    → w ≡ outcome_output us.units o level → cert ≡ outcome_cert us o level → TellsTruth bytes w cert
+outcome_true levels asked bytes us (outcome.Optimal plan b c) level w cert said h proved is kept =
     let code : w.code ≡ 0 = ap (λ (v : Written). v.code) is in (
       λ zero. (record { units = us; said = said; busiest = b; plan = plan.places; lines = ap (λ (v : Written). v.text) is; legal = h.legal; exact = h.busiest; bounds = h.bounds; shown = (cert_view c, kept, h.shows) }),
       λ one. absurd (omega (arith, code, one)),
+      λ two. absurd (omega (arith, code, two)),
     )
-outcome_true asked bytes us (outcome.NoPlan c) w cert said h is kept =
+outcome_true levels asked bytes us (outcome.NoPlan c) level w cert said h proved is kept =
     let code : w.code ≡ 1 = ap (λ (v : Written). v.code) is in (
       λ zero. absurd (omega (arith, code, zero)),
       λ one. (record { units = us; said = said; line = ap (λ (v : Written). v.text) is; none = h.none; shown = (cert_view c, kept, h.shows) }),
+      λ two. absurd (omega (arith, code, two)),
     )
-outcome_true asked bytes us (outcome.Unproved best order tree why) w cert said h is kept =
-    let code : w.code ≡ 2 = ap (λ (v : Written). v.code) is in (
+outcome_true levels asked bytes us (outcome.Unproved best order tree why) level w cert said h proved is kept =
+    let code : w.code ≡ 2 = ap (λ (v : Written). v.code) is in
+    let text : w.text ≡ unproved_text us.units best why (Some proved.0) = ap (λ (v : Written). v.text) is ∙ ap (λ (o : Option ℕ). unproved_text us.units best why o) proved.1 in (
       λ zero. absurd (omega (arith, code, zero)),
       λ one. absurd (omega (arith, code, one)),
+      λ two. (record {
+        units = us;
+        said = said;
+        best = best;
+        why = why;
+        level = proved.0;
+        lines = text;
+        legal = h.best_is;
+        bounds = level_bounds levels us order best (shape_of tree) proved.0 h.order_is proved.2;
+      }),
     )
 
-pub plan_true : PlanIsTrue
-plan_true asked bytes w cert (inl h) = outcome_true asked bytes h.units h.found w cert h.answer.said h.answer.answer h.text h.certificate
-plan_true asked bytes w cert (inr h) = refusal_true bytes w cert h.refusal h.line
+pub plan_true : LevelsBound → PlanIsTrue
+plan_true levels asked bytes w cert (inl h) = outcome_true levels asked bytes h.units h.found h.level w cert h.answer.said h.answer.answer h.shown h.text h.certificate
+plan_true levels asked bytes w cert (inr h) = refusal_true bytes w cert h.refusal h.line
+
+pub resume_true : LevelsBound → ResumeIsTrue
+resume_true levels workers nodes bytes text w cert (inl h) =
+    outcome_true levels (asked_beyond workers nodes (node_count h.answer.cert.tree)) bytes h.units h.found h.level w cert h.answer.said h.answer.goes.answer h.shown h.text h.certificate
+resume_true levels workers nodes bytes text w cert (inr h) = refusal_true bytes w cert h.refusal h.line
+
+-- the certificate of what was told, and its truth
+told_true : LevelsBound → (bytes : List ℕ) (w : Written) → IsSearchTold bytes w → (cert : Option (List ℕ)) × TellsTruth bytes w cert
+told_true levels bytes w (inl (asked, cert, h)) = (cert, plan_true levels asked bytes w cert h)
+told_true levels bytes w (inr (workers, nodes, text, cert, h)) = (cert, resume_true levels workers nodes bytes text w cert h)
 
 -- units that the same bytes say
 same_ok : (r : Result UnitsView UnitFault) (u v : UnitsView) → r ≡ Ok u → r ≡ Ok v → u ≡ v
@@ -94,13 +131,15 @@ not_without bytes v w c d p q =
     let least = told_least bytes v c p in
     none least.plan least.legal
 
-pub least_each : OneLeastEach
-least_each m n bytes v w c d p q zero =
-    let one = (plan_true m bytes v c p).0 zero in (
-      λ also. (let other = (plan_true n bytes w d q).0 also in (
+pub least_each : LevelsBound → OneLeastEach
+least_each levels bytes v w p q zero =
+    let first = told_true levels bytes v p in
+    let second = told_true levels bytes w q in
+    let one = first.1.0 zero in (
+      λ also. (let other = second.1.0 also in (
         one.busiest,
         (_, one.lines),
-        (_, other.lines ∙ ap (λ (b : ℕ). optimal_text other.units.units other.plan b) (sym (two_least bytes v w c d one other))),
+        (_, other.lines ∙ ap (λ (b : ℕ). optimal_text other.units.units other.plan b) (sym (two_least bytes v w first.0 second.0 one other))),
       )),
-      λ none. not_without bytes v w c d one ((plan_true n bytes w d q).1 none),
+      λ none. not_without bytes v w first.0 second.0 one (second.1.1 none),
     )

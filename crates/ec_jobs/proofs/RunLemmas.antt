@@ -9,11 +9,12 @@ use Rattle.ec_lines.specs.declared.refusal.Refusal.TheVariants as refusal
 use Rattle.ec_lines.specs.declared.job.Job.{Job}
 use Rattle.ec_lines.specs.declared.job.Job.TheVariants as job
 use Rattle.ec_wire.specs.declared.io.Io.{Io}
+use Rattle.ec_lines.specs.Words.{IsResume}
 use Rattle.ec_answers.specs.Captures.{AnswersCapture, GetsCaptureFront, IsFramesWritten}
 use Rattle.ec_answers.specs.Input.{AreUnits, ConsumesAtMost}
 use Rattle.ec_lines.specs.Output.{Written, Answers, IsOutput, IsNoMemory, refused, written_of}
-use Rattle.ec_answers.specs.Planned.{AnswersPlan, GetsCertFront, IsPlanWritten, Any, Gets, GetsFront}
-use Rattle.ec_jobs.specs.Runs.{Use, used, Lent, either, Reads, Tells, IsFor, Refuses, ForUnits, ForCert, Costs, Checks, Plans, PlansTo, PlansAway, Captures, CapturesPlan, CapturesAway, Does, DoesAlone, DoesAway, IsSound, HasFailed, IsKept, before, after}
+use Rattle.ec_answers.specs.Planned.{AnswersPlan, GetsCertFront, IsPlanWritten, AnswersResume, GetsResumeFront, IsResumeWritten, Any, Gets, GetsFront}
+use Rattle.ec_jobs.specs.Runs.{Use, used, Lent, either, Reads, Tells, IsFor, Refuses, ForUnits, ForCert, Costs, Checks, Plans, PlansTo, PlansAway, Resumes, ResumesTo, Captures, CapturesPlan, CapturesAway, Does, DoesAlone, DoesAway, IsSound, HasFailed, IsKept, before, after}
 use Rattle.ec_jobs.proofs.TellLemmas.{said_by}
 use Rattle.ec_workers.specs.Answers.{Asked, asked_for}
 
@@ -90,6 +91,51 @@ plans_to asked u o answer told front known any read write kept w is = record {
   front = front;
   failed = λ failed. refuses answer refusal.Write w is (write failed);
   kept = kept;
+}
+
+-- a resumed search
+resume_said : (workers nodes : ℕ) (bytes text : List ℕ) (answer : Result Answer Refusal) (w : Written) (found : Option (List ℕ)) → IsResumeWritten workers nodes bytes text (written_of answer) found → IsFor answer w → IsResumeWritten workers nodes bytes text w found
+resume_said workers nodes bytes text answer w found h is = subst (λ (x : Written). IsResumeWritten workers nodes bytes text x found) (sym is) h
+
+resume_told : (left cert : Option (List ℕ)) (workers nodes : ℕ) (gets : Option (List ℕ) → Type 0) (answer : Result Answer Refusal) (w : Written) → IsFor answer w → IfSome left (λ bytes. IfSome cert (λ text. AnswersResume workers nodes gets answer bytes text))
+    → IfSome left (λ bytes. IfSome cert (λ text. (found : Option (List ℕ)) × IsResumeWritten workers nodes bytes text w found × gets found))
+resume_told None cert workers nodes gets answer w is h = tt
+resume_told (Some bytes) None workers nodes gets answer w is h = tt
+resume_told (Some bytes) (Some text) workers nodes gets answer w is h = (h.0, resume_said workers nodes bytes text answer w h.0 h.1 is, h.2)
+
+resume_alone : (left cert : Option (List ℕ)) (workers nodes : ℕ) (answer : Result Answer Refusal) (w : Written) → IsFor answer w → IfSome left (λ bytes. IfSome cert (λ text. AnswersResume workers nodes Any answer bytes text))
+    → IfSome left (λ bytes. IfSome cert (λ text. (found : Option (List ℕ)) × IsResumeWritten workers nodes bytes text w found))
+resume_alone None cert workers nodes answer w is h = tt
+resume_alone (Some bytes) None workers nodes answer w is h = tt
+resume_alone (Some bytes) (Some text) workers nodes answer w is h = (h.0, resume_said workers nodes bytes text answer w h.0 h.1 is)
+
+pub resumes : {R C : Type 0} (workers nodes : ℕ) (u : Use R) (c : Use C) (answer : Result Answer Refusal) → (IsSound u → IsSound c → IfSome (before u) (λ bytes. IfSome (before c) (λ text. AnswersResume workers nodes Any answer bytes text)))
+    → ConsumesAtMost (before u) (after u) 1048577 → taken u.new ≤ taken u.old + 1048577 → (HasFailed u → answer ≡ Err refusal.Read) → ConsumesAtMost (before c) (after c) 67108865 → taken c.new ≤ taken c.old + 67108865 → (HasFailed c → answer ≡ Err refusal.Read) → (HasFailed u → IsKept c) → IfSome (before u) (λ bytes. ¬ (AreUnits bytes) → IsKept c)
+    → (w : Written) → IsFor answer w → Resumes workers nodes u c w
+resumes workers nodes u c answer told known any read cert_known cert_any cert_read kept first w is = record {
+  read = reads u 1048577 answer w is known any read;
+  cert_read = reads c 67108865 answer w is cert_known cert_any cert_read;
+  honest = λ units cert. resume_alone (before u) (before c) workers nodes answer w is (told units cert);
+  kept = kept;
+  first = first;
+}
+
+pub resumes_to : {R C O : Type 0} (workers nodes : ℕ) (u : Use R) (c : Use C) (o : Use O) (answer : Result Answer Refusal)
+    → (IsSound u → IsSound c → IsSound o → IfSome (before u) (λ bytes. IfSome (before c) (λ text. AnswersResume workers nodes (Gets o.tells o.old o.new) answer bytes text)))
+    → (IsSound u → IsSound c → IfSome (before u) (λ bytes. IfSome (before c) (λ text. GetsResumeFront workers nodes (GetsFront o.tells o.old o.new) bytes text)))
+    → ConsumesAtMost (before u) (after u) 1048577 → taken u.new ≤ taken u.old + 1048577 → (HasFailed u → answer ≡ Err refusal.Read) → ConsumesAtMost (before c) (after c) 67108865 → taken c.new ≤ taken c.old + 67108865 → (HasFailed c → answer ≡ Err refusal.Read)
+    → (HasFailed o → answer ≡ Err refusal.Write) → (HasFailed u → IsKept o) → (HasFailed c → IsKept o) → (HasFailed u → IsKept c) → IfSome (before u) (λ bytes. ¬ (AreUnits bytes) → IsKept c)
+    → (w : Written) → IsFor answer w → ResumesTo workers nodes u c o w
+resumes_to workers nodes u c o answer told front known any read cert_known cert_any cert_read write unread cert_unread kept first w is = record {
+  read = reads u 1048577 answer w is known any read;
+  cert_read = reads c 67108865 answer w is cert_known cert_any cert_read;
+  honest = λ units cert out. resume_told (before u) (before c) workers nodes (Gets o.tells o.old o.new) answer w is (told units cert out);
+  front = front;
+  failed = λ failed. refuses answer refusal.Write w is (write failed);
+  unread = unread;
+  cert_unread = cert_unread;
+  kept = kept;
+  first = first;
 }
 
 -- frames with a capture file
@@ -176,10 +222,12 @@ away_refused (Some bytes) asked w h = inl h
 pub does_alone : {R C O : Type 0} (j : Job) (units : Use R) (cert : Lent C) (out : Lent O) → cert.old ≡ None → out.old ≡ None → (w : Written) → Does j units cert out w → DoesAlone j units w
 does_alone job.Cost units cert out none no_out w h = h.0
 does_alone (job.Plan workers nodes) units cert out none no_out w h = either_none out.old out.new _ _ no_out h.0
+does_alone (job.Resume workers nodes) units cert out none no_out w h = absurd (either_none cert.old cert.new _ _ none h)
 does_alone job.Check units cert out none no_out w h = absurd (either_none cert.old cert.new _ _ none h.0)
 does_alone job.Frames units cert out none no_out w h = either_none cert.old cert.new _ _ none h.0
 does_alone job.Capture units cert out none no_out w h = either_none cert.old cert.new _ _ none (either_none out.old out.new _ _ no_out h)
 does_alone job.Play units cert out none no_out w h = either_none cert.old cert.new _ _ none h.0
+does_alone job.PlanCost units cert out none no_out w h = absurd (either_none cert.old cert.new _ _ none h.0)
 
 -- and with one, of which nothing is known
 away : {R O : Type 0} (asked : Asked) (units : Use R) (out : Use O) (w : Written) → PlansTo asked units out w → PlansAway asked units w
@@ -205,9 +253,39 @@ captures_away units out w h = elim (bool_cases (has_failed out.new)) [
 pub does_away : {R C O : Type 0} (j : Job) (units : Use R) (cert : Lent C) (out : Lent O) (o : Io O) → cert.old ≡ None → out.old ≡ Some o → (w : Written) → Does j units cert out w → DoesAway j units w
 does_away job.Cost units cert out o none there w h = h.0
 does_away (job.Plan workers nodes) units cert out o none there w h = let to = either_some out.old out.new _ _ o there h.0 in away (asked_for workers nodes) units (used out.tells o to.0) w to.1
+does_away (job.Resume workers nodes) units cert out o none there w h = absurd (either_none cert.old cert.new _ _ none h)
 does_away job.Check units cert out o none there w h = absurd (either_none cert.old cert.new _ _ none h.0)
 does_away job.Frames units cert out o none there w h = either_none cert.old cert.new _ _ none h.0
 does_away job.Play units cert out o none there w h = either_none cert.old cert.new _ _ none h.0
+does_away job.PlanCost units cert out o none there w h = absurd (either_none cert.old cert.new _ _ none h.0)
 does_away job.Capture units cert out o none there w h =
     let to = either_some out.old out.new _ _ o there h in
     captures_away units (used out.tells o to.0) w (either_none cert.old cert.new _ _ none to.1)
+
+-- a resumed search reads no more of the units than is said
+pub resume_reads : {R C O : Type 0} (j : Job) (units : Use R) (cert : Lent C) (out : Lent O) (c : Io C) → IsResume j → cert.old ≡ Some c → out.old ≡ None → (w : Written) → Does j units cert out w → Reads units 1048577 w
+resume_reads (job.Resume workers nodes) units cert out c is there no_out w h =
+    let found = either_some cert.old cert.new _ _ c there h in
+    let does : Resumes workers nodes units (used cert.tells c found.0) w = either_none out.old out.new _ _ no_out found.1 in
+    does.read
+resume_reads job.Cost units cert out c is there no_out w h = absurd is
+resume_reads (job.Plan workers nodes) units cert out c is there no_out w h = absurd is
+resume_reads job.Check units cert out c is there no_out w h = absurd is
+resume_reads job.Frames units cert out c is there no_out w h = absurd is
+resume_reads job.Capture units cert out c is there no_out w h = absurd is
+resume_reads job.Play units cert out c is there no_out w h = absurd is
+resume_reads job.PlanCost units cert out c is there no_out w h = absurd is
+
+pub resume_reads_to : {R C O : Type 0} (j : Job) (units : Use R) (cert : Lent C) (out : Lent O) (c : Io C) (o : Io O) → IsResume j → cert.old ≡ Some c → out.old ≡ Some o → (w : Written) → Does j units cert out w → Reads units 1048577 w
+resume_reads_to (job.Resume workers nodes) units cert out c o is there to w h =
+    let found = either_some cert.old cert.new _ _ c there h in
+    let written = either_some out.old out.new _ _ o to found.1 in
+    let does : ResumesTo workers nodes units (used cert.tells c found.0) (used out.tells o written.0) w = written.1 in
+    does.read
+resume_reads_to job.Cost units cert out c o is there to w h = absurd is
+resume_reads_to (job.Plan workers nodes) units cert out c o is there to w h = absurd is
+resume_reads_to job.Check units cert out c o is there to w h = absurd is
+resume_reads_to job.Frames units cert out c o is there to w h = absurd is
+resume_reads_to job.Capture units cert out c o is there to w h = absurd is
+resume_reads_to job.Play units cert out c o is there to w h = absurd is
+resume_reads_to job.PlanCost units cert out c o is there to w h = absurd is

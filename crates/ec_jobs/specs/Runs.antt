@@ -12,7 +12,7 @@ use Rattle.ec_lines.specs.declared.job.Job.TheVariants as job
 use Rattle.ec_answers.specs.Captures.{IsFramesWritten, GetsCaptureFront}
 use Rattle.ec_answers.specs.Input.{ConsumesAtMost, AreUnits}
 use Rattle.ec_lines.specs.Output.{Written, IsOutput, IsNoMemory, refused, written_of}
-use Rattle.ec_answers.specs.Planned.{IsPlanWritten, GetsCertFront, Gets, GetsFront}
+use Rattle.ec_answers.specs.Planned.{IsPlanWritten, GetsCertFront, IsResumeWritten, GetsResumeFront, Gets, GetsFront}
 use Rattle.ec_workers.specs.Answers.{Asked, asked_for}
 
 -- ---- a reader or writer over a call
@@ -114,9 +114,12 @@ pub record ForCert {R C : Type 0} (j : Job) (units : Use R) (cert : Use C) (w : 
   pub kept : HasFailed units → IsKept cert
   pub first : IfSome (before units) (λ bytes. ¬ (AreUnits bytes) → IsKept cert)
 
--- a cost is written for the units, a check for the units and the certificate
+-- a cost is written for the units, the cost of a plan and a check for the units and the certificate
 abbrev pub Costs : {R : Type 0} → Use R → Written → Type 0
 Costs units w = ForUnits job.Cost units w
+
+abbrev pub PlanCosts : {R C : Type 0} → Use R → Use C → Written → Type 0
+PlanCosts units cert w = ForCert job.PlanCost units cert w
 
 abbrev pub Checks : {R C : Type 0} → Use R → Use C → Written → Type 0
 Checks units cert w = ForCert job.Check units cert w
@@ -133,6 +136,27 @@ pub record PlansTo {R O : Type 0} (asked : Asked) (units : Use R) (out : Use O) 
   pub front : IsSound units → IfSome (before units) (GetsCertFront asked (GetsFront out.tells out.old out.new))
   pub failed : HasFailed out → Refuses refusal.Write w
   pub kept : HasFailed units → IsKept out
+
+-- a resumed search is written for the units and the certificate, which isn't read before the units are right
+pub record Resumes {R C : Type 0} (workers nodes : ℕ) (units : Use R) (cert : Use C) (w : Written) : Type 0 where
+  pub read : Reads units 1048577 w
+  pub cert_read : Reads cert 67108865 w
+  pub honest : IsSound units → IsSound cert → IfSome (before units) (λ bytes. IfSome (before cert) (λ text. (found : Option (List ℕ)) × IsResumeWritten workers nodes bytes text w found))
+  pub kept : HasFailed units → IsKept cert
+  pub first : IfSome (before units) (λ bytes. ¬ (AreUnits bytes) → IsKept cert)
+
+-- and before it the certificate of what was found, or a front of it where that fails
+pub record ResumesTo {R C O : Type 0} (workers nodes : ℕ) (units : Use R) (cert : Use C) (out : Use O) (w : Written) : Type 0 where
+  pub read : Reads units 1048577 w
+  pub cert_read : Reads cert 67108865 w
+  pub honest : IsSound units → IsSound cert → IsSound out
+      → IfSome (before units) (λ bytes. IfSome (before cert) (λ text. (found : Option (List ℕ)) × IsResumeWritten workers nodes bytes text w found × Gets out.tells out.old out.new found))
+  pub front : IsSound units → IsSound cert → IfSome (before units) (λ bytes. IfSome (before cert) (λ text. GetsResumeFront workers nodes (GetsFront out.tells out.old out.new) bytes text))
+  pub failed : HasFailed out → Refuses refusal.Write w
+  pub unread : HasFailed units → IsKept out
+  pub cert_unread : HasFailed cert → IsKept out
+  pub kept : HasFailed units → IsKept cert
+  pub first : IfSome (before units) (λ bytes. ¬ (AreUnits bytes) → IsKept cert)
 
 -- the text of frames is written for the units, and before it their capture file, or a front of it where that fails
 pub record Captures {R O : Type 0} (units : Use R) (out : Use O) (w : Written) : Type 0 where
@@ -166,6 +190,8 @@ Does job.Check units cert out w = IfLent cert ⊥ (λ c. Checks units c w) × Is
 Does job.Frames units cert out w = TellsPlan job.Frames units cert w × IsLeft out
 Does job.Capture units cert out w = IfLent out (TellsPlan job.Frames units cert w) (λ o. IfLent cert (Captures units o w) (λ c. CapturesPlan units c o w))
 Does job.Play units cert out w = TellsPlan job.Play units cert w × IsLeft out
+Does job.PlanCost units cert out w = IfLent cert ⊥ (λ c. PlanCosts units c w) × IsLeft out
+Does (job.Resume workers nodes) units cert out w = IfLent cert ⊥ (λ c. IfLent out (Resumes workers nodes units c w) (λ o. ResumesTo workers nodes units c o w))
 Does (job.Plan workers nodes) units cert out w = IfLent out (Plans (asked_for workers nodes) units w) (λ o. PlansTo (asked_for workers nodes) units o w) × IsLeft cert
 
 -- a run does its job, and tells what is to be written for it
@@ -184,23 +210,27 @@ pub record CapturesAway {R : Type 0} (units : Use R) (w : Written) : Type 0 wher
   pub read : Reads units 1048577 w
   pub honest : IsSound units → IfSome (before units) (λ bytes. Refuses refusal.Write w ⊎ ((file : Option (List ℕ)) × IsFramesWritten None bytes w file))
 
--- without the path of a file to write; of a check, whose certificate isn't known, only what it reads
+-- without the path of a file to write; of a check, the cost of a plan or a resumed search, whose certificate isn't known, only what it reads
 abbrev pub DoesAlone : {R : Type 0} → Job → Use R → Written → Type 0
 DoesAlone job.Cost units w = Costs units w
 DoesAlone (job.Plan workers nodes) units w = Plans (asked_for workers nodes) units w
+DoesAlone (job.Resume workers nodes) units w = Reads units 1048577 w
 DoesAlone job.Check units w = Reads units 1048577 w
 DoesAlone job.Frames units w = ForUnits job.Frames units w
 DoesAlone job.Capture units w = ForUnits job.Frames units w
 DoesAlone job.Play units w = ForUnits job.Play units w
+DoesAlone job.PlanCost units w = Reads units 1048577 w
 
 -- and with one
 abbrev pub DoesAway : {R : Type 0} → Job → Use R → Written → Type 0
 DoesAway job.Cost units w = Costs units w
 DoesAway (job.Plan workers nodes) units w = PlansAway (asked_for workers nodes) units w
+DoesAway (job.Resume workers nodes) units w = Reads units 1048577 w
 DoesAway job.Check units w = Reads units 1048577 w
 DoesAway job.Frames units w = ForUnits job.Frames units w
 DoesAway job.Capture units w = CapturesAway units w
 DoesAway job.Play units w = ForUnits job.Play units w
+DoesAway job.PlanCost units w = Reads units 1048577 w
 
 -- frames or a play; of those of a certificate, which isn't known, only what they read
 abbrev pub PlanAt : {R : Type 0} → Job → Option (String Global) → Use R → Written → Type 0
@@ -229,10 +259,12 @@ usage text = record { text = text; code = 5 }
 
 -- ---- what a caller brings
 
--- a check has a reader of a certificate, which has not failed, and frames and a play may have one
+-- a check, the cost of a plan and a resumed search have a reader of a certificate, which has not failed, and frames and a play may have one
 abbrev pub HasCert : {C : Type 0} → Job → Option (Io C) → Type 0
 HasCert job.Cost cert = Unit {0}
 HasCert (job.Plan workers nodes) cert = Unit {0}
+HasCert (job.Resume workers nodes) None = ⊥
+HasCert (job.Resume workers nodes) (Some cert) = has_failed cert ≡ false
 HasCert job.Check None = ⊥
 HasCert job.Check (Some cert) = has_failed cert ≡ false
 HasCert job.Frames None = Unit {0}
@@ -241,6 +273,8 @@ HasCert job.Capture None = Unit {0}
 HasCert job.Capture (Some cert) = has_failed cert ≡ false
 HasCert job.Play None = Unit {0}
 HasCert job.Play (Some cert) = has_failed cert ≡ false
+HasCert job.PlanCost None = ⊥
+HasCert job.PlanCost (Some cert) = has_failed cert ≡ false
 
 -- if there is a reader, it has not failed
 abbrev pub NoneFailed : {C : Type 0} → Option (Io C) → Type 0
@@ -251,7 +285,9 @@ NoneFailed (Some cert) = has_failed cert ≡ false
 abbrev pub HasOut : {O : Type 0} → Job → Option (Io O) → Type 0
 HasOut job.Cost out = Unit {0}
 HasOut (job.Plan workers nodes) out = Unit {0}
+HasOut (job.Resume workers nodes) out = Unit {0}
 HasOut job.Check out = Unit {0}
 HasOut job.Frames out = Unit {0}
 HasOut job.Capture out = NoneFailed out
 HasOut job.Play out = Unit {0}
+HasOut job.PlanCost out = Unit {0}

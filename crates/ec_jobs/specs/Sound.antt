@@ -1,5 +1,5 @@
 -- What the answers of a check and of a plan are worth.
-use Rattle.std.specs.Prelude.{◌≡◌, ◌≢◌, ℕ, List, ◌++◌, Option, Some, Ok}
+use Rattle.std.specs.Prelude.{◌≡◌, ◌≢◌, ◌⊎◌, ℕ, List, ◌++◌, Option, Some, Ok}
 use Rattle.ec_units.specs.declared.slave.Place.{Place}
 use Rattle.ec_units.specs.declared.units.Units.{Units}
 use Rattle.ec_units.specs.Load.{loads_of}
@@ -8,18 +8,21 @@ use Rattle.ec_units.specs.Views.{UnitsView, units_view, view_loads}
 use Rattle.ec_loads.specs.Cost.{plan_items, IsBusiest}
 use Rattle.ec_loads.specs.Legal.{IsLegal}
 use Rattle.ec_loads.specs.Search.{BoundsAll, IsLeast, HasNoPlan}
+use Rattle.ec_cert.specs.declared.cert.Best.{Best}
+use Rattle.ec_cert.specs.BestPlan.{IsBestPlan}
 use Rattle.ec_cert.specs.Shapes.{CertView}
 use Rattle.ec_cert_text.specs.Text.{certificate_text}
 use Rattle.ec_checker.specs.declared.fault.Verdict.{Verdict}
 use Rattle.ec_checker.specs.declared.fault.Verdict.TheVariants as verdict
+use Rattle.ec_workers.specs.declared.outcome.Cut.{Cut}
 use Rattle.ec_workers.specs.Answers.{Asked}
 use Rattle.ec_workers.specs.Outcomes.{Shows}
-use Rattle.ec_answers.specs.Planned.{IsPlanWritten}
+use Rattle.ec_answers.specs.Planned.{IsPlanWritten, IsResumeWritten}
 use Rattle.ec_lines.specs.declared.job.Job.{Job}
 use Rattle.ec_lines.specs.declared.job.Job.TheVariants as job
 use Rattle.ec_lines.specs.Framed.{IsCaptureFor, IsCaptured}
-use Rattle.ec_lines.specs.Lines.{least_line, no_plan_line, optimal_line}
-use Rattle.ec_lines.specs.Outcomes.{optimal_text}
+use Rattle.ec_lines.specs.Lines.{least_line, level_line, no_plan_line, optimal_line}
+use Rattle.ec_lines.specs.Outcomes.{optimal_text, unproved_text}
 use Rattle.ec_lines.specs.Output.{Written, IsOutput}
 
 -- `least b` is written, and it is true of the units that the bytes say
@@ -37,9 +40,19 @@ pub record TellsNoPlan (bytes : List ℕ) (w : Written) : Type 0 where
   pub line : w.text ≡ no_plan_line
   pub none : HasNoPlan (view_loads units.units) units.slots
 
--- whatever a certificate holds, a check that ends with status 0 or 1 tells the truth
+-- `at least l` is written, and it is true of the units that the bytes say: every legal plan has a tick that costs at least l
+pub record TellsAtLeast (bytes : List ℕ) (w : Written) : Type 0 where
+  pub units : UnitsView
+  pub said : reading bytes ≡ Ok units
+  pub level : ℕ
+  pub line : w.text ≡ level_line level
+  pub bounds : BoundsAll (view_loads units.units) units.slots (Some level)
+
+-- whatever a certificate holds, a check that ends with status 0, 1 or 2 tells the truth
 abbrev pub YesIsTrue : Type 0
-YesIsTrue = (bytes cert : List ℕ) (w : Written) → IsOutput job.Check bytes (Some cert) w → (w.code ≡ 0 → TellsLeast bytes w) × (w.code ≡ 1 → TellsNoPlan bytes w)
+YesIsTrue =
+    (bytes cert : List ℕ) (w : Written) → IsOutput job.Check bytes (Some cert) w →
+    (w.code ≡ 0 → TellsLeast bytes w) × (w.code ≡ 1 → TellsNoPlan bytes w) × (w.code ≡ 2 → TellsAtLeast bytes w)
 
 -- what is written is a function of the bytes that are read
 abbrev pub OneOutputEach : Type 0
@@ -78,16 +91,43 @@ pub record TellsWithoutPlan (bytes : List ℕ) (w : Written) (cert : Option (Lis
   pub none : HasNoPlan (loads_of units.units) units.slots
   pub shown : IsShownBy units verdict.NoPlan cert
 
--- whatever workers and nodes were asked for, a plan that ends with status 0 or 1 tells the truth
+-- `unproved` with why the search ended, `at least l` and a line for each unit of the best plan, if any, are written, and they are true of the units that the bytes
+-- say: that plan is legal and costs what is stated, and every legal plan has a tick that costs at least l
+pub record TellsUnproved (bytes : List ℕ) (w : Written) (cert : Option (List ℕ)) : Type 0 where
+  pub units : Units
+  pub said : reading bytes ≡ Ok (units_view units)
+  pub best : Option Best
+  pub why : Cut
+  pub level : ℕ
+  pub lines : w.text ≡ unproved_text units.units best why (Some level)
+  pub legal : IsBestPlan (loads_of units.units) units.slots best
+  pub bounds : BoundsAll (loads_of units.units) units.slots (Some level)
+
+-- a search that ends with status 0, 1 or 2 tells the truth
+abbrev pub TellsTruth : List ℕ → Written → Option (List ℕ) → Type 0
+TellsTruth bytes w cert = (w.code ≡ 0 → TellsOptimal bytes w cert) × (w.code ≡ 1 → TellsWithoutPlan bytes w cert) × (w.code ≡ 2 → TellsUnproved bytes w cert)
+
+-- whatever workers and nodes were asked for
 abbrev pub PlanIsTrue : Type 0
-PlanIsTrue = (asked : Asked) (bytes : List ℕ) (w : Written) (cert : Option (List ℕ)) → IsPlanWritten asked bytes w cert → (w.code ≡ 0 → TellsOptimal bytes w cert) × (w.code ≡ 1 → TellsWithoutPlan bytes w cert)
+PlanIsTrue = (asked : Asked) (bytes : List ℕ) (w : Written) (cert : Option (List ℕ)) → IsPlanWritten asked bytes w cert → TellsTruth bytes w cert
+
+-- and whatever certificate it went on with
+abbrev pub ResumeIsTrue : Type 0
+ResumeIsTrue =
+    (workers nodes : ℕ) (bytes text : List ℕ) (w : Written) (cert : Option (List ℕ)) → IsResumeWritten workers nodes bytes text w cert → TellsTruth bytes w cert
 
 -- a text begins with the line `optimal b`
 abbrev pub BeginsOptimal : ℕ → Written → Type 0
 BeginsOptimal b w = (rest : List ℕ) × (w.text ≡ optimal_line b ++ rest)
 
--- two plans of the same bytes, whatever workers and nodes each was asked for, that end with status 0 name one cost; and where one ends so, none ends with status 1
+-- written is what a search over the units that the bytes say tells, begun or resumed, whatever was asked for and whatever it went on with
+abbrev pub IsSearchTold : List ℕ → Written → Type 0
+IsSearchTold bytes w =
+    ((asked : Asked) × (cert : Option (List ℕ)) × IsPlanWritten asked bytes w cert)
+    ⊎ ((workers : ℕ) × (nodes : ℕ) × (text : List ℕ) × (cert : Option (List ℕ)) × IsResumeWritten workers nodes bytes text w cert)
+
+-- two searches over the same bytes that end with status 0 name one cost; and where one ends so, none ends with status 1
 abbrev pub OneLeastEach : Type 0
 OneLeastEach =
-    (m n : Asked) (bytes : List ℕ) (v w : Written) (c d : Option (List ℕ)) → IsPlanWritten m bytes v c → IsPlanWritten n bytes w d → v.code ≡ 0 →
+    (bytes : List ℕ) (v w : Written) → IsSearchTold bytes v → IsSearchTold bytes w → v.code ≡ 0 →
     (w.code ≡ 0 → (b : ℕ) × BeginsOptimal b v × BeginsOptimal b w) × (w.code ≢ 1)

@@ -10,6 +10,7 @@ ghost use Rattle.ec_workers.specs.Answers.{asked_for};
 use ec_answers::{certified_answer, cost_answer, plan_answer, whole_answer};
 use ec_lines::{Answer, Refusal, refusal_line};
 use ec_wire::{Io, WriteFault};
+use ec_workers::Gate;
 use std::alloc::Global;
 use std::io::{Read, Write};
 use std::sync::Wait;
@@ -82,13 +83,14 @@ pub fn run_check<R: Read, C: Read, W: Write>(
 }
 
 /// Reads the units, searches for a plan whose busiest tick is least, and then writes the text of what was found.
-pub fn run_plan<R: Read, W: Write, T: Threads + Wait + Sync>(
+pub fn run_plan<R: Read, W: Write, T: Threads + Wait + Sync, G: Gate + Sync>(
     rt: &T,
     alloc: Global,
     workers: usize,
     nodes: u32,
     units: &mut Io<R>,
     text: &mut Io<W>,
+    gate: &G,
 ) -> Status
     requires workers { (1 ≤ workers) × (workers ≤ 16) }
     requires nodes { (1 ≤ nodes) × (nodes ≤ 10000000) }
@@ -96,13 +98,13 @@ pub fn run_plan<R: Read, W: Write, T: Threads + Wait + Sync>(
     requires text { has_failed text.old ≡ false }
     ensures { Tells (Plans (asked_for workers nodes) (used R.remaining units.old units.new)) (used W.contents text.old text.new) result.code }
 {
-    let answer = plan_answer(rt, alloc, workers, nodes, units);
+    let answer = plan_answer(rt, alloc, workers, nodes, units, gate);
     finish(answer, text)
 }
 
 /// Reads the units, searches for a plan whose busiest tick is least, writes the certificate, if there is one, to
 /// `out`, and then writes the text of what was found.
-pub fn run_plan_to<R: Read, W: Write, O: Write, T: Threads + Wait + Sync>(
+pub fn run_plan_to<R: Read, W: Write, O: Write, T: Threads + Wait + Sync, G: Gate + Sync>(
     rt: &T,
     alloc: Global,
     workers: usize,
@@ -110,6 +112,7 @@ pub fn run_plan_to<R: Read, W: Write, O: Write, T: Threads + Wait + Sync>(
     units: &mut Io<R>,
     text: &mut Io<W>,
     out: &mut Io<O>,
+    gate: &G,
 ) -> Status
     requires workers { (1 ≤ workers) × (workers ≤ 16) }
     requires nodes { (1 ≤ nodes) × (nodes ≤ 10000000) }
@@ -118,6 +121,6 @@ pub fn run_plan_to<R: Read, W: Write, O: Write, T: Threads + Wait + Sync>(
     requires out { has_failed out.old ≡ false }
     ensures { Tells (PlansTo (asked_for workers nodes) (used R.remaining units.old units.new) (used O.contents out.old out.new)) (used W.contents text.old text.new) result.code }
 {
-    let answer = certified_answer(rt, alloc, workers, nodes, units, out);
+    let answer = certified_answer(rt, alloc, workers, nodes, units, out, gate);
     finish(answer, text)
 }

@@ -1,5 +1,6 @@
 //! A file that is made when it is first written.
 
+ghost use Rattle.std.specs.Prelude.{◌≡◌, None};
 ghost use Rattle.std.specs.Option.{option_and_then};
 
 use std::io::Write;
@@ -15,8 +16,10 @@ pub struct Late<'a, F: Files> {
 }
 
 impl<'a, F: Files> Late<'a, F> {
-    /// A writer to this path, which touches nothing yet.
-    pub fn new(files: &'a F, path: &'a str) -> Late<'a, F> {
+    /// A writer to this path, which touches nothing yet and tells no bytes.
+    pub fn new(files: &'a F, path: &'a str) -> Late<'a, F>
+        ensures { option_and_then F.File.contents result.file ≡ None }
+    {
         Late {
             files,
             path,

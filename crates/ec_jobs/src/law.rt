@@ -1,8 +1,8 @@
 //! Laws of what is written.
 
-ghost use Rattle.ec_jobs.specs.Sound.{CaptureTellsFrames, OneCaptureEach, OneLeastEach, OneOutputEach, PlanIsTrue, YesIsTrue};
+ghost use Rattle.ec_jobs.specs.Sound.{CaptureTellsFrames, OneCaptureEach, OneLeastEach, OneOutputEach, PlanIsTrue, ResumeIsTrue, YesIsTrue};
 
-use ec_tree::trees_bound;
+use ec_tree::{levels_bound, trees_bound};
 
 /// What is written is a function of the bytes that are read: those of the units, and for a check those of the
 /// certificate, have one text and one status.
@@ -18,24 +18,37 @@ pub fn one_capture_each()
 {}
 
 /// Where a check writes `least B`, status 0, some legal plan of the units that were read is busiest at B, and every
-/// legal plan has a tick that costs at least B. Where it writes `no plan`, status 1, none of their plans is legal.
-/// Whoever made the certificate.
+/// legal plan has a tick that costs at least B. Where it writes `no plan`, status 1, none of their plans is legal. Where
+/// it writes `at least L`, status 2, every legal plan has a tick that costs at least L. Whoever made the certificate.
 pub fn a_yes_is_true()
     ensures { YesIsTrue }
 {
     trees_bound();
+    levels_bound();
 }
 
 /// Where a plan writes `optimal B`, status 0, the plan whose lines it writes is a legal one of the units that were read,
 /// busiest at B, every legal plan has a tick that costs at least B, and the certificate that it writes before shows it.
-/// Where it writes `no plan`, status 1, none of their plans is legal, and the certificate shows that. Whatever
-/// workers and nodes were asked for.
+/// Where it writes `no plan`, status 1, none of their plans is legal, and the certificate shows that. Where it writes
+/// `unproved` and `at least L`, status 2, the plan of its lines, if any, is legal and costs what is stated, and every legal
+/// plan has a tick that costs at least L. Whatever workers and nodes were asked for.
 pub fn a_plan_is_true()
     ensures { PlanIsTrue }
-{}
+{
+    levels_bound();
+}
 
-/// Two plans of the same units that end with status 0 name the same cost, whatever was asked for; and where one ends with
-/// status 0, none ends with status 1.
+/// The same of a search that goes on with a certificate, whoever made it.
+pub fn a_resumed_plan_is_true()
+    ensures { ResumeIsTrue }
+{
+    levels_bound();
+}
+
+/// Two searches over the same units, begun or resumed, that end with status 0 name the same cost, whatever was asked for;
+/// and where one ends with status 0, none ends with status 1.
 pub fn one_least_each()
     ensures { OneLeastEach }
-{}
+{
+    levels_bound();
+}

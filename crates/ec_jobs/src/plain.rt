@@ -6,6 +6,7 @@ ghost use Rattle.ec_jobs.specs.Runs.{used, lent, HasCert, HasOut, IsRun};
 ghost use Rattle.ec_lines.specs.Words.{IsPlain};
 
 use crate::capturing::{run_capture, run_captured_plan};
+use crate::costing::run_planned_cost;
 use crate::framing::{run_frames, run_planned};
 use crate::job::{Status, run_check, run_cost};
 use crate::playing::{run_planned_play, run_played};
@@ -36,6 +37,7 @@ pub fn run_plain<R: Read, C: Read, W: Write, O: Write>(
     match job {
         Job::Cost => run_cost(alloc, units, text),
         Job::Plan { .. } => unreachable!(),
+        Job::Resume { .. } => unreachable!(),
         Job::Check => match cert {
             Some(cert) => run_check(alloc, units, cert, text),
             None => unreachable!(),
@@ -57,6 +59,10 @@ pub fn run_plain<R: Read, C: Read, W: Write, O: Write>(
         Job::Play => match cert {
             Some(plan) => run_planned_play(&Alone, alloc, units, plan, text),
             None => run_played(&Alone, alloc, units, text),
+        },
+        Job::PlanCost => match cert {
+            Some(cert) => run_planned_cost(alloc, units, cert, text),
+            None => unreachable!(),
         },
     }
 }

@@ -6,22 +6,25 @@ ghost use Rattle.ec_jobs.specs.Runs.{used, lent, HasCert, IsRun, NoneFailed};
 ghost use Rattle.ec_lines.specs.Words.{JobFits};
 
 use crate::capturing::{run_capture, run_captured_plan};
+use crate::costing::run_planned_cost;
 use crate::framing::{run_frames, run_planned};
 use crate::job::{Status, run_check, run_cost, run_plan, run_plan_to};
 use crate::playing::{run_planned_play, run_played};
+use crate::resuming::{run_resume, run_resume_to};
 use ec_lines::{Job, Together};
 use ec_wire::Io;
+use ec_workers::Gate;
 use std::alloc::Global;
 use std::io::{Read, Write};
 use std::sync::Wait;
 use std::thread::Threads;
 
 /// Does a job: reads the units, and for a check, or frames with a certificate, then the certificate, makes its whole answer, and then writes it to
-/// `text`; what there is for jobs that search for nothing is as in `run_plain`. A plan searches with one worker in the
-/// calling thread or with 2 to 16 in threads of their own, and where it is optimal or there is none, its certificate is
-/// written to `out`, if `out` is there, before the text. It reads at most 1,048,577 bytes of units and 67,108,865 of a certificate. A cost and a plan leave
-/// `cert` unread, a cost and a check leave `out`, and so does a plan without a certificate.
-pub fn run<R: Read, C: Read, W: Write, O: Write, T: Threads + Wait + Sync>(
+/// `text`; what there is for jobs that search for nothing is as in `run_plain`. A plan and a resumed search
+/// work with one worker in the calling thread or with 2 to 16 in threads of their own, and the certificate of what they
+/// found is written to `out`, if `out` is there, before the text; `gate` is told before each node. It reads at most 1,048,577 bytes of units and 67,108,865 of a certificate. A cost and a plan leave
+/// `cert` unread, a cost and a check leave `out`.
+pub fn run<R: Read, C: Read, W: Write, O: Write, T: Threads + Wait + Sync, G: Gate + Sync>(
     rt: &T,
     alloc: Global,
     job: &Job,
@@ -29,6 +32,7 @@ pub fn run<R: Read, C: Read, W: Write, O: Write, T: Threads + Wait + Sync>(
     cert: Option<&mut Io<C>>,
     text: &mut Io<W>,
     out: Option<&mut Io<O>>,
+    gate: &G,
 ) -> Status
     requires job { JobFits job.now }
     requires units { has_failed units.old ≡ false }
@@ -40,8 +44,8 @@ pub fn run<R: Read, C: Read, W: Write, O: Write, T: Threads + Wait + Sync>(
     match job {
         Job::Cost => run_cost(alloc, units, text),
         Job::Plan { workers, nodes } => match out {
-            Some(out) => run_plan_to(rt, alloc, *workers, *nodes, units, text, out),
-            None => run_plan(rt, alloc, *workers, *nodes, units, text),
+            Some(out) => run_plan_to(rt, alloc, *workers, *nodes, units, text, out, gate),
+            None => run_plan(rt, alloc, *workers, *nodes, units, text, gate),
         },
         Job::Check => match cert {
             Some(cert) => run_check(alloc, units, cert, text),
@@ -64,6 +68,19 @@ pub fn run<R: Read, C: Read, W: Write, O: Write, T: Threads + Wait + Sync>(
         Job::Play => match cert {
             Some(plan) => run_planned_play(&Together(rt), alloc, units, plan, text),
             None => run_played(&Together(rt), alloc, units, text),
+        },
+        Job::PlanCost => match cert {
+            Some(cert) => run_planned_cost(alloc, units, cert, text),
+            None => unreachable!(),
+        },
+        Job::Resume { workers, nodes } => match cert {
+            Some(cert) => match out {
+                Some(out) => run_resume_to(
+                    rt, alloc, *workers, *nodes, units, cert, text, out, gate,
+                ),
+                None => run_resume(rt, alloc, *workers, *nodes, units, cert, text, gate),
+            },
+            None => unreachable!(),
         },
     }
 }

@@ -11,7 +11,7 @@ use Rattle.ec_loads.specs.declared.plan.Illegal.{Illegal}
 use Rattle.ec_loads.specs.Cost.{plan_items}
 use Rattle.ec_loads.specs.Legal.{IsLegal, IsIllegalBy}
 use Rattle.ec_lines.specs.declared.refusal.Refusal.TheVariants as refusal
-use Rattle.ec_lines.specs.Output.{done, refused, first_unplaced, places_of, IsCostText, IsCostOutput}
+use Rattle.ec_lines.specs.Output.{done, refused, first_unplaced, places_of, IsCostText, IsCostsText, IsCostOutput}
 
 -- the plan of units that all have a place is not legal
 pub illegal_output : (us : Units) (ps : List Place) (f : Illegal) → first_unplaced (units_view us).units ≡ None → ps ≡ places_of (units_view us).units → IsIllegalBy (loads_of us.units) us.slots ps f → IsCostOutput (units_view us) (refused (refusal.Illegal f))
@@ -20,6 +20,11 @@ illegal_output us ps f none given h =
     subst (λ (ls : List Load). IsIllegalBy ls us.slots (places_of (units_view us).units) f) (loads_of-views us.units)
     (subst (λ (qs : List Place). IsIllegalBy (loads_of us.units) us.slots qs f) given h) in
     rw none (inl (f, at, refl))
+
+-- the text of the costs of units at places, which their views say too
+pub costs_text : (us : Units) (ps : List Place) (text : List ℕ) → IsCostText (plan_items (loads_of us.units) ps) us.slots (lcm_of (periods_of (loads_of us.units))) us.tick_ns text → IsCostsText (units_view us) ps text
+costs_text us ps text told =
+    subst (λ (ls : List Load). IsCostText (plan_items ls ps) us.slots (lcm_of (periods_of ls)) us.tick_ns text) (loads_of-views us.units) told
 
 -- or it is, and this is the text of its costs
 pub legal_output : (us : Units) (ps : List Place) (text : List ℕ) → first_unplaced (units_view us).units ≡ None → ps ≡ places_of (units_view us).units → IsLegal (loads_of us.units) us.slots ps

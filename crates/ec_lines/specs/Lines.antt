@@ -36,6 +36,10 @@ cost_lines cost h top at tick_ns = hyperperiod_line h ++ tick_lines cost h ++ bu
 abbrev pub least_line : ℕ → List ℕ
 least_line b = codes "least " ++ (decimal b ++ codes "\n")
 
+-- the line of a certificate whose tree shows this level, in wire bytes
+abbrev pub level_line : ℕ → List ℕ
+level_line level = codes "at least " ++ (decimal level ++ codes "\n")
+
 abbrev pub no_plan_line : List ℕ
 no_plan_line = codes "no plan\n"
 
@@ -55,6 +59,11 @@ cut_text cut.Memory = codes "memory"
 
 abbrev pub cut_line : Cut → List ℕ
 cut_line why = codes "cut " ++ (cut_text why ++ codes "\n")
+
+-- what a search without a proof has proved, if its level is known
+abbrev pub level_lines : Option ℕ → List ℕ
+level_lines None = []
+level_lines (Some level) = level_line level
 
 -- where a unit is placed
 abbrev pub unit_line : List ℕ → Place → List ℕ

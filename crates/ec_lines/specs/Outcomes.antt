@@ -2,25 +2,37 @@
 use Rattle.std.specs.Prelude.{◌≡◌, ℕ, List, ◌++◌, length, Option, Some, None, IfSome}
 use Rattle.ec_units.specs.declared.slave.Place.{Place}
 use Rattle.ec_units.specs.declared.unit.Unit.{Unit as SyncUnit}
+use Rattle.ec_units.specs.Load.{loads_of}
+use Rattle.ec_loads.specs.Line.{turned_time, line_by}
 use Rattle.ec_cert.specs.declared.cert.Best.{Best}
+use Rattle.ec_cert.specs.BestPlan.{value_of}
+use Rattle.ec_cert.specs.Shapes.{shape_of}
+use Rattle.ec_checker.specs.Levels.{IsGreatestLevel}
 use Rattle.ec_workers.specs.declared.outcome.Cut.{Cut}
 use Rattle.ec_workers.specs.declared.outcome.Outcome.{Outcome}
 use Rattle.ec_workers.specs.declared.outcome.Outcome.TheVariants as outcome
-use Rattle.ec_lines.specs.Lines.{optimal_line, no_plan_line, unproved_line, cut_line, unit_lines}
+use Rattle.ec_lines.specs.Lines.{optimal_line, no_plan_line, unproved_line, cut_line, level_lines, unit_lines}
 use Rattle.ec_lines.specs.Output.{Written, done}
 
 abbrev pub optimal_text : List SyncUnit → List Place → ℕ → List ℕ
 optimal_text units places b = optimal_line b ++ unit_lines units places
 
-abbrev pub unproved_text : List SyncUnit → Option Best → Cut → List ℕ
-unproved_text units None why = unproved_line None ++ cut_line why
-unproved_text units (Some b) why = unproved_line (Some b.busiest) ++ (cut_line why ++ unit_lines units b.plan.places)
+abbrev pub unproved_text : List SyncUnit → Option Best → Cut → Option ℕ → List ℕ
+unproved_text units None why level = unproved_line None ++ (cut_line why ++ level_lines level)
+unproved_text units (Some b) why level = unproved_line (Some b.busiest) ++ (cut_line why ++ (level_lines level ++ unit_lines units b.plan.places))
 
--- the text of an outcome for these units, and its status
-abbrev pub outcome_output : List SyncUnit → Outcome → Written
-outcome_output units (outcome.Optimal plan b cert) = done (optimal_text units plan.places b)
-outcome_output units (outcome.NoPlan cert) = record { text = no_plan_line; code = 1 }
-outcome_output units (outcome.Unproved best order tree why) = record { text = unproved_text units best why; code = 2 }
+-- a search without a proof has a level, the greatest that its tree shows; with a proof there is none to tell
+abbrev pub IsLevelOf : List SyncUnit → ℕ → Outcome → Option ℕ → Type 0
+IsLevelOf units n (outcome.Optimal plan b cert) level = level ≡ None
+IsLevelOf units n (outcome.NoPlan cert) level = level ≡ None
+IsLevelOf units n (outcome.Unproved best order tree why) level =
+    (l : ℕ) × (level ≡ Some l) × IsGreatestLevel (line_by turned_time (loads_of units) n) (value_of best) (shape_of tree) order l
+
+-- the text of an outcome with this level for these units, and its status
+abbrev pub outcome_output : List SyncUnit → Outcome → Option ℕ → Written
+outcome_output units (outcome.Optimal plan b cert) level = done (optimal_text units plan.places b)
+outcome_output units (outcome.NoPlan cert) level = record { text = no_plan_line; code = 1 }
+outcome_output units (outcome.Unproved best order tree why) level = record { text = unproved_text units best why level; code = 2 }
 
 -- a plan of an outcome has a place for each unit
 abbrev pub HasPlaces : List SyncUnit → Outcome → Type 0

@@ -28,7 +28,7 @@ use Rattle.ec_lines.specs.declared.refusal.Refusal.{Refusal}
 use Rattle.ec_lines.specs.declared.refusal.Refusal.TheVariants as refusal
 use Rattle.ec_lines.specs.declared.job.Job.{Job}
 use Rattle.ec_lines.specs.declared.job.Job.TheVariants as job
-use Rattle.ec_lines.specs.Lines.{cost_lines, least_line, no_plan_line}
+use Rattle.ec_lines.specs.Lines.{cost_lines, least_line, level_line, no_plan_line}
 use Rattle.ec_lines.specs.Refusals.{refusal_line, refusal_code, IsMemory}
 
 -- a text and the exit status
@@ -51,6 +51,11 @@ pub record IsCostText (xs : List Item) (n h tick_ns : ℕ) (text : List ℕ) : T
   pub busiest : IsFirstBusiest xs n top at
   pub lines : text ≡ cost_lines (tick_cost xs n) h top at tick_ns
 
+-- the text of the costs of units at these places
+abbrev pub IsCostsText : UnitsView → List Place → List ℕ → Type 0
+IsCostsText v places text =
+    IsCostText (plan_items (view_loads v.units) places) v.slots (lcm_of (periods_of (view_loads v.units))) v.tick_ns text
+
 -- the first unit without a place
 abbrev pub first_unplaced : List UnitView → Option ℕ
 first_unplaced units = position_from (λ u. is_none u.place) 0 units
@@ -64,7 +69,7 @@ abbrev pub IsPlacedOutput : UnitsView → List Place → Written → Type 0
 IsPlacedOutput v places w =
     ((f : Illegal) × IsIllegalBy (view_loads v.units) v.slots places f × (w ≡ refused (refusal.Illegal f)))
     ⊎ (IsLegal (view_loads v.units) v.slots places
-    × IsCostText (plan_items (view_loads v.units) places) v.slots (lcm_of (periods_of (view_loads v.units))) v.tick_ns w.text
+    × IsCostsText v places w.text
     × (w.code ≡ 0))
 
 -- what is written for units
@@ -72,15 +77,16 @@ abbrev pub IsCostOutput : UnitsView → Written → Type 0
 IsCostOutput v w =
     MatchOption (first_unplaced v.units) (IsPlacedOutput v (places_of v.units) w) (λ n. w ≡ refused (refusal.NoPlace n))
 
--- what is written for a verdict, which has the status 1 where no plan is legal
+-- what is written for a verdict, which has the status 1 where no plan is legal, and 2 where no more than a level is shown
 abbrev pub verdict_output : Verdict → Written
 verdict_output (verdict.Least b) = done (least_line b)
 verdict_output verdict.NoPlan = record { text = no_plan_line; code = 1 }
+verdict_output (verdict.AtLeast level) = record { text = level_line level; code = 2 }
 
 -- what is written for these units and a certificate: its verdict where it is certified, or its first fault
 abbrev pub IsCheckedOf : List SyncUnit → ℕ → CertView → Written → Type 0
 IsCheckedOf units n c w =
-    (IsCertified units n c × (w ≡ verdict_output (verdict_of c.best)))
+    (IsCertified units n c × (w ≡ verdict_output (verdict_of c.best c.level)))
     ⊎ ((f : CheckFault) × (f ≢ check.OutOfMemory) × IsFaultOf units n c f × (w ≡ refused (refusal.Check f)))
 
 -- the same of units as plain data
@@ -91,7 +97,7 @@ IsCheckedOutput v c w = (us : Units) × (units_view us ≡ v) × IsCheckedOf us.
 abbrev pub IsCheckOutput : UnitsView → List ℕ → Written → Type 0
 IsCheckOutput v text w = MatchResult (cert_reading text) (λ c. IsCheckedOutput v c w) (λ f. w ≡ refused (refusal.Cert f))
 
--- ---- what is told of a plan: the text of units at these places, which is that of its frames or of a play
+-- ---- what is told of a plan: the text of units at these places, which is that of its frames, of a play or of its costs
 
 module _ (IsText : UnitsView → List Place → List ℕ → Type 0) where
   -- what is written for units that all have a place: the fault of their plan, or its text
@@ -133,11 +139,13 @@ module _ (IsText : UnitsView → List Place → List ℕ → Type 0) where
 abbrev pub IsUnitsOutput : Job → Option (List ℕ) → UnitsView → Written → Type 0
 IsUnitsOutput job.Cost cert v w = IsCostOutput v w
 IsUnitsOutput (job.Plan workers nodes) cert v w = ⊥
+IsUnitsOutput (job.Resume workers nodes) cert v w = ⊥
 IsUnitsOutput job.Check None v w = ⊥
 IsUnitsOutput job.Check (Some text) v w = IsCheckOutput v text w
 IsUnitsOutput job.Frames cert v w = IsTextFor IsFramesText cert v w
 IsUnitsOutput job.Capture cert v w = IsTextFor IsFramesText cert v w
 IsUnitsOutput job.Play cert v w = IsTextFor IsPlayText cert v w
+IsUnitsOutput job.PlanCost cert v w = IsTextFor IsCostsText cert v w
 
 -- what is written for a unit text of at most 1,048,576 bytes
 abbrev pub IsTextOutput : Job → Option (List ℕ) → List ℕ → Written → Type 0

@@ -73,6 +73,7 @@ check_text (check.Value stated found) = codes "K5 Value " ++ (decimal stated ++ 
 check_text (check.Children node want got) = codes "K6 Children " ++ (decimal node ++ (codes " " ++ (decimal want ++ (codes " " ++ decimal got))))
 check_text (check.Leaf node) = codes "K7 Leaf " ++ decimal node
 check_text (check.Depth node) = codes "K8 Depth " ++ decimal node
+check_text (check.Level level value) = codes "K9 Level " ++ (decimal level ++ (codes " " ++ decimal value))
 
 -- why a search has no outcome
 abbrev pub solve_text : SolveFault → List ℕ
@@ -135,9 +136,17 @@ out_of_memory = refusal.Unit fault.OutOfMemory
 abbrev pub frame_memory : Refusal
 frame_memory = refusal.Play play.OutOfMemory
 
--- want of memory in a plan: before the search, or while its text is made
+-- want of memory over the level of a search that has no proof
+abbrev pub level_memory : Refusal
+level_memory = refusal.Check check.OutOfMemory
+
+-- want of memory in a plan: before the search, over its level, or while its text or its certificate is made
 abbrev pub IsPlanMemory : Refusal → Type 0
-IsPlanMemory r = (r ≡ out_of_memory) ⊎ (r ≡ refusal.Solve solve.OutOfMemory)
+IsPlanMemory r = (r ≡ out_of_memory) ⊎ ((r ≡ refusal.Solve solve.OutOfMemory) ⊎ (r ≡ level_memory))
+
+-- want of memory in a resumed search: as in a plan, or while the certificate is read or checked
+abbrev pub IsResumeMemory : Refusal → Type 0
+IsResumeMemory r = IsPlanMemory r ⊎ (r ≡ refusal.Cert cert.OutOfMemory)
 
 -- want of memory over frames: over the units or a text, the certificate, the check, or the layout, the frames and what they are played with
 abbrev pub IsFramesMemory : Refusal → Type 0
@@ -151,10 +160,12 @@ IsNoThread r = (r ≡ refusal.Play play.Ring) ⊎ (r ≡ refusal.Play play.Spawn
 abbrev pub IsMemory : Job → Refusal → Type 0
 IsMemory job.Cost r = r ≡ out_of_memory
 IsMemory (job.Plan workers nodes) r = IsPlanMemory r
+IsMemory (job.Resume workers nodes) r = IsResumeMemory r
 IsMemory job.Check r = (r ≡ out_of_memory) ⊎ ((r ≡ refusal.Cert cert.OutOfMemory) ⊎ (r ≡ refusal.Check check.OutOfMemory))
 IsMemory job.Frames r = IsFramesMemory r
 IsMemory job.Capture r = IsFramesMemory r
 IsMemory job.Play r = IsFramesMemory r ⊎ IsNoThread r
+IsMemory job.PlanCost r = IsFramesMemory r
 
 -- what can be wrong with reading: memory, a read that failed, or too many bytes
 abbrev pub IsReadFault : Refusal → Type 0

@@ -5,12 +5,13 @@ ghost use Rattle.ec_hyper.specs.Lcm.{lcm_of};
 ghost use Rattle.ec_units.specs.Load.{loads_of, periods_of};
 ghost use Rattle.ec_units.specs.Views.{unit_view, units_view};
 ghost use Rattle.ec_loads.specs.Cost.{plan_items, tick_cost};
+ghost use Rattle.ec_loads.specs.Legal.{IsLegal};
 ghost use Rattle.ec_loads.specs.Held.{items_of};
 ghost use Rattle.ec_lines.specs.Lines.{tick_line, tick_lines};
-ghost use Rattle.ec_lines.specs.Output.{IsCostText, first_unplaced, places_of, IsCostOutput, Answers};
+ghost use Rattle.ec_lines.specs.Output.{IsCostText, IsCostsText, first_unplaced, places_of, IsCostOutput, Answers};
 ghost use Rattle.ec_lines.specs.Refusals.{out_of_memory};
 ghost use Rattle.ec_lines.specs.declared.refusal.Refusal.TheVariants.{NoPlace};
-ghost use Rattle.ec_lines.specs.declared.job.Job.TheVariants.{Cost};
+ghost use Rattle.ec_lines.specs.declared.job.Job.TheVariants.{Cost, PlanCost};
 
 use crate::answer::Answer;
 use crate::refusal::Refusal;
@@ -90,6 +91,15 @@ fn cost_text(alloc: Global, units: &Units, plan: &Plan) -> Result<String, AllocE
     };
     write!(text, "fits {answer}\n")?;
     Ok(text)
+}
+
+/// What is answered for a legal plan of the units: the text of its costs, or that memory ran out.
+pub fn plan_cost(alloc: Global, units: &Units, plan: &Plan) -> Result<Answer, Refusal>
+    requires { IsLegal (loads_of units.now.units) units.now.slots plan.now.places }
+    ensures { Answers PlanCost result (λ w. IsCostsText (units_view units.now) plan.now.places w.text × (w.code ≡ 0)) }
+{
+    let text = cost_text(alloc, units, plan)?;
+    Ok(Answer { text, code: 0 })
 }
 
 /// What is answered for units: the text of their costs, or why there is none.

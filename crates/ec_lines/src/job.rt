@@ -7,17 +7,21 @@ pub enum Job {
     Cost,
     /// Searches for the best plan with so many workers, over at most so many nodes.
     Plan { workers: usize, nodes: u32 },
+    /// Goes on with the search of a certificate that was cut short, with so many workers, over at most so many new nodes.
+    Resume { workers: usize, nodes: u32 },
     /// Checks a certificate for the units.
     Check,
     /// Tells the FMMU records and the frames of a certificate's plan, or of the placed units.
     Frames,
     /// Tells them too, and writes these frames as a capture file.
     Capture,
+    /// Tells what each tick costs at the places of a certificate's plan.
+    PlanCost,
     /// Plays a certificate's plan, or that of the placed units, through modelled slaves for a hyperperiod.
     Play,
 }
 
-/// A command line: the job, the path of a certificate to read, and the path of what a plan or a capture writes.
+/// A command line: the job, the path of a certificate to read, and the path of what a plan, a resumed search or a capture writes.
 #[derive(Debug, Drop)]
 pub struct Line {
     pub job: Job,

@@ -13,7 +13,7 @@ mod refusal;
 mod verdict;
 
 pub use answer::Answer;
-pub use cost::cost_of;
+pub use cost::{cost_of, plan_cost};
 pub use frames::{Captured, placed_plan, plan_capture, plan_frames};
 pub use job::{Job, Line};
 pub use outcome::outcome_answer;

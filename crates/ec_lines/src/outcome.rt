@@ -1,7 +1,7 @@
 //! What a plan answers: the best plan that was found, or that there is none.
 
 ghost use Rattle.std.specs.Prelude.{◌≡◌, ◌++◌, length, string_bytes, codes, IfOk, IfSome, OnOk};
-ghost use Rattle.ec_lines.specs.Lines.{cut_text, unit_line, unit_lines};
+ghost use Rattle.ec_lines.specs.Lines.{cut_text, level_lines, unit_line, unit_lines};
 ghost use Rattle.ec_lines.specs.Outcomes.{HasPlaces, outcome_output, optimal_text as optimal_spec, unproved_text as unproved_spec};
 ghost use Rattle.ec_lines.specs.Output.{shown};
 
@@ -61,32 +61,54 @@ fn cut_name(cut: Cut) -> &'static str
     }
 }
 
-/// The text of the best plan that was found, if any, where none is proved best.
+/// Adds the line of a level, if there is one.
+fn push_level(text: &mut String, level: Option<u64>) -> Result<(), AllocError>
+    ensures { OnOk result (string_bytes text.new ≡ string_bytes text.old ++ level_lines level) }
+{
+    match level {
+        Some(level) => write!(text, "at least {level}\n"),
+        None => Ok(()),
+    }
+}
+
+/// The text of the best plan that was found, if any, where none is proved best, and of the level, if it is known.
 fn unproved_text(
     alloc: Global,
     units: &Units,
     best: &Option<Best>,
     cut: Cut,
+    level: Option<u64>,
 ) -> Result<String, AllocError>
     requires { IfSome best.now (λ b. length b.plan.places ≡ length units.now.units) }
-    ensures { IfOk result (λ text. string_bytes text ≡ unproved_spec units.now.units best.now cut) }
+    ensures { IfOk result (λ text. string_bytes text ≡ unproved_spec units.now.units best.now cut level) }
 {
     let cut = cut_name(cut);
     match best {
         Some(best) => {
             let busiest = best.busiest;
             let mut text = format!(in alloc; "unproved {busiest}\ncut {cut}\n")?;
+            push_level(&mut text, level)?;
             push_units(&mut text, units, &best.plan)?;
             Ok(text)
         }
-        None => format!(in alloc; "unproved none\ncut {cut}\n"),
+        None => {
+            let mut text = format!(in alloc; "unproved none\ncut {cut}\n")?;
+            push_level(&mut text, level)?;
+            Ok(text)
+        }
     }
 }
 
-/// The text of an outcome, with its status.
-pub fn outcome_answer(alloc: Global, units: &Units, outcome: &Outcome) -> Result<Answer, AllocError>
+/// The text of an outcome, with its status. `level` is what a search without a proof has proved, in wire bytes: every
+/// legal plan has a tick that costs at least that; of an outcome with a proof nothing is told of it.
+pub fn outcome_answer(
+    alloc: Global,
+    units: &Units,
+    outcome: &Outcome,
+    level: Option<u64>,
+) -> Result<Answer, AllocError>
     requires { HasPlaces units.now.units outcome.now }
-    ensures { IfOk result (λ answer. shown answer ≡ outcome_output units.now.units outcome.now) }
+    ensures { IfOk result (λ answer. shown answer ≡ outcome_output units.now.units outcome.now level) }
 {
     match outcome {
         Outcome::Optimal { plan, busiest, .. } => Ok(Answer {
@@ -98,7 +120,7 @@ pub fn outcome_answer(alloc: Global, units: &Units, outcome: &Outcome) -> Result
             code: 1,
         }),
         Outcome::Unproved { best, cut, .. } => Ok(Answer {
-            text: unproved_text(alloc, units, best, *cut)?,
+            text: unproved_text(alloc, units, best, *cut, level)?,
             code: 2,
         }),
     }

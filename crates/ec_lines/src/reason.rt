@@ -186,6 +186,9 @@ fn push_check(line: &mut LineText, fault: CheckFault)
         }
         CheckFault::Leaf(node) => push_one(line, b"K7 Leaf ", node),
         CheckFault::Depth(node) => push_one(line, b"K8 Depth ", node),
+        CheckFault::Level(level, value) => {
+            push_two(line, b"K9 Level ", level as usize, value as usize)
+        }
     }
 }
 

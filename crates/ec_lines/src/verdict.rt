@@ -20,5 +20,9 @@ pub fn verdict_answer(alloc: Global, verdict: Verdict) -> Result<Answer, AllocEr
             text: String::from_str(alloc, "no plan\n")?,
             code: 1,
         }),
+        Verdict::AtLeast(level) => Ok(Answer {
+            text: format!(in alloc; "at least {level}\n")?,
+            code: 2,
+        }),
     }
 }

@@ -1,6 +1,6 @@
 //! Faults of a certificate's text.
 
-use crate::due::{Due, cert_line, due_at};
+use crate::due::{Due, cert_line, due_at, is_partial};
 use crate::inputs::Inputs;
 use crate::quoted::{add_bytes, add_quoted};
 use crate::refused::Refused;
@@ -33,11 +33,26 @@ pub(crate) fn add_line_text(out: &mut String, cert: &[u8], line: usize) -> Resul
     out.push('\n')
 }
 
-/// Whether a line of a certificate, from 0, is that of a leaf with weights.
-fn is_weighted(cert: &str, line: usize) -> bool {
+/// The first word of a line of a certificate, from 0.
+fn kind_of(cert: &str, line: usize) -> &str {
     match cert_line(cert, line) {
-        Some(line) => line == "W" || line.starts_with("W "),
-        None => false,
+        Some(line) => line.split(' ').next().unwrap_or(""),
+        None => "",
+    }
+}
+
+/// What is told of a line that stands only in certificates of other versions, or that has to stand in this one.
+fn version_note(cert: &str, due: Due, kind: &str) -> &'static str {
+    match (due, kind) {
+        (Due::Node, "W") =>
+            "A leaf W stands only in a certificate that begins with ecplan 2 or ecplan 3.\n",
+        (Due::Node | Due::LaterNode, "O") =>
+            "A leaf O stands only in a certificate that begins with ecplan 3.\n",
+        (Due::Tree, "level") if !is_partial(cert) =>
+            "A line level stands only in a certificate that begins with ecplan 3.\n",
+        (Due::Level, _) =>
+            "A certificate that begins with ecplan 3 has this line before its tree.\n",
+        _ => "",
     }
 }
 
@@ -50,10 +65,7 @@ fn add_due(out: &mut String, cert: &[u8], line: usize) -> Result<(), AllocError>
     out.push_str("Due there: ")?;
     out.push_str(due.as_str())?;
     out.push_str(".\n")?;
-    if matches!(due, Due::Node) && is_weighted(text, line) {
-        out.push_str("A leaf W stands only in a certificate that begins with ecplan 2.\n")?;
-    }
-    Ok(())
+    out.push_str(version_note(text, due, kind_of(text, line)))
 }
 
 /// Whether a byte may stand in a certificate.
@@ -102,7 +114,9 @@ pub(crate) fn tell_bytes(out: &mut String, inputs: &Inputs<'_>) -> Result<(), Al
 /// Tells that a text doesn't begin as a certificate.
 pub(crate) fn tell_version(out: &mut String, inputs: &Inputs<'_>) -> Result<(), AllocError> {
     add_cert(out, inputs)?;
-    out.push_str(" does not begin with a line ecplan 1 or ecplan 2, as each certificate does")?;
+    out.push_str(
+        " does not begin with a line ecplan 1, ecplan 2 or ecplan 3, as each certificate does",
+    )?;
     let Some(cert) = inputs.cert else {
         return out.push_str(".\n");
     };

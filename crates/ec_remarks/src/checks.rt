@@ -1,7 +1,7 @@
 //! Certificates that are texts, but show nothing of the units.
 
 use crate::certs::{add_cert, add_line_text};
-use crate::due::{node_line, unit_lines};
+use crate::due::{is_partial, line_after_plan, node_line, unit_lines};
 use crate::inputs::{Doc, Inputs};
 use crate::label::add_unit;
 use crate::leaves::add_leaf_fault;
@@ -90,6 +90,72 @@ pub(crate) fn tell_value(
         out,
         ", and the busiest tick of its plan costs {found} bytes.\n"
     )
+}
+
+/// Adds the line of the level of a certificate, with its number.
+fn add_level_line(out: &mut String, inputs: &Inputs<'_>) -> Result<(), AllocError> {
+    let Some(cert) = inputs.cert else {
+        return out.push_str(".\n");
+    };
+    let Ok(text) = std::str::from_utf8(cert) else {
+        return out.push_str(".\n");
+    };
+    let line = line_after_plan(text);
+    let number = line.saturating_add(1);
+    write!(out, ": line {number}.\n")?;
+    add_line_text(out, cert, line)
+}
+
+/// Tells that a certificate states a level above its value.
+pub(crate) fn tell_level(
+    out: &mut String,
+    inputs: &Inputs<'_>,
+    refused: Refused<'_>,
+) -> Result<(), AllocError> {
+    let level = refused.number(3).unwrap_or(0);
+    let value = refused.number(4).unwrap_or(0);
+    add_cert(out, inputs)?;
+    write!(out, " states the level {level}")?;
+    write!(
+        out,
+        ", and the busiest tick of its plan costs {value} bytes"
+    )?;
+    add_level_line(out, inputs)?;
+    out.push_str(
+        "A level is what the busiest tick of each plan costs at least, so it is at most that.\n",
+    )
+}
+
+/// Whether the certificate that was read is known to be that of a search without a proof, or known not to be.
+fn is_known_partial(inputs: &Inputs<'_>) -> Option<bool> {
+    let Some(cert) = inputs.cert else {
+        return None;
+    };
+    match std::str::from_utf8(cert) {
+        Ok(text) => Some(is_partial(text)),
+        Err(_) => None,
+    }
+}
+
+/// Tells that a certificate holds no plan.
+pub(crate) fn tell_no_plan(out: &mut String, inputs: &Inputs<'_>) -> Result<(), AllocError> {
+    add_cert(out, inputs)?;
+    out.push_str(match is_known_partial(inputs) {
+        Some(true) =>
+            " is right, and is that of a search that has found no plan so far: there is nothing to tell.\nThe command resume goes on with that search, and may find one.\n",
+        Some(false) => " is right, and shows that there is no plan: there is nothing to tell.\n",
+        None => " is right, and holds no plan: there is nothing to tell.\n",
+    })
+}
+
+/// Tells that memory ran out over a check, or over what a search without a proof has proved.
+pub(crate) fn tell_memory(out: &mut String, inputs: &Inputs<'_>) -> Result<(), AllocError> {
+    out.push_str(match inputs.cert_path {
+        Some(_) =>
+            "Memory ran out over the check of the certificate, or over what a search that goes on with it has proved: nothing is said of it.\nRun it with more memory.\n",
+        None =>
+            "Memory ran out over what the search has proved: nothing is said of it. Run it with more memory, or with fewer nodes.\n",
+    })
 }
 
 /// Adds what is wrong with a node of the tree.

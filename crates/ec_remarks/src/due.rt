@@ -9,9 +9,11 @@ pub(crate) enum Due {
     UnitOrOrder,
     Value,
     Place,
+    Level,
     Tree,
     Node,
     LaterNode,
+    PartialNode,
     End,
 }
 
@@ -19,18 +21,21 @@ impl Due {
     /// The form of such a line, and its ranges.
     pub(crate) fn as_str(self) -> &'static str {
         match self {
-            Due::Version => "ecplan 1 or ecplan 2",
+            Due::Version => "ecplan 1, ecplan 2 or ecplan 3",
             Due::Slots => "slots S, S 1 to 8",
             Due::FirstUnit => "unit NAME BYTES PERIOD, BYTES 1 to 1486, PERIOD 1 to 60",
             Due::UnitOrOrder =>
                 "unit NAME BYTES PERIOD (1 to 1486, 1 to 60), or order I I .. (each unit once, from 0)",
             Due::Value => "value V, V 84 to 12304, or value none",
             Due::Place => "place PHASE SLOT, PHASE 0 to 59, SLOT 0 to 7",
+            Due::Level => "level L, L 0 to 12304",
             Due::Tree => "tree",
             Due::Node =>
                 "a node: S N (1 to 480), T TICK (0 to 1023), F TICK SLOT (SLOT 0 to 7), or A",
             Due::LaterNode =>
                 "a node: S N (1 to 480), T TICK (0 to 1023), F TICK SLOT (SLOT 0 to 7), A, or W and 1 to 1024 weights (0 to 65535)",
+            Due::PartialNode =>
+                "a node: S N (1 to 480), T TICK (0 to 1023), F TICK SLOT (SLOT 0 to 7), A, O, or W and 1 to 1024 weights (0 to 65535)",
             Due::End => "end",
         }
     }
@@ -66,6 +71,14 @@ fn places_due(value: Option<&str>, units: usize) -> usize {
     }
 }
 
+/// The line, from 0, behind the value and the places: of version 3 that of the level, else that before the nodes.
+pub(crate) fn line_after_plan(cert: &str) -> usize {
+    let units = unit_lines(cert);
+    let value = units.saturating_add(3);
+    let places = places_due(cert_line(cert, value), units);
+    value.saturating_add(1).saturating_add(places)
+}
+
 /// How many children a line of a node says that it has.
 fn children(node: &str) -> usize {
     match node.strip_prefix("S ") {
@@ -83,28 +96,39 @@ fn is_whole(cert: &str, tree: usize, line: usize) -> bool {
     missing == 0
 }
 
-/// What is due where a node is: in version 1 no leaf has weights.
+/// Whether a certificate is of version 3, that of a search without a proof.
+pub(crate) fn is_partial(cert: &str) -> bool {
+    cert_line(cert, 0) == Some("ecplan 3")
+}
+
+/// How many lines of a level are due: one in version 3.
+fn levels_due(cert: &str) -> usize {
+    if is_partial(cert) { 1 } else { 0 }
+}
+
+/// What is due where a node is: in version 1 no leaf has weights, and only in version 3 a leaf may be open.
 fn node_due(cert: &str) -> Due {
     match cert_line(cert, 0) {
         Some("ecplan 1") => Due::Node,
+        Some("ecplan 3") => Due::PartialNode,
         _ => Due::LaterNode,
     }
 }
 
 /// What is due at a line, from 0, after the lines before it.
 pub(crate) fn due_at(cert: &str, line: usize) -> Due {
-    let units = unit_lines(cert);
-    let order = units.saturating_add(2);
+    let order = unit_lines(cert).saturating_add(2);
     let value = order.saturating_add(1);
-    let places = places_due(cert_line(cert, value), units);
-    let tree = value.saturating_add(1).saturating_add(places);
+    let level = line_after_plan(cert);
+    let tree = level.saturating_add(levels_due(cert));
     match line {
         0 => Due::Version,
         1 => Due::Slots,
         2 => Due::FirstUnit,
         _ if line <= order => Due::UnitOrOrder,
         _ if line == value => Due::Value,
-        _ if line < tree => Due::Place,
+        _ if line < level => Due::Place,
+        _ if line < tree => Due::Level,
         _ if line == tree => Due::Tree,
         _ if is_whole(cert, tree, line) => Due::End,
         _ => node_due(cert),

@@ -1,6 +1,6 @@
 //! Leaves of a certificate's tree that don't hold, and why.
 
-use crate::due::{cert_line, has_no_value};
+use crate::due::{cert_line, has_no_value, is_partial};
 use crate::inputs::Doc;
 use crate::periods::ticks_of;
 use std::alloc::AllocError;
@@ -36,6 +36,15 @@ fn add_weights(out: &mut String, doc: Doc<'_>, weights: &str) -> Result<(), Allo
     out.push_str("By its weights a tick has too few bytes on average to show the value.\n")
 }
 
+/// Which leaves can hold without a value.
+fn without_value(cert: &str) -> &'static str {
+    if is_partial(cert) {
+        "Without a value only leaves F and O can hold.\n"
+    } else {
+        "Without a value only a leaf F can hold.\n"
+    }
+}
+
 /// Adds why the leaf at a line of a certificate, from 0, doesn't hold, where that line says it.
 pub(crate) fn add_leaf_fault(
     out: &mut String,
@@ -46,8 +55,13 @@ pub(crate) fn add_leaf_fault(
     let Some(leaf) = cert_line(cert, line) else {
         return Ok(());
     };
+    if leaf == "O" {
+        return out.push_str(
+            "At an open leaf some tick, or the average of all ticks, has to cost at least the level: here none does.\n",
+        );
+    }
     if has_no_value(cert) && !leaf.starts_with("F ") {
-        return out.push_str("Without a value only a leaf F can hold.\n");
+        return out.push_str(without_value(cert));
     }
     match leaf.strip_prefix("W ") {
         Some(weights) => add_weights(out, doc, weights),

@@ -44,8 +44,6 @@ pub(crate) fn words_of(code: &str) -> &'static str {
             "Memory ran out: nothing is said of the units. Run it with more memory, or with fewer nodes.\n",
         "C1" =>
             "Memory ran out over the certificate: nothing is said of it. Run it with more memory.\n",
-        "K1" =>
-            "Memory ran out over the check: nothing is said of the certificate. Run it with more memory.\n",
         "S1" =>
             "Memory ran out before the search began. Run it with more memory, or with fewer workers.\n",
         "P1" => "Memory ran out over the frames or the slaves. Run it with more memory.\n",

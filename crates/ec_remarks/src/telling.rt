@@ -43,6 +43,7 @@ fn tell_cert(
     refused: Refused<'_>,
 ) -> Result<(), AllocError> {
     match refused.code() {
+        "K1" => checks::tell_memory(out, inputs),
         "C2" => certs::tell_bytes(out, inputs),
         "C3" => certs::tell_version(out, inputs),
         "C4" | "C5" | "C6" | "C7" | "C8" => certs::tell_line(out, inputs, refused),
@@ -52,12 +53,8 @@ fn tell_cert(
         "K4" => checks::tell_plan(out, inputs, doc, refused),
         "K5" => checks::tell_value(out, inputs, refused),
         "K6" | "K7" | "K8" => checks::tell_node(out, inputs, doc, refused),
-        "E5" => {
-            certs::add_cert(out, inputs)?;
-            out.push_str(
-                " is right, and shows that there is no plan: there are no frames to tell.\n",
-            )
-        }
+        "K9" => checks::tell_level(out, inputs, refused),
+        "E5" => checks::tell_no_plan(out, inputs),
         _ => Ok(()),
     }
 }

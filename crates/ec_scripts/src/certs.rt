@@ -43,7 +43,7 @@ impl Write for Slow {
 }
 
 /// A text with line feeds for its bars.
-fn unbarred(alloc: Global, text: &str) -> Result<Vec<u8>, AllocError> {
+pub(crate) fn unbarred(alloc: Global, text: &str) -> Result<Vec<u8>, AllocError> {
     let mut bytes = Vec::new(alloc);
     for byte in text.as_bytes() {
         bytes.push(if *byte == b'|' { b'\n' } else { *byte })?;

@@ -28,7 +28,7 @@ impl Told {
 }
 
 impl Gate for Told {
-    fn before(&self, _worker: usize, _piece: u64) {
+    fn before(&self, _worker: usize, _piece: u64, _value: Option<u64>) {
         self.calls.fetch_add(1, Ordering::SeqCst);
     }
 }
@@ -48,7 +48,11 @@ fn unproved(alloc: Global, best: &Option<Best>, cut: Cut) -> Result<String, Allo
 }
 
 /// What is the same of an outcome whatever the order in which the workers made it.
-fn outcome_text(alloc: Global, units: &Units, outcome: &Outcome) -> Result<String, AllocError> {
+pub(crate) fn outcome_text(
+    alloc: Global,
+    units: &Units,
+    outcome: &Outcome,
+) -> Result<String, AllocError> {
     match outcome {
         Outcome::Optimal { busiest, cert, .. } => {
             let verdict = checked(alloc, units, cert)?;
@@ -158,7 +162,7 @@ impl Meeting {
 }
 
 impl Gate for Meeting {
-    fn before(&self, worker: usize, _piece: u64) {
+    fn before(&self, worker: usize, _piece: u64, _value: Option<u64>) {
         let Some(flag) = self.flags.as_slice().get(worker) else {
             return;
         };

@@ -1,15 +1,21 @@
 //! A book with the units and the order that it is for.
 
-ghost use Rattle.std.specs.Prelude.{◌≡◌, ℕ, ◌<◌, ◌↔◌, IsTrue};
+ghost use Rattle.std.specs.Prelude.{◌≡◌, ℕ, ◌<◌, ◌↔◌, IsTrue, IfOk, length};
 ghost use Rattle.ec_loads.specs.Search.{node_count};
-ghost use Rattle.ec_cert.specs.Shapes.{shape_of};
+ghost use Rattle.ec_cert.specs.Shapes.{cert_view, shape_of};
+ghost use Rattle.ec_symmetry.specs.Orders.{IsOrder};
+ghost use Rattle.ec_book.specs.Books.{IsBookOf};
+ghost use Rattle.ec_workers.specs.Outcomes.{IsPartialCert};
 
 use crate::call::Call;
+use crate::certs::unbarred;
 use crate::guide::{Wish, found_below, is_reached};
 use crate::samples::places_text;
 use ec_book::{Book, BookFault, Taken};
 use ec_branch::search_order;
-use ec_cert::Tree;
+use ec_cert::{Cert, Tree};
+use ec_cert_text::read_cert;
+use ec_checker::check;
 use ec_loads::{Places, Plan};
 use ec_units::Units;
 use std::alloc::{AllocError, Global};
@@ -27,11 +33,15 @@ pub(crate) struct Desk {
 
 impl Model for Desk {
     ghost use Rattle.std.specs.Prelude.{length};
+    ghost use Rattle.std.specs.Coded.{codes};
     ghost use Rattle.ec_symmetry.specs.Orders.{IsOrder};
+    ghost use Rattle.ec_book.specs.ShapeCode.{shape_code};
     ghost use Rattle.ec_book.specs.Views.{BookView};
     ghost use Rattle.ec_book.specs.Books.{IsBookOf};
 
     ghost Value = { BookView };
+
+    ghost coded = { Prim.hlevel (codes, shape_code) };
 
     ghost view = { λ d. d.book };
 
@@ -70,6 +80,22 @@ fn taken_text(alloc: Global, answer: Result<Taken, BookFault>) -> Result<String,
         Ok(Taken::Done) => String::from_str(alloc, "done"),
         Err(fault) => format!(in alloc; "{fault:?}"),
     }
+}
+
+/// A book that goes on with a certificate, and the order of its units.
+fn resumed(
+    alloc: Global,
+    units: &Units,
+    cert: &Cert,
+    nodes: u64,
+) -> Result<(Book, Vec<u8>), AllocError>
+    requires { IsPartialCert units.now.units units.now.slots (cert_view cert.now) }
+    ensures order { IfOk result (λ r. IsOrder (length units.now.units) r.1.items) }
+    ensures book { IfOk result (λ r. IsBookOf units.now.units units.now.slots r.1.items r.0) }
+{
+    let order = Vec::from_slice(alloc, cert.order.as_slice())?;
+    let book = Book::resume(alloc, units, cert, nodes)?;
+    Ok((book, order))
 }
 
 impl Desk {
@@ -156,6 +182,31 @@ impl Desk {
         }
     }
 
+    /// Begins a book that goes on with a certificate, where the checker shows of it no more than a level; else tells what
+    /// the checker answers, and the book stays.
+    fn resume(&mut self, alloc: Global, call: &Call<'_>) -> Result<String, AllocError> {
+        let nodes = call.number(1).unwrap_or(0);
+        let cert = match read_cert(alloc, unbarred(alloc, call.after(2))?.as_slice()) {
+            Ok(cert) => cert,
+            Err(fault) => return format!(in alloc; "{fault:?}"),
+        };
+        match check(alloc, &self.units, &cert) {
+            Ok(verdict) => match cert.level {
+                Some(_) => {
+                    let Ok((book, order)) = resumed(alloc, &self.units, &cert, nodes) else {
+                        return String::from_str(alloc, "memory");
+                    };
+                    self.book = book;
+                    self.order = order;
+                    self.nodes = nodes;
+                    refusal_text(alloc, Ok(()))
+                }
+                None => format!(in alloc; "Ok({verdict:?})"),
+            },
+            Err(fault) => format!(in alloc; "Err({fault:?})"),
+        }
+    }
+
     /// What a call of the book answers.
     pub(crate) fn answer(&mut self, alloc: Global, call: &Call<'_>) -> Result<String, AllocError> {
         match call.name() {
@@ -172,6 +223,7 @@ impl Desk {
             }
             b"log" => format!(in alloc; "{:?}", self.book.log()),
             b"finish" => self.finish(alloc),
+            b"resume" => self.resume(alloc, call),
             _ => String::from_str(alloc, "no call"),
         }
     }

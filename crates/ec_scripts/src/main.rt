@@ -9,6 +9,7 @@ mod crews;
 mod desk;
 mod guide;
 mod layouts;
+mod onward;
 mod plans;
 mod samples;
 mod script;

@@ -6,6 +6,7 @@ use crate::call::Call;
 use crate::certs::written;
 use crate::crews::{crewed, crewed_again, met};
 use crate::guide::{Wish, found_below, is_reached};
+use crate::onward;
 use crate::samples::places_text;
 use ec_branch::{greedy, search_order};
 use ec_cert::{Best, Cert};
@@ -26,7 +27,7 @@ struct Counting {
 }
 
 impl Gate for Counting {
-    fn before(&self, worker: usize, piece: u64) {
+    fn before(&self, worker: usize, piece: u64, _value: Option<u64>) {
         self.calls.fetch_add(1, Ordering::SeqCst);
         if worker != 0 || piece != 0 {
             self.others.fetch_add(1, Ordering::SeqCst);
@@ -188,6 +189,6 @@ pub(crate) fn answer(
             count_of(text.as_str(), call.after(1)).to_string(alloc)
         }
         b"certificate" => Ok(certified(rt, alloc, units)?.0),
-        _ => String::from_str(alloc, "no call"),
+        _ => onward::answer(rt, alloc, units, call),
     }
 }

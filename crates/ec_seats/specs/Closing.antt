@@ -1,9 +1,11 @@
 -- How a shared book ends.
-use Rattle.std.specs.Prelude.{◌≡◌, ℕ, List, map, sum, true, All}
+use Rattle.std.specs.Prelude.{◌≡◌, ℕ, List, map, sum, true, All, Option}
 use Rattle.ec_units.specs.declared.unit.Load.{Load}
+use Rattle.ec_loads.specs.Shape.{Shape}
 use Rattle.ec_book.specs.declared.step.Step.{Step}
 use Rattle.ec_book.specs.declared.book.Finished.{Finished}
 use Rattle.ec_book.specs.Views.{BookView}
+use Rattle.ec_book.specs.Books.{BeganWith}
 use Rattle.ec_book.specs.Finishing.{IsFinishedOf}
 use Rattle.ec_seats.specs.declared.fault.CloseFault.{CloseFault}
 use Rattle.ec_seats.specs.declared.fault.CloseFault.TheVariants as fault
@@ -14,14 +16,15 @@ use Rattle.ec_seats.specs.Seats.{SeatView, IsOf, IsFor}
 abbrev pub IsJournal : List SeatView → List Step → Type 0
 IsJournal seats log = All (λ s. AreOwn s.worker s.receipts log) seats × (are_known (map (λ s. s.worker) seats) log ≡ true)
 
--- all seats are for these loads, this slot count and this order, and so is the book of which it came; its nodes are those that the seats reported
-pub record IsClosed (loads : List Load) (n : ℕ) (order : List ℕ) (seats : List SeatView) (f : Finished) : Type 0 where
+-- all seats are for these loads, this slot count and this order, and so is the book of which it came, whose search was given this tree and this
+-- value; its nodes are those that the seats reported
+pub record IsClosed (loads : List Load) (n : ℕ) (order : List ℕ) (given : Shape) (value : Option ℕ) (seats : List SeatView) (f : Finished) : Type 0 where
   pub seats_of : All (λ s. IsOf loads n order s) seats
-  pub book : (b : BookView) × IsFor loads n order b × IsFinishedOf b f
+  pub book : (b : BookView) × IsFor loads n order b × BeganWith given value b × IsFinishedOf b f
   pub shares : f.spent ≡ sum (map (λ s. s.nodes) seats)
 
 -- why it isn't closed: a seat is of another search, before all else; or receipts and log disagree; or memory was refused
-abbrev pub IsCloseFault : List Load → ℕ → List ℕ → List SeatView → CloseFault → Type 0
-IsCloseFault loads n order seats (fault.Journal f) = IsClosed loads n order seats f × (¬ (IsJournal seats f.log))
-IsCloseFault loads n order seats fault.OutOfMemory = Unit {0}
-IsCloseFault loads n order seats fault.OtherUnits = ¬ (All (λ s. IsOf loads n order s) seats)
+abbrev pub IsCloseFault : List Load → ℕ → List ℕ → Shape → Option ℕ → List SeatView → CloseFault → Type 0
+IsCloseFault loads n order given value seats (fault.Journal f) = IsClosed loads n order given value seats f × (¬ (IsJournal seats f.log))
+IsCloseFault loads n order given value seats fault.OutOfMemory = Unit {0}
+IsCloseFault loads n order given value seats fault.OtherUnits = ¬ (All (λ s. IsOf loads n order s) seats)

@@ -1,5 +1,5 @@
 -- A seat as contracts see it, and what its calls say.
-use Rattle.std.specs.Prelude.{◌≡◌, ◌⊎◌, Bool, ℕ, zero, suc, ◌+◌, List, [], ◌∷◌, ◌++◌, length, false}
+use Rattle.std.specs.Prelude.{◌≡◌, ◌⊎◌, Bool, ℕ, zero, suc, ◌+◌, List, [], ◌∷◌, ◌++◌, length, false, Option}
 use Rattle.ec_units.specs.declared.slave.Place.{Place}
 use Rattle.ec_units.specs.declared.unit.Load.{Load}
 use Rattle.ec_units.specs.declared.unit.Unit.{Unit as SyncUnit}
@@ -18,6 +18,7 @@ use Rattle.ec_book.specs.declared.taken.Taken.{Taken as Handed}
 use Rattle.ec_book.specs.Steps.{IsHistory}
 use Rattle.ec_book.specs.Open.{open_places}
 use Rattle.ec_book.specs.Views.{BookView, state_of, opening}
+use Rattle.ec_book.specs.Books.{BeganWith}
 use Rattle.ec_book.specs.Faults.{IsPlanOf, IsOfferFault, IsHoldFault, IsTakenBy}
 use Rattle.ec_seats.specs.Receipts.{taken_steps}
 
@@ -54,17 +55,19 @@ pub record IsFor (loads : List Load) (n : ℕ) (order : List ℕ) (b : BookView)
   pub slots_is : b.slots ≡ n
   pub order_is : b.order ≡ order
 
--- some book for these has it, with a legal history and with a best plan, if any, that is legal and costs what is stated
-pub record HasBook (loads : List Load) (n : ℕ) (order : List ℕ) (fact : BookView → Type 0) : Type 0 where
+-- some book for these, whose search was given this tree and this value, has it, with a legal history and with a best plan, if any, that is legal and costs what is
+-- stated
+pub record HasBook (loads : List Load) (n : ℕ) (order : List ℕ) (given : Shape) (value : Option ℕ) (fact : BookView → Type 0) : Type 0 where
   pub book : BookView
   pub for : IsFor loads n order book
+  pub began : BeganWith given value book
   pub history : IsHistory book.nodes (opening book) book.log (state_of book)
   pub best : IsBestPlan book.loads book.slots book.best
   pub has : fact book
 
 -- the same of the seat's units and order
-abbrev pub HasSeatBook : SeatView → (BookView → Type 0) → Type 0
-HasSeatBook s fact = HasBook (loads_of s.units) s.slots s.order fact
+abbrev pub HasSeatBook : SeatView → Shape → Option ℕ → (BookView → Type 0) → Type 0
+HasSeatBook s given value fact = HasBook (loads_of s.units) s.slots s.order given value fact
 
 -- the seat with one more step
 abbrev pub noted : SeatView → Step → SeatView
@@ -87,9 +90,9 @@ abbrev pub IsSeatFault : Type 0 → (BookFault → Type 0) → BookFault → Typ
 IsSeatFault ours why e = (ours × why e) ⊎ ((¬ ours) × (e ≡ fault.Stranger))
 
 -- why a plan is refused from a seat: it isn't legal; else, of some book, it isn't better, or memory was refused
-abbrev pub IsSeatPlanFault : SeatView → List Place → BookFault → Type 0
-IsSeatPlanFault s plan (fault.Illegal i) = IsIllegalBy (loads_of s.units) s.slots plan i
-IsSeatPlanFault s plan e = (v : ℕ) × IsPlanOf (loads_of s.units) s.slots plan v × HasSeatBook s (λ b. IsOfferFault (value_of b.best) v e)
+abbrev pub IsSeatPlanFault : SeatView → Shape → Option ℕ → List Place → BookFault → Type 0
+IsSeatPlanFault s given value plan (fault.Illegal i) = IsIllegalBy (loads_of s.units) s.slots plan i
+IsSeatPlanFault s given value plan e = (v : ℕ) × IsPlanOf (loads_of s.units) s.slots plan v × HasSeatBook s given value (λ b. IsOfferFault (value_of b.best) v e)
 
 -- why a piece isn't given back: it isn't the worker's by the book; or it is, and the worker doesn't hold it by its own steps
 abbrev pub IsBackFault : Bool → BookView → ℕ → ℕ → BookFault → Type 0

@@ -66,8 +66,8 @@ fn ended<S: Search>(
 ) -> Result<Finished, CloseFault>
     requires count { vec_len seats ≡ S.parts }
     requires ours { All (λ s. IsOf S.loads S.slots S.order s) seats.items }
-    ensures ok { IfOk result (λ f. IsClosed S.loads S.slots S.order seats.entry.items f × IsJournal seats.entry.items f.log) }
-    ensures err { IfErr result (IsCloseFault S.loads S.slots S.order seats.entry.items) }
+    ensures ok { IfOk result (λ f. IsClosed S.loads S.slots S.order S.given S.given_value seats.entry.items f × IsJournal seats.entry.items f.log) }
+    ensures err { IfErr result (IsCloseFault S.loads S.slots S.order S.given S.given_value seats.entry.items) }
 {
     let Ok(is_right) = is_journal(alloc, seats.as_slice(), locked.book.log()) else {
         return Err(CloseFault::OutOfMemory);
@@ -87,8 +87,8 @@ impl<S: Search> Shared<S> {
     /// memory in proportion to the whole.
     pub fn close(self, alloc: Global, seats: Vec<Seat<'_, '_, S>>) -> Result<Finished, CloseFault>
         requires { vec_len seats ≡ S.parts }
-        ensures ok { IfOk result (λ f. IsClosed S.loads S.slots S.order seats.entry.items f × IsJournal seats.entry.items f.log) }
-        ensures err { IfErr result (IsCloseFault S.loads S.slots S.order seats.entry.items) }
+        ensures ok { IfOk result (λ f. IsClosed S.loads S.slots S.order S.given S.given_value seats.entry.items f × IsJournal seats.entry.items f.log) }
+        ensures err { IfErr result (IsCloseFault S.loads S.slots S.order S.given S.given_value seats.entry.items) }
     {
         let Shared { lock, loads, order } = self;
         let slots = loads.slots();

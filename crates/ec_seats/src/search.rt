@@ -1,19 +1,24 @@
 //! Which search a book and its seats are of.
 
-ghost use Rattle.std.specs.Prelude.{ℕ, List, []};
+ghost use Rattle.std.specs.Prelude.{ℕ, List, [], Option, None};
 ghost use Rattle.ec_units.specs.declared.unit.Load.{Load};
+ghost use Rattle.ec_loads.specs.Shape.{Shape, open_leaf};
 
 use std::marker::Brand;
 use std::sync::ledger::Ledger;
 
-/// The search that a ledger counts the nodes of: the bytes and periods of its units, its slot count, and the order in
-/// which the units get their places. Only contracts see it.
+/// The search that a ledger counts the nodes of: the bytes and periods of its units, its slot count, the order in
+/// which the units get their places, and the tree and the value that it was given. Only contracts see it.
 pub trait Search: Ledger {
     ghost loads: { List Load };
 
     ghost slots: { ℕ };
 
     ghost order: { List ℕ };
+
+    ghost given: { Shape };
+
+    ghost given_value: { Option ℕ };
 }
 
 impl Search for Brand {
@@ -22,4 +27,8 @@ impl Search for Brand {
     ghost slots = { 0 };
 
     ghost order = { [] };
+
+    ghost given = { open_leaf };
+
+    ghost given_value = { None };
 }

@@ -6,6 +6,7 @@ use crate::streams::{FailsAt, Slow};
 use ec_jobs::{run, run_plain};
 use ec_lines::Job;
 use ec_wire::Io;
+use ec_workers::Quiet;
 use std::alloc::Global;
 use std::io;
 use std::sync::Wait;
@@ -53,7 +54,16 @@ pub(crate) fn alone_any(rt: &(impl Threads + Wait + Sync), alloc: Global, row: &
     let none: Option<&mut Io<io::Empty>> = None;
     let nowhere: Option<&mut Io<io::Sink>> = None;
     let status = if row.job == "play" {
-        run(rt, alloc, &Job::Play, &mut units, none, &mut text, nowhere)
+        run(
+            rt,
+            alloc,
+            &Job::Play,
+            &mut units,
+            none,
+            &mut text,
+            nowhere,
+            &Quiet,
+        )
     } else {
         run(
             rt,
@@ -63,6 +73,7 @@ pub(crate) fn alone_any(rt: &(impl Threads + Wait + Sync), alloc: Global, row: &
             none,
             &mut text,
             nowhere,
+            &Quiet,
         )
     };
     let failed = text.failed();

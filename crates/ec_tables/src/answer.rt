@@ -2,7 +2,7 @@
 
 use crate::alone::{alone_any, alone_plain};
 use crate::captures::{capture, captured};
-use crate::jobs::{Told, any, is_alike, is_same, plain, planned};
+use crate::jobs::{Told, any, is_alike, is_same, plain, planned, resumed};
 use crate::row::{ALL, Row};
 use std::alloc::{AllocError, Global};
 use std::fmt::Write;
@@ -74,7 +74,7 @@ fn add_failed(out: &mut String, told: &Told) -> Result<(), AllocError> {
     Ok(())
 }
 
-/// Adds what a check says of a certificate that a plan wrote whole.
+/// Adds what a check says of a certificate that a search wrote whole.
 fn add_check(
     out: &mut String,
     alloc: Global,
@@ -84,7 +84,7 @@ fn add_check(
     let Ok(cert) = std::str::from_utf8(told.cert.as_slice()) else {
         return out.push_str("no text\n");
     };
-    if cert.is_empty() || told.failed.cert {
+    if cert.is_empty() || is_unwritten(row, told) {
         return Ok(());
     }
     let check = Row {
@@ -99,6 +99,39 @@ fn add_check(
     add(out, checked.text.as_slice())
 }
 
+/// Whether writing the certificate of a row's search failed.
+fn is_unwritten(row: &Row<'_>, told: &Told) -> bool {
+    match row.job {
+        "plan" => told.failed.cert,
+        _ => told.failed.file,
+    }
+}
+
+/// What a row's search left: a plan's, or one that goes on with a certificate.
+fn searched(rt: &(impl Threads + Wait + Sync), alloc: Global, row: &Row<'_>) -> Told {
+    match row.job {
+        "plan" => planned(rt, alloc, row),
+        _ => resumed(rt, alloc, row),
+    }
+}
+
+/// What a row's search left, and whether it leaves the same again, and without a writer of its certificate: text and
+/// status, and where several workers make it, status and first line.
+fn searched_twice(rt: &(impl Threads + Wait + Sync), alloc: Global, row: &Row<'_>) -> (Told, bool) {
+    let told = searched(rt, alloc, row);
+    let again = searched(rt, alloc, row);
+    let other = any(rt, alloc, row);
+    let unwritten = is_unwritten(row, &told);
+    if row.workers > 1 {
+        let alone = is_alike(&told, &other) || unwritten;
+        let same = is_alike(&told, &again) && alone;
+        return (told, same);
+    }
+    let alone = told.text.as_slice() == other.text.as_slice() && told.code == other.code;
+    let same = is_same(&told, &again) && (alone || unwritten);
+    (told, same)
+}
+
 /// What frames with a capture file left, and whether the text is that of frames alone.
 fn captured_twice(alloc: Global, row: &Row<'_>) -> (Told, bool) {
     let (told, other) = if row.job == "capture" {
@@ -111,8 +144,8 @@ fn captured_twice(alloc: Global, row: &Row<'_>) -> (Told, bool) {
     (told, same)
 }
 
-/// What the row's job left, and whether the other call that does it leaves the same; of a plan, text and status, and
-/// where several workers make it, status and first line.
+/// What the row's job left, and whether the other call that does it leaves the same; of a search, as `searched_twice`
+/// says.
 fn told_twice(rt: &(impl Threads + Wait + Sync), alloc: Global, row: &Row<'_>) -> (Told, bool) {
     if row.job == "frames" || row.job == "play" {
         let told = alone_plain(alloc, row);
@@ -123,21 +156,12 @@ fn told_twice(rt: &(impl Threads + Wait + Sync), alloc: Global, row: &Row<'_>) -
     if row.job == "capture" || row.job == "captured" {
         return captured_twice(alloc, row);
     }
+    if row.job == "plan" || row.job == "resume" {
+        return searched_twice(rt, alloc, row);
+    }
+    let told = plain(alloc, row);
     let other = any(rt, alloc, row);
-    if row.job != "plan" {
-        let told = plain(alloc, row);
-        let same = is_same(&told, &other);
-        return (told, same);
-    }
-    let told = planned(rt, alloc, row);
-    let again = planned(rt, alloc, row);
-    if row.workers > 1 {
-        let alone = is_alike(&told, &other) || told.failed.cert;
-        let same = is_alike(&told, &again) && alone;
-        return (told, same);
-    }
-    let alone = told.text.as_slice() == other.text.as_slice() && told.code == other.code;
-    let same = is_same(&told, &again) && (alone || told.failed.cert);
+    let same = is_same(&told, &other);
     (told, same)
 }
 

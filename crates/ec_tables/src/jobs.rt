@@ -5,9 +5,10 @@ ghost use Rattle.ec_lines.specs.Words.{JobFits, IsPlain};
 
 use crate::row::Row;
 use crate::streams::{FailsAt, Slow};
-use ec_jobs::{run, run_plain, run_plan_to};
+use ec_jobs::{run, run_plain, run_plan_to, run_resume_to};
 use ec_lines::Job;
 use ec_wire::Io;
+use ec_workers::Quiet;
 use std::alloc::Global;
 use std::io;
 use std::sync::Wait;
@@ -58,6 +59,7 @@ fn plain_job(row: &Row<'_>) -> Job
 {
     match row.job {
         "cost" => Job::Cost,
+        "priced" => Job::PlanCost,
         "framed" | "captured" => Job::Frames,
         "played" => Job::Play,
         _ => Job::Check,
@@ -98,12 +100,44 @@ pub(crate) fn planned(rt: &(impl Threads + Wait + Sync), alloc: Global, row: &Ro
     let mut out = Io::new(&mut kept);
     let workers = row.workers.clamp(1, 16);
     let nodes = row.nodes.clamp(1, 10_000_000);
-    let status = run_plan_to(rt, alloc, workers, nodes, &mut units, &mut text, &mut out);
+    let status = run_plan_to(
+        rt, alloc, workers, nodes, &mut units, &mut text, &mut out, &Quiet,
+    );
     let failed = Failed {
         units: units.failed(),
         cert: out.failed(),
         text: text.failed(),
         file: false,
+    };
+    drop(text);
+    drop(out);
+    Told {
+        text: held.held,
+        cert: kept.held,
+        file: Vec::new(alloc),
+        code: status.code,
+        failed,
+    }
+}
+
+/// A search that goes on with a certificate, and whose own is written.
+pub(crate) fn resumed(rt: &(impl Threads + Wait + Sync), alloc: Global, row: &Row<'_>) -> Told {
+    let mut units = Io::new(FailsAt::new(row.units, row.calls.units));
+    let mut cert = Io::new(FailsAt::new(row.cert, row.calls.cert));
+    let mut held = Slow::new(alloc, row.calls.text);
+    let mut kept = Slow::new(alloc, row.calls.file);
+    let mut text = Io::new(&mut held);
+    let mut out = Io::new(&mut kept);
+    let workers = row.workers.clamp(1, 16);
+    let nodes = row.nodes.clamp(1, 10_000_000);
+    let status = run_resume_to(
+        rt, alloc, workers, nodes, &mut units, &mut cert, &mut text, &mut out, &Quiet,
+    );
+    let failed = Failed {
+        units: units.failed(),
+        cert: cert.failed(),
+        text: text.failed(),
+        file: out.failed(),
     };
     drop(text);
     drop(out);
@@ -126,6 +160,9 @@ fn job_of(row: &Row<'_>) -> Job
     if row.job == "check" {
         return Job::Check;
     }
+    if row.job == "priced" {
+        return Job::PlanCost;
+    }
     if row.job == "framed" {
         return Job::Frames;
     }
@@ -134,6 +171,9 @@ fn job_of(row: &Row<'_>) -> Job
     }
     let workers = row.workers.clamp(1, 16);
     let nodes = row.nodes.clamp(1, 10_000_000);
+    if row.job == "resume" {
+        return Job::Resume { workers, nodes };
+    }
     Job::Plan { workers, nodes }
 }
 
@@ -146,7 +186,9 @@ pub(crate) fn any(rt: &(impl Threads + Wait + Sync), alloc: Global, row: &Row<'_
     let nowhere: Option<&mut Io<io::Sink>> = None;
     let job = job_of(row);
     let from = Some(&mut cert);
-    let status = run(rt, alloc, &job, &mut units, from, &mut text, nowhere);
+    let status = run(
+        rt, alloc, &job, &mut units, from, &mut text, nowhere, &Quiet,
+    );
     let failed = Failed {
         units: units.failed(),
         cert: cert.failed(),

@@ -1,6 +1,8 @@
 //! A row of the table: `job nodes units-calls cert-calls text-calls file-calls`, then `^`, what it answers, `^`, the units, and
 //! where it has one `^` and a certificate. Numbers that are left out are large. A plan by 16 workers is the job
-//! `plan/16`.
+//! `plan/16`, and `resume/16` goes on with the certificate, as `resume` does by one. The calls on the certificate are of
+//! the one that is read, or that a plan writes; those on the file are of a capture file, or of the certificate that a
+//! resumed search writes.
 
 /// How many calls each stream allows before it fails.
 #[derive(Clone, Copy)]

@@ -6,6 +6,7 @@ use crate::streams::Slow;
 use ec_jobs::{run, run_plain};
 use ec_lines::Job;
 use ec_wire::Io;
+use ec_workers::Quiet;
 use std::alloc::Global;
 use std::io;
 use std::io::Read;
@@ -93,7 +94,16 @@ fn units_without_end(rt: HostRuntime) {
         workers: 1,
         nodes: 9,
     };
-    let status = run(&rt, rt.alloc(), &job, &mut units, none, &mut text, nowhere);
+    let status = run(
+        &rt,
+        rt.alloc(),
+        &job,
+        &mut units,
+        none,
+        &mut text,
+        nowhere,
+        &Quiet,
+    );
     drop(units);
     drop(text);
     assert_eq!(rt; held.held.as_slice(), b"refused E1 TooLarge\n".as_slice());

@@ -1,10 +1,13 @@
 //! What no text can say: bytes that aren't text, certificates by hand, and lists that go in and out.
 
+mod placing;
+
 use ec_cert::{Best, Cert, Order, Tree, UnitLine, UnitLines, Weights, well_formed};
-use ec_cert_text::one_text_each;
+use ec_cert_text::{CertFault, one_text_each, read_cert, write_cert};
 use ec_loads::{Places, Plan};
 use ec_unit_text::{UnitFault, read_units};
 use ec_units::{Name, Slaves, UnitList};
+use ec_wire::Io;
 use std::alloc::{AllocError, Global};
 use std::test::Fail;
 
@@ -24,6 +27,7 @@ fn small(alloc: Global, tree: Tree) -> Result<Cert, AllocError> {
         units: UnitLines::new(units),
         order: Order::new(order),
         best: None,
+        level: None,
         tree,
     })
 }
@@ -52,6 +56,7 @@ fn stands_by_weights(alloc: Global, version: u8, count: u16) -> Result<bool, All
     }
     let mut cert = small(alloc, Tree::Weights(Weights::new(weights)))?;
     cert.version = version;
+    cert.level = if version < 3 { None } else { Some(0) };
     Ok(well_formed(&cert))
 }
 
@@ -65,11 +70,104 @@ fn which_weights_are_well_formed(rt: HostRuntime) -> Result<(), Fail> {
     );
     let none = stands_by_weights(alloc, 2, 0)?;
     let many = stands_by_weights(alloc, 2, 1025)?;
-    let later = stands_by_weights(alloc, 3, 1)?;
+    let later = (
+        stands_by_weights(alloc, 3, 1)?,
+        stands_by_weights(alloc, 4, 1)?,
+    );
     assert_eq!(rt;
         (first, some, none, many, later),
-        (false, (true, true), false, false, false)
+        (false, (true, true), false, false, (true, false))
     );
+    Ok(())
+}
+
+/// Whether a certificate of this version and level, whose tree is an open leaf, is well formed.
+fn stands_at(alloc: Global, version: u8, level: Option<u64>) -> Result<bool, AllocError> {
+    let mut cert = small(alloc, Tree::OpenLeaf)?;
+    cert.version = version;
+    cert.level = level;
+    Ok(well_formed(&cert))
+}
+
+#[test]
+fn which_levels_are_well_formed(rt: HostRuntime) -> Result<(), Fail> {
+    let alloc = rt.alloc();
+    let some = (
+        stands_at(alloc, 3, Some(0))?,
+        stands_at(alloc, 3, Some(12_304))?,
+    );
+    let above = stands_at(alloc, 3, Some(12_305))?;
+    let none = stands_at(alloc, 3, None)?;
+    let earlier = (stands_at(alloc, 2, None)?, stands_at(alloc, 2, Some(0))?);
+    assert_eq!(rt;
+        (some, above, none, earlier),
+        ((true, true), false, false, (false, false))
+    );
+    Ok(())
+}
+
+/// A text of this version whose sixth line, if any, and node are these.
+fn text_with(alloc: Global, version: u8, sixth: &str, node: &str) -> Result<String, AllocError> {
+    format!(in alloc;
+        "ecplan {version}\nslots 1\nunit a 4 1\norder 0\nvalue none\n{sixth}tree\n{node}\nend\n"
+    )
+}
+
+/// Why such a text is no certificate, if it is none.
+fn fault_with(
+    alloc: Global,
+    version: u8,
+    sixth: &str,
+    node: &str,
+) -> Result<Option<CertFault>, AllocError> {
+    let text = text_with(alloc, version, sixth, node)?;
+    Ok(read_cert(alloc, text.as_bytes()).err())
+}
+
+#[test]
+fn which_levels_are_read(rt: HostRuntime) -> Result<(), Fail> {
+    let alloc = rt.alloc();
+    let number = Some(CertFault::Number(6));
+    assert_eq!(rt; fault_with(alloc, 3, "level 0\n", "O")?, None);
+    assert_eq!(rt; fault_with(alloc, 3, "level 12304\n", "A")?, None);
+    assert_eq!(rt; fault_with(alloc, 3, "level 12305\n", "O")?, number);
+    assert_eq!(rt; fault_with(alloc, 3, "level 07\n", "O")?, number);
+    Ok(())
+}
+
+#[test]
+fn which_lines_a_version_has(rt: HostRuntime) -> Result<(), Fail> {
+    let alloc = rt.alloc();
+    let sixth = Some(CertFault::BadLine(6));
+    let seventh = Some(CertFault::BadLine(7));
+    assert_eq!(rt; fault_with(alloc, 3, "", "O")?, sixth);
+    assert_eq!(rt; fault_with(alloc, 3, "level 0 0\n", "O")?, sixth);
+    assert_eq!(rt; fault_with(alloc, 2, "level 0\n", "A")?, sixth);
+    assert_eq!(rt; fault_with(alloc, 2, "", "O")?, seventh);
+    assert_eq!(rt;
+        fault_with(alloc, 4, "level 0\n", "O")?,
+        Some(CertFault::Version)
+    );
+    Ok(())
+}
+
+/// What is written of the certificate that a text is, if it is one.
+fn written_again(alloc: Global, text: &[u8]) -> Option<Vec<u8>> {
+    let cert = read_cert(alloc, text).ok()?;
+    let mut held = Vec::new(alloc);
+    let mut io = Io::new(&mut held);
+    let answer = write_cert(&cert, &mut io);
+    drop(io);
+    answer.ok()?;
+    Some(held)
+}
+
+#[test]
+fn a_partial_certificate_is_written_as_it_was_read(rt: HostRuntime) -> Result<(), Fail> {
+    let alloc = rt.alloc();
+    let text = text_with(alloc, 3, "level 252\n", "S 2\nO\nA")?;
+    let again = written_again(alloc, text.as_bytes()).ok_or("no text")?;
+    assert_eq!(rt; again.as_slice(), text.as_bytes());
     Ok(())
 }
 

@@ -1,2 +1,3 @@
 pub mod Numbers
 pub mod Pictures
+pub mod Placing

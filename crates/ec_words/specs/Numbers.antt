@@ -10,11 +10,13 @@ use Rattle.ec_lines.specs.declared.job.Job.TheVariants as job
 abbrev pub IsSaidBy : ArgMatches → List ℕ → ℕ → Type 0
 IsSaidBy m id n = (text : List ℕ) → one_text (found_of m) id ≡ Some text → n ≡ digits_value 10 (without_leading_plus text)
 
--- the numbers of a plan are those of its two options
+-- the numbers of a plan, and of a resumed search, are those of its two options
 abbrev pub HasNumbersOf : ArgMatches → Job → Type 0
 HasNumbersOf m job.Cost = Unit {0}
 HasNumbersOf m (job.Plan workers nodes) = IsSaidBy m (codes "workers") workers × IsSaidBy m (codes "nodes") nodes
+HasNumbersOf m (job.Resume workers nodes) = IsSaidBy m (codes "workers") workers × IsSaidBy m (codes "nodes") nodes
 HasNumbersOf m job.Check = Unit {0}
 HasNumbersOf m job.Frames = Unit {0}
 HasNumbersOf m job.Capture = Unit {0}
 HasNumbersOf m job.Play = Unit {0}
+HasNumbersOf m job.PlanCost = Unit {0}

@@ -4,6 +4,7 @@ ghost use Rattle.std.specs.Prelude.{◌≡◌, IfOk, IfSome};
 ghost use Rattle.ec_lines.specs.Words.{JobFits, HasPath, MayHaveOut};
 ghost use Rattle.ec_words.specs.Numbers.{HasNumbersOf};
 ghost use Rattle.ec_words.specs.Pictures.{MayHavePicture};
+ghost use Rattle.ec_words.specs.Placing.{MayHavePlaces};
 ghost use Rattle.ec_words.specs.declared.words.LineFault.TheVariants.{Memory};
 
 use clap::error::ErrorKind;
@@ -36,13 +37,17 @@ pub struct Words {
     pub units: Option<String>,
     /// The path of a picture to write.
     pub picture: Option<String>,
+    /// The path at which the unit text is written again with the places of the plan.
+    pub places: Option<String>,
+    /// Whether the progress of a search is told also where standard error is no terminal.
+    pub progress: bool,
 }
 
 /// What the help says of the units, the statuses and the formats.
 const AFTER_HELP: &str =
     "The units are read from FILE, or from standard input where FILE is - or isn't given.\n\
 The text goes to standard output, and what a refusal means to standard error.\n\n\
-Exit statuses: 0 optimal, least or done; 1 no plan; 2 unproved; 3 refused input;\n\
+Exit statuses: 0 optimal, least or done; 1 no plan; 2 unproved or at least; 3 refused input;\n\
 4 reading, writing, memory, a ring or a thread failed; 5 words that are no command, or this help.\n\n\
 docs/FORMATS.md describes the unit text, what each command writes, and each refusal.\n";
 
@@ -56,43 +61,99 @@ fn file_arg<'a>(alloc: Global) -> Arg<'a> {
 
 /// The command `cost`.
 fn cost_command<'a>(alloc: Global) -> Result<Command<'a>, AllocError> {
+    let cert = Arg::new(alloc, "cert")
+        .long("cert")
+        .value_name("PATH")
+        .action(ArgAction::Set)
+        .help("The certificate whose plan is told; without it the places in the units are");
     let picture = Arg::new(alloc, "svg")
         .long("svg")
         .value_name("PATH")
         .action(ArgAction::Set)
         .help("Where to write a picture of the ticks, as SVG");
     Command::new(alloc, "cost")
-        .about("Tells what each tick costs at the places in the units")
+        .about("Tells what each tick costs")
+        .arg(cert)?
         .arg(picture)?
         .arg(file_arg(alloc))
 }
 
-/// The command `plan`.
-fn plan_command<'a>(alloc: Global) -> Result<Command<'a>, AllocError> {
-    let workers = Arg::new(alloc, "workers")
+/// How many workers search.
+fn workers_arg<'a>(alloc: Global) -> Arg<'a> {
+    Arg::new(alloc, "workers")
         .long("workers")
         .value_name("N")
         .value_parser(value_parser!(usize).range(1..=16))
         .default_value("1")
         .help(
             "How many workers search, 1 to 16; with 1 the plan and the certificate are the same every time",
-        );
-    let nodes = Arg::new(alloc, "nodes")
+        )
+}
+
+/// How many nodes are visited.
+fn nodes_arg<'a>(alloc: Global) -> Arg<'a> {
+    Arg::new(alloc, "nodes")
         .long("nodes")
         .value_name("N")
         .value_parser(value_parser!(u32).range(1..=10_000_000))
         .default_value("1000000")
-        .help("The most nodes of the search tree to visit, 1 to 10000000");
-    let out = Arg::new(alloc, "out")
+        .help("The most nodes of the search tree to visit, 1 to 10000000")
+}
+
+/// Where the certificate goes.
+fn out_arg<'a>(alloc: Global) -> Arg<'a> {
+    Arg::new(alloc, "out")
         .long("out")
         .value_name("PATH")
         .action(ArgAction::Set)
-        .help("Where to write the certificate of an optimal plan, or of no plan");
+        .help("Where to write the certificate, also of a search that ends without a proof")
+}
+
+/// Where the units go with their places.
+fn places_arg<'a>(alloc: Global) -> Arg<'a> {
+    Arg::new(alloc, "places")
+        .long("places")
+        .value_name("PATH")
+        .action(ArgAction::Set)
+        .help("Where to write the unit text again, with the places of the plan")
+}
+
+/// Whether the progress is told in any case.
+fn progress_arg<'a>(alloc: Global) -> Arg<'a> {
+    Arg::new(alloc, "progress")
+        .long("progress")
+        .action(ArgAction::SetTrue)
+        .help("Tell the progress on standard error also where that is no terminal")
+}
+
+/// The command `plan`.
+fn plan_command<'a>(alloc: Global) -> Result<Command<'a>, AllocError> {
     Command::new(alloc, "plan")
         .about("Finds a plan whose busiest tick is least, and its certificate")
-        .arg(workers)?
-        .arg(nodes)?
-        .arg(out)?
+        .arg(workers_arg(alloc))?
+        .arg(nodes_arg(alloc))?
+        .arg(out_arg(alloc))?
+        .arg(places_arg(alloc))?
+        .arg(progress_arg(alloc))?
+        .arg(file_arg(alloc))
+}
+
+/// The command `resume`.
+fn resume_command<'a>(alloc: Global) -> Result<Command<'a>, AllocError> {
+    let cert = Arg::new(alloc, "cert")
+        .long("cert")
+        .value_name("PATH")
+        .required(true)
+        .action(ArgAction::Set)
+        .help("The certificate of a search that ended without a proof");
+    Command::new(alloc, "resume")
+        .about("Goes on with a search that ended without a proof, from its certificate")
+        .arg(cert)?
+        .arg(workers_arg(alloc))?
+        .arg(nodes_arg(alloc))?
+        .arg(out_arg(alloc))?
+        .arg(places_arg(alloc))?
+        .arg(progress_arg(alloc))?
         .arg(file_arg(alloc))
 }
 
@@ -155,6 +216,7 @@ fn all_commands<'a>(alloc: Global) -> Result<Command<'a>, AllocError> {
         .subcommand_required(true)
         .subcommand(cost_command(alloc)?)?
         .subcommand(plan_command(alloc)?)?
+        .subcommand(resume_command(alloc)?)?
         .subcommand(check_command(alloc)?)?
         .subcommand(frames_command(alloc)?)?
         .subcommand(play_command(alloc)?)
@@ -179,7 +241,7 @@ fn fault_of(alloc: Global, error: Error) -> LineFault {
     }
 }
 
-/// The workers and nodes of a plan, where they are within the limits.
+/// The workers and nodes of a plan or a resumed search, where they are within the limits.
 fn numbers_of(matches: &ArgMatches<'_>) -> Option<(usize, u32)>
     ensures within { IfSome result (λ numbers. JobFits (Job.Plan numbers.0 numbers.1)) }
     ensures said { IfSome result (λ numbers. HasNumbersOf matches.now (Job.Plan numbers.0 numbers.1)) }
@@ -213,6 +275,31 @@ fn plan_line(alloc: Global, matches: &ArgMatches<'_>) -> Result<Line, LineFault>
     })
 }
 
+/// The line of a resumed search with these options.
+fn resume_line(alloc: Global, matches: &ArgMatches<'_>) -> Result<Line, LineFault>
+    ensures within { IfOk result (λ line. JobFits line.job) }
+    ensures paths { IfOk result (λ line. HasPath line.job line.cert) }
+    ensures said { IfOk result (λ line. HasNumbersOf matches.now line.job) }
+    ensures out { IfOk result (λ line. MayHaveOut line.job line.out) }
+{
+    let Some((workers, nodes)) = numbers_of(matches) else {
+        return Err(refused(alloc, "error: a number is out of range\n"));
+    };
+    let Some(path) = matches.get_str("cert") else {
+        return Err(refused(alloc, "error: --cert <PATH> is missing\n"));
+    };
+    let cert = Some(String::from_str(alloc, path)?);
+    let out = match matches.get_str("out") {
+        Some(path) => Some(String::from_str(alloc, path)?),
+        None => None,
+    };
+    Ok(Line {
+        job: Job::Resume { workers, nodes },
+        cert,
+        out,
+    })
+}
+
 /// The line of a check with these options.
 fn check_line(alloc: Global, matches: &ArgMatches<'_>) -> Result<Line, LineFault>
     ensures within { IfOk result (λ line. JobFits line.job) }
@@ -225,6 +312,29 @@ fn check_line(alloc: Global, matches: &ArgMatches<'_>) -> Result<Line, LineFault
     Ok(Line {
         job: Job::Check,
         cert: Some(String::from_str(alloc, path)?),
+        out: None,
+    })
+}
+
+/// The line of a cost with these options: of a certificate's plan where they have its path.
+fn cost_line(alloc: Global, matches: &ArgMatches<'_>) -> Result<Line, LineFault>
+    ensures within { IfOk result (λ line. JobFits line.job) }
+    ensures paths { IfOk result (λ line. HasPath line.job line.cert) }
+    ensures out { IfOk result (λ line. MayHaveOut line.job line.out) }
+{
+    let cert = match matches.get_str("cert") {
+        Some(path) => String::from_str(alloc, path)?,
+        None => {
+            return Ok(Line {
+                job: Job::Cost,
+                cert: None,
+                out: None,
+            });
+        }
+    };
+    Ok(Line {
+        job: Job::PlanCost,
+        cert: Some(cert),
         out: None,
     })
 }
@@ -277,12 +387,9 @@ fn line_of(alloc: Global, command: &str, matches: &ArgMatches<'_>) -> Result<Lin
     ensures out { IfOk result (λ line. MayHaveOut line.job line.out) }
 {
     match command {
-        "cost" => Ok(Line {
-            job: Job::Cost,
-            cert: None,
-            out: None,
-        }),
+        "cost" => cost_line(alloc, matches),
         "plan" => plan_line(alloc, matches),
+        "resume" => resume_line(alloc, matches),
         "check" => check_line(alloc, matches),
         "frames" => frames_line(alloc, matches),
         "play" => play_line(alloc, matches),
@@ -306,19 +413,35 @@ fn picture_path(
 ) -> Result<Option<String>, AllocError>
     ensures { IfOk result (λ path. MayHavePicture job.now path) }
 {
-    let (Job::Cost, Some(path)) = (job, matches.get_str("svg")) else {
+    let (Job::Cost | Job::PlanCost, Some(path)) = (job, matches.get_str("svg")) else {
         return Ok(None);
     };
     Ok(Some(String::from_str(alloc, path)?))
 }
 
-/// Reads the words after the program's name: `cost`, `plan`, `check`, `frames` or `play`, with its options and the path of
+/// The path of the units with the places of a search's plan; no other job has one.
+fn places_path(
+    alloc: Global,
+    job: &Job,
+    matches: &ArgMatches<'_>,
+) -> Result<Option<String>, AllocError>
+    ensures { IfOk result (λ path. MayHavePlaces job.now path) }
+{
+    let (Job::Plan { .. } | Job::Resume { .. }, Some(path)) = (job, matches.get_str("places"))
+    else {
+        return Ok(None);
+    };
+    Ok(Some(String::from_str(alloc, path)?))
+}
+
+/// Reads the words after the program's name: `cost`, `plan`, `resume`, `check`, `frames` or `play`, with its options and the path of
 /// the units.
 pub fn read_words(alloc: Global, words: &[String]) -> Result<Words, LineFault>
     ensures within { IfOk result (λ words. JobFits words.line.job) }
     ensures paths { IfOk result (λ words. HasPath words.line.job words.line.cert) }
     ensures out { IfOk result (λ words. MayHaveOut words.line.job words.line.out) }
     ensures picture { IfOk result (λ words. MayHavePicture words.line.job words.picture) }
+    ensures places { IfOk result (λ words. MayHavePlaces words.line.job words.places) }
 {
     let matches = match all_commands(alloc)?.try_get_matches_from(words) {
         Ok(matches) => matches,
@@ -329,10 +452,13 @@ pub fn read_words(alloc: Global, words: &[String]) -> Result<Words, LineFault>
     };
     let line = line_of(alloc, command, options)?;
     let picture = picture_path(alloc, &line.job, options)?;
+    let places = places_path(alloc, &line.job, options)?;
     let units = units_path(alloc, options)?;
     Ok(Words {
         line,
         units,
         picture,
+        places,
+        progress: options.get_flag("progress"),
     })
 }

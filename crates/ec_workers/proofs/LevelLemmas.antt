@@ -1,4 +1,4 @@
--- A tree without open leaves, for units within their limits, has a text.
+-- A tree for units within their limits has a text, and what its text says of it.
 use Rattle.std.proofs.Common.{◌≡◌, ℕ, zero, suc, ◌<◌, ◌≤◌, All, List, [], ◌∷◌, length, set, Option, Some, refl, ap, sym, subst, arith}
 use Rattle.std.proofs.lemmas.List.Elements.{All-head, All-tail}
 use Rattle.ec_units.specs.declared.slave.Place.{Place}
@@ -10,15 +10,15 @@ use Rattle.ec_loads.specs.Weights.{total_weight}
 use Rattle.ec_symmetry.proofs.RuleLemmas.{children-count}
 use Rattle.ec_cert.specs.WellFormed.{IsLeafLine, HasLevels, HaveLevels}
 
-abbrev closed : Prefix → List ℕ → Type 0
-closed ps order = ⊥
+abbrev pub Opens : Type 1
+Opens = Prefix → List ℕ → Type 0
 
 -- a split has as many trees as there are places
-trees-count : (line : Line) (v : Option ℕ) (ts : Shapes) (ps : Prefix) (u : ℕ) (order : List ℕ) (places : List Place) → TreesWith closed line v ts ps u order places → shape_count ts ≡ length places
-trees-count line v no_shapes ps u order [] h = refl
-trees-count line v no_shapes ps u order (p ∷ rest) h = absurd h
-trees-count line v (more t ts) ps u order [] h = absurd h
-trees-count line v (more t ts) ps u order (p ∷ rest) h = ap suc (trees-count line v ts ps u order rest h.1)
+trees-count : (open_is : Opens) (line : Line) (v : Option ℕ) (ts : Shapes) (ps : Prefix) (u : ℕ) (order : List ℕ) (places : List Place) → TreesWith open_is line v ts ps u order places → shape_count ts ≡ length places
+trees-count open_is line v no_shapes ps u order [] h = refl
+trees-count open_is line v no_shapes ps u order (p ∷ rest) h = absurd h
+trees-count open_is line v (more t ts) ps u order [] h = absurd h
+trees-count open_is line v (more t ts) ps u order (p ∷ rest) h = ap suc (trees-count open_is line v ts ps u order rest h.1)
 
 -- where weights aren't all 0 there is one
 some_weight : (w : List ℕ) (h : ℕ) → 0 < total_weight w h → 1 ≤ h
@@ -26,25 +26,60 @@ some_weight w zero pos = absurd (omega arith)
 some_weight w (suc h) pos = omega arith
 
 -- a leaf that holds in a tick that is short, or by so many weights, has a line
-leaf-line : (line : Line) (v : Option ℕ) (ps : Prefix) (l : Leaf) → line.slots ≤ 8 → HasShortTick l → LeafHolds line v ps l → IsLeafLine 2 l
-leaf-line line v ps (tick t) few short h = short
-leaf-line line v ps (full t s) few short h = (short, omega (arith, h.0))
-leaf-line line v ps average few short h = tt
-leaf-line line v ps (weighted w) few (count, each) h = (omega arith, record { least = some_weight w (length w) (subst (λ k. 0 < total_weight w k) (sym h.2) h.3); most = count; each = each })
+leaf-line : (version : ℕ) (line : Line) (v : Option ℕ) (ps : Prefix) (l : Leaf) → 2 ≤ version → line.slots ≤ 8 → HasShortTick l → LeafHolds line v ps l → IsLeafLine version l
+leaf-line version line v ps (tick t) later few short h = short
+leaf-line version line v ps (full t s) later few short h = (short, omega (arith, h.0))
+leaf-line version line v ps average later few short h = tt
+leaf-line version line v ps (weighted w) later few (count, each) h = (later, record { least = some_weight w (length w) (subst (λ k. 0 < total_weight w k) (sym h.2) h.3); most = count; each = each })
 
+-- what versions with such leaves say of a tree of which something is asked at its open leaves, which only version 3 has
 mutual
-  pub tree-levels : (line : Line) (v : Option ℕ) (t : Shape) (ps : Prefix) (order : List ℕ) (d : ℕ) → AreLoads line.loads → 1 ≤ line.slots → line.slots ≤ 8 → All (λ u. u < length line.loads) order → length order ≤ d → HasShortTicks t → TreeWith closed line v t ps order → HasLevels 2 (suc d) t
-  tree-levels line v (split ts) ps [] d within some few below deep short h = absurd h
-  tree-levels line v (split ts) ps (u ∷ order) zero within some few below deep short h = absurd (omega arith)
-  tree-levels line v (split ts) ps (u ∷ order) (suc d) within some few below deep short h =
-      let is = trees-count line v ts ps u order (children line ps u) h in
+  pub tree-levels : (open_is : Opens) (version : ℕ) → 2 ≤ version → ((ps : Prefix) (order : List ℕ) → open_is ps order → 3 ≤ version) → (line : Line) (v : Option ℕ) (t : Shape) (ps : Prefix) (order : List ℕ) (d : ℕ) → AreLoads line.loads → 1 ≤ line.slots → line.slots ≤ 8
+      → All (λ u. u < length line.loads) order → length order ≤ d → HasShortTicks t → TreeWith open_is line v t ps order → HasLevels version (suc d) t
+  tree-levels open_is version later opens line v (split ts) ps [] d within some few below deep short h = absurd h
+  tree-levels open_is version later opens line v (split ts) ps (u ∷ order) zero within some few below deep short h = absurd (omega arith)
+  tree-levels open_is version later opens line v (split ts) ps (u ∷ order) (suc d) within some few below deep short h =
+      let is = trees-count open_is line v ts ps u order (children line ps u) h in
       let count = children-count line ps u within some few (All-head (λ w. w < length line.loads) u order below) in
-      (omega (arith, is, count.0), omega (arith, is, count.1), trees-levels line v ts ps u order (children line ps u) d within some few (All-tail (λ w. w < length line.loads) u order below) (omega arith) short h)
-  tree-levels line v (leaf l) ps order d within some few below deep short h = leaf-line line v ps l few short h
-  tree-levels line v open_leaf ps order d within some few below deep short h = absurd h
+      (omega (arith, is, count.0), omega (arith, is, count.1), trees-levels open_is version later opens line v ts ps u order (children line ps u) d within some few (All-tail (λ w. w < length line.loads) u order below) (omega arith) short h)
+  tree-levels open_is version later opens line v (leaf l) ps order d within some few below deep short h = leaf-line version line v ps l later few short h
+  tree-levels open_is version later opens line v open_leaf ps order d within some few below deep short h = opens ps order h
 
-  trees-levels : (line : Line) (v : Option ℕ) (ts : Shapes) (ps : Prefix) (u : ℕ) (order : List ℕ) (places : List Place) (d : ℕ) → AreLoads line.loads → 1 ≤ line.slots → line.slots ≤ 8 → All (λ w. w < length line.loads) order → length order ≤ d → HaveShortTicks ts → TreesWith closed line v ts ps u order places → HaveLevels 2 (suc d) ts
-  trees-levels line v no_shapes ps u order places d within some few below deep short h = tt
-  trees-levels line v (more t ts) ps u order [] d within some few below deep short h = absurd h
-  trees-levels line v (more t ts) ps u order (p ∷ rest) d within some few below deep short h =
-      (tree-levels line v t (set ps u (Some p)) order d within some few below deep short.0 h.0, trees-levels line v ts ps u order rest d within some few below deep short.1 h.1)
+  trees-levels : (open_is : Opens) (version : ℕ) → 2 ≤ version → ((ps : Prefix) (order : List ℕ) → open_is ps order → 3 ≤ version) → (line : Line) (v : Option ℕ) (ts : Shapes) (ps : Prefix) (u : ℕ) (order : List ℕ) (places : List Place) (d : ℕ) → AreLoads line.loads → 1 ≤ line.slots
+      → line.slots ≤ 8 → All (λ w. w < length line.loads) order → length order ≤ d → HaveShortTicks ts → TreesWith open_is line v ts ps u order places → HaveLevels version (suc d) ts
+  trees-levels open_is version later opens line v no_shapes ps u order places d within some few below deep short h = tt
+  trees-levels open_is version later opens line v (more t ts) ps u order [] d within some few below deep short h = absurd h
+  trees-levels open_is version later opens line v (more t ts) ps u order (p ∷ rest) d within some few below deep short h =
+      (tree-levels open_is version later opens line v t (set ps u (Some p)) order d within some few below deep short.0 h.0, trees-levels open_is version later opens line v ts ps u order rest d within some few below deep short.1 h.1)
+
+leaf-short : (version : ℕ) (l : Leaf) → IsLeafLine version l → HasShortTick l
+leaf-short version (tick t) h = h
+leaf-short version (full t s) h = h.0
+leaf-short version average h = tt
+leaf-short version (weighted w) h = (h.1.most, h.1.each)
+
+-- a tree that has a text has short ticks
+mutual
+  pub tree-short : (version d : ℕ) (t : Shape) → HasLevels version d t → HasShortTicks t
+  tree-short version zero t h = absurd h
+  tree-short version (suc d) (split ts) h = trees-short version d ts h.2
+  tree-short version (suc d) (leaf l) h = leaf-short version l h
+  tree-short version (suc d) open_leaf h = tt
+
+  trees-short : (version d : ℕ) (ts : Shapes) → HaveLevels version d ts → HaveShortTicks ts
+  trees-short version d no_shapes h = tt
+  trees-short version d (more t ts) h = (tree-short version d t h.0, trees-short version d ts h.1)
+
+-- whatever is asked at its open leaves, it is a partial tree
+mutual
+  pub tree-partial : (open_is : Opens) (line : Line) (v : Option ℕ) (t : Shape) (ps : Prefix) (order : List ℕ) → TreeWith open_is line v t ps order → TreeWith (λ _ _. Unit {0}) line v t ps order
+  tree-partial open_is line v (split ts) ps [] h = absurd h
+  tree-partial open_is line v (split ts) ps (u ∷ order) h = trees-partial open_is line v ts ps u order (children line ps u) h
+  tree-partial open_is line v (leaf l) ps order h = h
+  tree-partial open_is line v open_leaf ps order h = tt
+
+  trees-partial : (open_is : Opens) (line : Line) (v : Option ℕ) (ts : Shapes) (ps : Prefix) (u : ℕ) (order : List ℕ) (places : List Place) → TreesWith open_is line v ts ps u order places → TreesWith (λ _ _. Unit {0}) line v ts ps u order places
+  trees-partial open_is line v no_shapes ps u order [] h = tt
+  trees-partial open_is line v no_shapes ps u order (p ∷ rest) h = absurd h
+  trees-partial open_is line v (more t ts) ps u order [] h = absurd h
+  trees-partial open_is line v (more t ts) ps u order (p ∷ rest) h = (tree-partial open_is line v t (set ps u (Some p)) order h.0, trees-partial open_is line v ts ps u order rest h.1)

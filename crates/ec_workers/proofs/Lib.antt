@@ -1,4 +1,5 @@
 pub mod AnswerLemmas
 pub mod LevelLemmas
 pub mod RangeLemmas
+pub mod ResumeLemmas
 pub mod ShowLemmas

@@ -14,20 +14,22 @@ use Rattle.ec_loads.specs.Cost.{item, plan_items}
 use Rattle.ec_loads.specs.Held.{AreLoads, no_places}
 use Rattle.ec_loads.specs.Line.{turned_time, line_by}
 use Rattle.ec_loads.specs.Shape.{Shape}
-use Rattle.ec_loads.specs.Search.{BoundsAll}
+use Rattle.ec_loads.specs.Search.{BoundsAll, IsPartialTree, LevelHolds}
 use Rattle.ec_loads.proofs.ItemLemmas.{AreLoads-loads_of}
 use Rattle.ec_symmetry.specs.Orders.{IsOrder}
 use Rattle.ec_cert.specs.declared.cert.Best.{Best}
 use Rattle.ec_cert.specs.Shapes.{CertView}
-use Rattle.ec_cert.specs.WellFormed.{IsUnitLine, IsPlaceLine, IsBestOrNone, IsWellFormed}
+use Rattle.ec_cert.specs.WellFormed.{HasLevels, IsUnitLine, IsPlaceLine, IsBestOrNone, IsLevelLine, IsWellFormed}
 use Rattle.ec_tree.specs.Trees.{TreesBound}
 use Rattle.ec_cert.specs.BestPlan.{value_of, IsBestPlan}
 use Rattle.ec_checker.specs.Certified.{line_of, lines_of, IsCertified, IsAnswer, verdict_of}
 use Rattle.ec_checker.specs.Laws.{FaultsRefute}
+use Rattle.ec_checker.specs.Levels.{IsGreatestLevel}
 use Rattle.ec_checker.specs.declared.fault.CheckFault.{CheckFault}
 use Rattle.ec_checker.specs.declared.fault.CheckFault.TheVariants as fault
 use Rattle.ec_checker.specs.declared.fault.Verdict.{Verdict}
-use Rattle.ec_workers.specs.Outcomes.{Shows, cert_for, IsFound}
+use Rattle.ec_checker.specs.declared.fault.Verdict.TheVariants as verdict
+use Rattle.ec_workers.specs.Outcomes.{Shows, cert_for, partial_for, IsFound}
 use Rattle.ec_workers.proofs.RangeLemmas.{busiest-range}
 use Rattle.ec_workers.proofs.LevelLemmas.{tree-levels}
 
@@ -86,31 +88,40 @@ pub record AreFew (us : List SyncUnit) (n : ℕ) : Type 0 where
 
 pub certified : (us : List SyncUnit) (n : ℕ) (order : List ℕ) (best : Option Best) (tree : Shape) → IsFound us n order best tree → IsCertified us n (cert_for us n order best tree)
 certified us n order best tree found = record {
-  head = record { same = record { slots = refl; lines = refl }; order = found.order_is; best = found.best_is };
-  tree = found.tree_is;
+  head = record { same = record { slots = refl; lines = refl }; order = found.order_is; best = found.best_is; level = tt };
+  shown = found.tree_is;
 }
 
-pub formed : (us : List SyncUnit) (n : ℕ) (order : List ℕ) (best : Option Best) (tree : Shape) → AreFew us n → IsFound us n order best tree → IsWellFormed (cert_for us n order best tree)
-formed us n order best tree few found =
+-- the certificate of these parts, of any version with such a level and such a tree
+abbrev view_of : List SyncUnit → ℕ → ℕ → List ℕ → Option Best → Option ℕ → Shape → CertView
+view_of us n version order best level tree = record { version = version; slots = n; units = lines_of us; order = order; best = best; level = level; tree = tree }
+
+formed-by : (us : List SyncUnit) (n version : ℕ) (order : List ℕ) (best : Option Best) (level : Option ℕ) (tree : Shape) → AreFew us n → 1 ≤ version → version ≤ 3 → IsOrder (length us) order → IsBestPlan (loads_of us) n best → IsLevelLine version level
+    → (AreLoads (loads_of us) → All (λ u. u < length (loads_of us)) order → length order ≤ 48 → HasLevels version 49 tree) → IsWellFormed (view_of us n version order best level tree)
+formed-by us n version order best level tree few least most order_is best_is level_is levels =
     let count : length (lines_of us) ≡ length us = length-map us line_of in
     let loads : length (loads_of us) ≡ length us = length-map us load_of in
     record {
-      least_version = omega arith;
-      most_version = omega arith;
+      least_version = least;
+      most_version = most;
       least_slots = few.least_slots;
       most_slots = few.most_slots;
       least_units = omega (arith, count, few.least_units);
       most_units = omega (arith, count, few.most_units);
       units = lines-formed us;
-      order_count = found.order_is.count ∙ sym count;
-      order = subst (λ k. All (λ u. u < k) order) (sym count) found.order_is.below;
-      best = best-formed us n (length (lines_of us)) best count few.least_units few.most_slots found.best_is;
-      tree =
-          tree-levels (line_by turned_time (loads_of us) n) (value_of best) tree (no_places (loads_of us)) order 48 (AreLoads-loads_of us) few.least_slots few.most_slots
-          (subst (λ k. All (λ u. u < k) order) (sym loads) found.order_is.below) (omega (arith, found.order_is.count, few.most_units)) found.short found.tree_is;
+      order_count = order_is.count ∙ sym count;
+      order = subst (λ k. All (λ u. u < k) order) (sym count) order_is.below;
+      best = best-formed us n (length (lines_of us)) best count few.least_units few.most_slots best_is;
+      level = level_is;
+      tree = levels (AreLoads-loads_of us) (subst (λ k. All (λ u. u < k) order) (sym loads) order_is.below) (omega (arith, order_is.count, few.most_units));
     }
 
-checked : FaultsRefute → (us : List SyncUnit) (n : ℕ) (c : CertView) → IsCertified us n c → (r : Result Verdict CheckFault) → IsAnswer us n c r → (r ≡ Ok (verdict_of c.best)) ⊎ (r ≡ Err fault.OutOfMemory)
+pub formed : (us : List SyncUnit) (n : ℕ) (order : List ℕ) (best : Option Best) (tree : Shape) → AreFew us n → IsFound us n order best tree → IsWellFormed (cert_for us n order best tree)
+formed us n order best tree few found =
+    formed-by us n 2 order best None tree few (omega arith) (omega arith) found.order_is found.best_is (omega arith) (λ within below deep.
+    tree-levels (λ _ _. ⊥) 2 (omega arith) (λ _ _ no. absurd no) (line_by turned_time (loads_of us) n) (value_of best) tree (no_places (loads_of us)) order 48 within few.least_slots few.most_slots below deep found.short found.tree_is)
+
+checked : FaultsRefute → (us : List SyncUnit) (n : ℕ) (c : CertView) → IsCertified us n c → (r : Result Verdict CheckFault) → IsAnswer us n c r → (r ≡ Ok (verdict_of c.best c.level)) ⊎ (r ≡ Err fault.OutOfMemory)
 checked refute us n c right (Ok w) a = inl (ap Ok a.1)
 checked refute us n c right (Err fault.OutOfMemory) a = inr refl
 checked refute us n c right (Err fault.OtherUnits) a = absurd (refute us n c fault.OtherUnits (λ e. absurd cc) a right)
@@ -120,13 +131,27 @@ checked refute us n c right (Err (fault.Value s f)) a = absurd (refute us n c (f
 checked refute us n c right (Err (fault.Children k w g)) a = absurd (refute us n c (fault.Children k w g) (λ e. absurd cc) a right)
 checked refute us n c right (Err (fault.Leaf k)) a = absurd (refute us n c (fault.Leaf k) (λ e. absurd cc) a right)
 checked refute us n c right (Err (fault.Depth k)) a = absurd (refute us n c (fault.Depth k) (λ e. absurd cc) a right)
+checked refute us n c right (Err (fault.Level l v)) a = absurd (refute us n c (fault.Level l v) (λ e. absurd cc) a right)
 
-pub shows : FaultsRefute → (us : List SyncUnit) (n : ℕ) (order : List ℕ) (best : Option Best) (tree : Shape) → AreFew us n → IsFound us n order best tree → Shows us n (cert_for us n order best tree) (verdict_of best)
+pub shows : FaultsRefute → (us : List SyncUnit) (n : ℕ) (order : List ℕ) (best : Option Best) (tree : Shape) → AreFew us n → IsFound us n order best tree → Shows us n (cert_for us n order best tree) (verdict_of best None)
 shows refute us n order best tree few found = record {
   formed = formed us n order best tree few found;
   certified = certified us n order best tree found;
   checked = checked refute us n (cert_for us n order best tree) (certified us n order best tree found);
 }
+
+-- the certificate of a search that ended without a proof, with the level that its tree shows
+pub partial-shows : FaultsRefute → (us : List SyncUnit) (n : ℕ) (order : List ℕ) (best : Option Best) (tree : Shape) (level : ℕ) → AreFew us n → IsOrder (length us) order → IsBestPlan (loads_of us) n best
+    → IsPartialTree (line_by turned_time (loads_of us) n) (value_of best) tree (no_places (loads_of us)) order → IsGreatestLevel (line_by turned_time (loads_of us) n) (value_of best) tree order level → Shows us n (partial_for us n order best level tree) (verdict.AtLeast level)
+partial-shows refute us n order best tree level few order_is best_is partial is =
+    let line = line_by turned_time (loads_of us) n in
+    let right : IsCertified us n (partial_for us n order best level tree) = record { head = record { same = record { slots = refl; lines = refl }; order = order_is; best = best_is; level = is.shows.0 }; shown = is.shows } in
+    record {
+      formed = formed-by us n 3 order best (Some level) tree few (omega arith) (omega arith) order_is best_is (omega arith, is.range) (λ within below deep.
+          tree-levels (λ qs _. LevelHolds line (Some level) qs) 3 (omega arith) (λ _ _ _. omega arith) line (value_of best) tree (no_places (loads_of us)) order 48 within few.least_slots few.most_slots below deep partial.1 is.shows.1);
+      certified = right;
+      checked = checked refute us n (partial_for us n order best level tree) right;
+    }
 
 pub bounds : TreesBound → (us : List SyncUnit) (n : ℕ) (order : List ℕ) (best : Option Best) (tree : Shape) → IsFound us n order best tree → BoundsAll (loads_of us) n (value_of best)
 bounds law us n order best tree found =

@@ -1,5 +1,5 @@
 -- What each outcome of a search says.
-use Rattle.std.specs.Prelude.{◌≡◌, ℕ, ◌<◌, List, length, Option}
+use Rattle.std.specs.Prelude.{◌≡◌, ℕ, ◌+◌, ◌<◌, List, length, Option}
 use Rattle.ec_units.specs.declared.unit.Unit.{Unit as SyncUnit}
 use Rattle.ec_units.specs.Load.{loads_of}
 use Rattle.ec_loads.specs.Held.{no_places}
@@ -18,20 +18,26 @@ use Rattle.ec_workers.specs.declared.outcome.SolveFault.TheVariants as refused
 use Rattle.ec_workers.specs.declared.outcome.Outcome.TheVariants as outcome
 use Rattle.ec_workers.specs.Outcomes.{IsOptimal, IsWithoutPlan}
 
--- what a search was asked for: how many workers, and how many nodes may be split and closed
+-- what a search was asked for: how many workers, how many nodes may be split and closed, and how many nodes the tree has that it goes on with
 pub record Asked : Type 0 where
   pub workers : ℕ
   pub nodes : ℕ
+  pub given : ℕ
 
+-- of a search that begins afresh
 abbrev pub asked_for : ℕ → ℕ → Asked
-asked_for workers nodes = record { workers = workers; nodes = nodes }
+asked_for workers nodes = record { workers = workers; nodes = nodes; given = 0 }
+
+-- of one that goes on with a tree of so many nodes
+abbrev pub asked_beyond : ℕ → ℕ → ℕ → Asked
+asked_beyond workers nodes given = record { workers = workers; nodes = nodes; given = given }
 
 -- why a search ended without a proof: the notes of several workers disagree, which those of one never do; else all nodes are spent and a leaf is open; else memory
 -- was refused
 abbrev pub IsCut : Asked → Shape → Cut → Type 0
 IsCut asked tree cut.Journal = 1 < asked.workers
-IsCut asked tree cut.Budget = (node_count tree ≡ asked.nodes) × (0 < open_count tree)
-IsCut asked tree cut.Memory = node_count tree ≡ asked.nodes → open_count tree ≡ 0
+IsCut asked tree cut.Budget = (node_count tree ≡ asked.given + asked.nodes) × (0 < open_count tree)
+IsCut asked tree cut.Memory = node_count tree ≡ asked.given + asked.nodes → open_count tree ≡ 0
 
 -- the best plan, if any, is legal and costs what is stated, and the tree is a partial one at that value
 pub record IsUnproved (units : List SyncUnit) (n : ℕ) (asked : Asked) (best : Option Best) (order : List ℕ) (tree : Shape) (why : Cut) : Type 0 where
@@ -55,3 +61,9 @@ IsSolveFault workers refused.Spawn = 1 < workers
 abbrev pub HasCut : Cut → Outcome → Type 0
 HasCut why (outcome.Unproved best order tree is) = is ≡ why
 HasCut why _ = ⊥
+
+-- the outcome has this order of the units: where it ended without a proof its own, else its certificate's
+abbrev pub HasOrder : List ℕ → Outcome → Type 0
+HasOrder order (outcome.Optimal plan b cert) = (cert_view cert).order ≡ order
+HasOrder order (outcome.NoPlan cert) = (cert_view cert).order ≡ order
+HasOrder order (outcome.Unproved best is tree why) = is ≡ order

@@ -22,7 +22,11 @@ use Rattle.ec_checker.specs.declared.fault.Verdict.TheVariants as verdict
 
 -- the certificate of these units with this order, best plan and tree
 abbrev pub cert_for : List SyncUnit → ℕ → List ℕ → Option Best → Shape → CertView
-cert_for units n order best tree = record { version = 2; slots = n; units = lines_of units; order = order; best = best; tree = tree }
+cert_for units n order best tree = record { version = 2; slots = n; units = lines_of units; order = order; best = best; level = None; tree = tree }
+
+-- that of a search that ended without a proof, with the level that its tree shows
+abbrev pub partial_for : List SyncUnit → ℕ → List ℕ → Option Best → ℕ → Shape → CertView
+partial_for units n order best level tree = record { version = 3; slots = n; units = lines_of units; order = order; best = best; level = Some level; tree = tree }
 
 -- what a search without open leaves has found: a plan that is legal and costs what is stated, if any, and a tree for the empty prefix at that value
 pub record IsFound (us : List SyncUnit) (n : ℕ) (order : List ℕ) (best : Option Best) (tree : Shape) : Type 0 where
@@ -50,3 +54,9 @@ pub record IsWithoutPlan (units : List SyncUnit) (n : ℕ) (c : CertView) : Type
   pub none : HasNoPlan (loads_of units) n
   pub held : c.best ≡ None
   pub shows : Shows units n c verdict.NoPlan
+
+-- a certificate that a search can go on with: it has a text, the checker says yes to it, and it shows no more than a level
+pub record IsPartialCert (units : List SyncUnit) (n : ℕ) (c : CertView) : Type 0 where
+  pub formed : IsWellFormed c
+  pub certified : IsCertified units n c
+  pub level : (l : ℕ) × (c.level ≡ Some l)

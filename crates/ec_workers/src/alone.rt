@@ -36,6 +36,7 @@ fn worked_off<R: Wait, G: Gate>(
     requires clear { IsClear units.now.units units.now.slots desk.old.loads desk.old.rest }
     ensures clear { IsClear units.now.units units.now.slots desk.new.loads desk.new.rest }
     ensures book { IsBookOf units.now.units units.now.slots order.now book.new }
+    ensures given { book.new.given ≡ book.old.given }
 {
     let mut value = took.value;
     for _ in rt.forever() {
@@ -61,6 +62,7 @@ pub(crate) fn work<R: Wait, G: Gate>(
     requires order { IsOrder (length units.now.units) order.now }
     requires book { IsBookOf units.now.units units.now.slots order.now book.old }
     ensures book { IsBookOf units.now.units units.now.slots order.now book.new }
+    ensures given { book.new.given ≡ book.old.given }
 {
     let Ok(mut desk) = Desk::new(alloc, units) else {
         return Ended::Memory;

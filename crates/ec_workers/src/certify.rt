@@ -1,6 +1,6 @@
 //! The certificate of a search.
 
-ghost use Rattle.std.specs.Prelude.{◌≡◌, ℕ, IfOk};
+ghost use Rattle.std.specs.Prelude.{◌≡◌, ℕ, None, IfOk};
 ghost use Rattle.ec_cert.specs.Shapes.{cert_view};
 ghost use Rattle.ec_checker.specs.Certified.{line_of as line_spec, lines_of as lines_spec};
 ghost use Rattle.ec_cert.specs.Shapes.{shape_of};
@@ -40,7 +40,7 @@ pub(crate) fn certificate(
     best: Option<Best>,
     tree: Tree,
 ) -> Cert
-    ensures { cert_view result ≡ record { version = 2; slots = slots; units = units; order = order; best = best; tree = shape_of tree } }
+    ensures { cert_view result ≡ record { version = 2; slots = slots; units = units; order = order; best = best; level = None; tree = shape_of tree } }
 {
     Cert {
         version: 2,
@@ -48,6 +48,7 @@ pub(crate) fn certificate(
         units,
         order,
         best,
+        level: None,
         tree,
     }
 }

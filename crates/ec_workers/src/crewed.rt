@@ -1,11 +1,17 @@
 //! A search by several workers, and what comes of it.
 
-ghost use Rattle.std.specs.Prelude.{◌≡◌, ◌≢◌, ℕ, ◌<◌, ◌≤◌, IfOk, IfErr, length};
+ghost use Rattle.std.specs.Prelude.{◌≡◌, ◌≢◌, ℕ, ◌+◌, ◌<◌, ◌≤◌, [], Option, IfOk, IfErr, length};
+ghost use Rattle.ec_loads.specs.Search.{node_count};
+ghost use Rattle.ec_loads.specs.Shape.{Shape};
 ghost use Rattle.ec_symmetry.specs.Orders.{IsOrder};
+ghost use Rattle.ec_cert.specs.Shapes.{cert_view, shape_of};
+ghost use Rattle.ec_book.specs.Books.{IsBookOf};
+ghost use Rattle.ec_book.specs.Views.{given_nodes};
 ghost use Rattle.ec_checker.specs.Certified.{lines_of as lines_spec};
 ghost use Rattle.ec_crew.specs.Crews.{IsCrewed};
 ghost use Rattle.ec_crew.specs.declared.ended.Ended.TheVariants.{Refused, Memory as EndedMemory};
-ghost use Rattle.ec_workers.specs.Answers.{asked_for, HasCut, IsOutcome, IsSolveFault};
+ghost use Rattle.ec_workers.specs.Answers.{asked_beyond, asked_for, HasCut, HasOrder, IsOutcome, IsSolveFault};
+ghost use Rattle.ec_workers.specs.Outcomes.{IsPartialCert};
 ghost use Rattle.ec_workers.specs.declared.outcome.Cut.TheVariants.{Budget, Journal, Memory};
 
 use crate::certify::lines_of;
@@ -13,7 +19,7 @@ use crate::outcome::{Cut, Outcome, SolveFault};
 use crate::planning::{nothing, proved};
 use ec_book::{Book, Finished, is_closed};
 use ec_branch::search_order;
-use ec_cert::{Order, UnitLines};
+use ec_cert::{Cert, Order, UnitLines};
 use ec_crew::{CrewFault, Crewed, Ended, Gate, search_by_crew};
 use ec_units::Units;
 use std::alloc::Global;
@@ -47,9 +53,10 @@ fn outcome_of(
 ) -> Outcome
     requires lines { lines ≡ lines_spec units.now.units }
     requires order { IsOrder (length units.now.units) order }
-    requires crewed { IsCrewed units.now.units units.now.slots order crewed.finished }
-    ensures outcome { (workers : ℕ) → 1 < workers → IsOutcome units.now.units units.now.slots (asked_for workers nodes) result }
+    requires crewed { (tree : Shape) × (value : Option ℕ) × IsCrewed units.now.units units.now.slots order tree value crewed.finished }
+    ensures outcome { (workers given : ℕ) → 1 < workers → node_count (shape_of crewed.finished.tree) ≡ given + crewed.finished.spent → IsOutcome units.now.units units.now.slots (asked_beyond workers nodes given) result }
     ensures journal { crewed.ended ≡ Refused → HasCut Journal result }
+    ensures order { HasOrder order result }
 {
     let Crewed { finished, ended } = crewed;
     let Finished {
@@ -77,6 +84,49 @@ fn outcome_of(
     }
 }
 
+/// Searches on a book on which nothing has happened, with 2 to 16 workers, worker 0 of which offers the greedy plan where
+/// `greedy` says so.
+fn search_on<R: Threads + Wait + Sync, G: Gate + Sync>(
+    rt: &R,
+    alloc: Global,
+    units: &Units,
+    order: Vec<u8>,
+    book: Book,
+    workers: usize,
+    nodes: u32,
+    greedy: bool,
+    gate: &G,
+) -> Result<Outcome, SolveFault>
+    requires workers { (2 ≤ workers) × (workers ≤ 16) }
+    requires some { 1 ≤ nodes }
+    requires order { IsOrder (length units.now.units) order.items }
+    requires book { IsBookOf units.now.units units.now.slots order.items book }
+    requires unused { book.log ≡ [] }
+    ensures outcome { IfOk result (IsOutcome units.now.units units.now.slots (asked_beyond workers nodes (given_nodes book))) }
+    ensures fault { IfErr result (IsSolveFault workers) }
+    ensures order { IfOk result (HasOrder order.items) }
+{
+    let lines = lines_of(alloc, units)?;
+    let crewed = search_by_crew(
+        rt,
+        alloc,
+        book,
+        units,
+        order.as_slice(),
+        workers,
+        greedy,
+        gate,
+    );
+    let order = Order::new(order);
+    match crewed {
+        Ok(crewed) => Ok(outcome_of(alloc, units, lines, order, crewed, nodes)),
+        Err(CrewFault::OutOfMemory) => Err(SolveFault::OutOfMemory),
+        Err(CrewFault::Spawn) => Err(SolveFault::Spawn),
+        Err(CrewFault::Unclosed) => Ok(nothing(order, Cut::Memory)),
+        Err(CrewFault::OtherUnits) => Ok(nothing(order, Cut::Journal)),
+    }
+}
+
 /// Searches with 2 to 16 workers, each in a thread of its own, on a book under one lock.
 pub(crate) fn solve_by_crew<R: Threads + Wait + Sync, G: Gate + Sync>(
     rt: &R,
@@ -91,16 +141,29 @@ pub(crate) fn solve_by_crew<R: Threads + Wait + Sync, G: Gate + Sync>(
     ensures outcome { IfOk result (IsOutcome units.now.units units.now.slots (asked_for workers nodes)) }
     ensures fault { IfErr result (IsSolveFault workers) }
 {
-    let lines = lines_of(alloc, units)?;
     let order = search_order(alloc, units)?;
     let book = Book::new(alloc, units, order.as_slice(), u64::from(nodes))?;
-    let crewed = search_by_crew(rt, alloc, book, units, order.as_slice(), workers, gate);
-    let order = Order::new(order);
-    match crewed {
-        Ok(crewed) => Ok(outcome_of(alloc, units, lines, order, crewed, nodes)),
-        Err(CrewFault::OutOfMemory) => Err(SolveFault::OutOfMemory),
-        Err(CrewFault::Spawn) => Err(SolveFault::Spawn),
-        Err(CrewFault::Unclosed) => Ok(nothing(order, Cut::Memory)),
-        Err(CrewFault::OtherUnits) => Ok(nothing(order, Cut::Journal)),
-    }
+    search_on(rt, alloc, units, order, book, workers, nodes, true, gate)
+}
+
+/// Goes on with a certificate's tree, with 2 to 16 workers, as `solve_by_crew` searches.
+pub(crate) fn resume_by_crew<R: Threads + Wait + Sync, G: Gate + Sync>(
+    rt: &R,
+    alloc: Global,
+    units: &Units,
+    cert: &Cert,
+    workers: usize,
+    nodes: u32,
+    gate: &G,
+) -> Result<Outcome, SolveFault>
+    requires workers { (2 ≤ workers) × (workers ≤ 16) }
+    requires nodes { (1 ≤ nodes) × (nodes ≤ 10000000) }
+    requires cert { IsPartialCert units.now.units units.now.slots (cert_view cert.now) }
+    ensures outcome { IfOk result (IsOutcome units.now.units units.now.slots (asked_beyond workers nodes (node_count (shape_of cert.now.tree)))) }
+    ensures fault { IfErr result (IsSolveFault workers) }
+    ensures order { IfOk result (HasOrder cert.now.order) }
+{
+    let order = Vec::from_slice(alloc, cert.order.as_slice())?;
+    let book = Book::resume(alloc, units, cert, u64::from(nodes))?;
+    search_on(rt, alloc, units, order, book, workers, nodes, false, gate)
 }

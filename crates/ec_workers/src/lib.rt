@@ -7,10 +7,14 @@ mod crewed;
 mod desk;
 mod outcome;
 mod planning;
+mod resuming;
 mod solving;
 mod turn;
+mod unfinished;
 mod watch;
 
-pub use ec_crew::Gate;
+pub use ec_crew::{Gate, Quiet};
 pub use outcome::{Cut, Outcome, SolveFault};
+pub use resuming::solve_from;
 pub use solving::solve;
+pub use unfinished::partial;

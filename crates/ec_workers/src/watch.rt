@@ -34,7 +34,7 @@ impl<'a, G: Gate> Guide for Watch<'a, G> {
     ghost known = { λ s. s.value };
 
     fn bound(&mut self) -> Option<u64> {
-        self.gate.before(self.worker, self.piece);
+        self.gate.before(self.worker, self.piece, self.value);
         self.value
     }
 

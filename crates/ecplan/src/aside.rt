@@ -5,7 +5,7 @@ ghost use Rattle.std.specs.Prelude.{◌≡◌};
 use crate::guard::{Content, reason_to_keep};
 use crate::telling::tell_reason;
 use ec_lines::Line;
-use std::io::ErrorKind;
+use std::io::{ErrorKind, Write};
 use std::rt::Files;
 use std::{fs, io};
 
@@ -34,11 +34,7 @@ fn can_be_made<F: Files>(files: &F, path: &str) -> bool {
 
 /// Where the file of a path is made until it is whole. None where it is written in place, also where something else stands
 /// there, or no file can be made there, or memory ran out.
-pub(crate) fn beside<R: Files + AllocGlobal>(
-    rt: &R,
-    path: &str,
-    content: Content,
-) -> Option<String> {
+fn beside<R: Files + AllocGlobal>(rt: &R, path: &str, content: Content) -> Option<String> {
     if path.is_empty() || !gives_way(rt, path) {
         return None;
     }
@@ -108,12 +104,7 @@ impl Made {
 
 /// Lets the file beside a path take its place there, or takes away what isn't whole. Where it isn't known whether it is, both
 /// are left.
-pub(crate) fn put_in_place<F: Files>(
-    files: &F,
-    made_at: &str,
-    path: &str,
-    made: Made,
-) -> io::Result<()> {
+fn put_in_place<F: Files>(files: &F, made_at: &str, path: &str, made: Made) -> io::Result<()> {
     if fs::symlink_metadata(files, made_at).is_err() {
         return Ok(());
     }
@@ -122,6 +113,32 @@ pub(crate) fn put_in_place<F: Files>(
         Made::Refused => fs::remove_file(files, made_at),
         Made::Unknown => Ok(()),
     }
+}
+
+/// Writes these bytes to a path, where the file is made or emptied.
+fn write_at<F: Files>(files: &F, path: &str, bytes: &[u8]) -> io::Result<()> {
+    let mut file = fs::create(files, path)?;
+    file.write_all(bytes)
+}
+
+/// Writes a file whole: beside its path, where it then takes its place.
+pub(crate) fn write_whole<R: Files + AllocGlobal>(
+    rt: &R,
+    path: &str,
+    content: Content,
+    bytes: &[u8],
+) -> io::Result<()> {
+    let Some(made_at) = beside(rt, path, content) else {
+        return write_at(rt, path, bytes);
+    };
+    let written = write_at(rt, made_at.as_str(), bytes);
+    let made = if written.is_ok() {
+        Made::Whole
+    } else {
+        Made::Refused
+    };
+    put_in_place(rt, made_at.as_str(), path, made)?;
+    written
 }
 
 /// The status of a job whose file was made beside a path, once it took its place there: 4 where it couldn't, which is told.

@@ -2,11 +2,14 @@
 //! are, and the text goes to standard output. What a refusal means is told on standard error.
 #![tactic(auto)]
 
+mod again;
 mod aside;
 mod drawing;
+mod filling;
 mod guard;
 mod job;
 mod kept;
+mod progress;
 mod remark;
 mod telling;
 
@@ -51,7 +54,8 @@ fn main(rt: HostRuntime) -> ExitCode {
             if words.units.is_none() && rt.stdin().is_terminal() {
                 let _ = rt.eprint(WAITING);
             }
-            ExitCode::from(do_words(&rt, words))
+            let is_terminal = rt.stderr().is_terminal();
+            ExitCode::from(do_words(&rt, words, is_terminal))
         }
         Err(LineFault::Memory) => ExitCode::from(refuse_memory(&mut out).code),
         Err(LineFault::Refused { text }) => {

@@ -1,5 +1,6 @@
 //! What is told on standard error, after the job.
 
+use crate::again::cert_at;
 use crate::telling::tell_reason;
 use ec_explain::{Inputs, advice, explain};
 use ec_lines::Line;
@@ -8,9 +9,6 @@ use std::io::{ErrorKind, Read};
 use std::path::Path;
 use std::rt::Files;
 use std::{fs, io};
-
-/// The most bytes of a certificate that are read again.
-const MOST_CERT: u64 = 67_108_864;
 
 /// What a job left: the front of the units that it read, why their reading failed, and the front of its text.
 #[derive(Clone, Copy)]
@@ -24,16 +22,6 @@ pub(crate) struct Left<'a> {
 fn is_ready(files: &impl Files, path: &str) -> io::Result<bool> {
     let found = fs::metadata(files, path)?;
     Ok(found.is_file() || found.is_dir())
-}
-
-/// Reads the certificate at a path again. None of what is no file, as a pipe.
-fn read_again<R: Files + AllocGlobal>(rt: &R, path: &str) -> io::Result<Option<Vec<u8>>> {
-    if !fs::metadata(rt, path)?.is_file() {
-        return Ok(None);
-    }
-    let mut bytes = Vec::new(rt.alloc());
-    fs::open(rt, path)?.take(MOST_CERT).read_to_end(&mut bytes)?;
-    Ok(Some(bytes))
 }
 
 /// Reads one byte of what stands at a path, to see why that fails.
@@ -93,6 +81,7 @@ fn reason_for<R: Files + AllocGlobal>(
 fn is_of_cert(code: &str) -> bool {
     match code {
         "C1" | "C9" | "K1" => false,
+        "E5" => true,
         _ => code.starts_with('C') || code.starts_with('K'),
     }
 }
@@ -105,7 +94,7 @@ fn cert_for<R: Files + AllocGlobal>(rt: &R, code: &str, line: &Line) -> Option<V
     if !is_of_cert(code) {
         return None;
     }
-    match read_again(rt, path.as_str()) {
+    match cert_at(rt, path.as_str()) {
         Ok(cert) => cert,
         Err(_) => None,
     }
@@ -177,7 +166,9 @@ pub(crate) fn remark<'x, R: Files + AllocGlobal + Eprint>(
     };
     let first = text.lines().next().unwrap_or("");
     if !first.starts_with("refused ") {
-        let _ = rt.eprint(advice(text));
+        if let Ok(told) = advice(rt.alloc(), text, path_of(&line.out)) {
+            let _ = rt.eprint(told.as_str());
+        }
         return;
     }
     if tells_units(rt, path, left.fault) {

@@ -7,6 +7,10 @@ use std::alloc::{AllocError, Global};
 pub(crate) const WAITING: &str =
     "ecplan waits for the units on standard input, up to an end of file (Ctrl-D); or name their file as a word.\n";
 
+/// What is told of a text into which no places can be filled.
+pub(crate) const NO_FORM: &str =
+    "Each unit of the text has to begin with a line [[unit]], and each key to have a line of its own";
+
 /// A sentence about a path, and on a line of its own why.
 fn sentence(alloc: Global, words: &str, path: &str, why: &str) -> Result<String, AllocError> {
     let text = format!(in alloc; "{words} \"{path}\".\n{why}.\n")?;

@@ -5,6 +5,7 @@ use crate::streams::Slow;
 use ec_jobs::do_line;
 use ec_wire::Io;
 use ec_words::read_words;
+use ec_workers::Quiet;
 use std::alloc::Global;
 use std::io::Read;
 use std::rt::Files;
@@ -19,6 +20,10 @@ const MEETING: &str =
 
 const CERT: &str =
     "ecplan 2\nslots 1\nunit a 200 2\nunit b 200 3\norder 0 1\nvalue 464\nplace 0 0\nplace 0 0\ntree\nS 1\nS 3\nT 0\nT 4\nT 2\nend\n";
+
+/// What a search of four nodes writes: the last leaf is open.
+const CUT_CERT: &str =
+    "ecplan 3\nslots 1\nunit a 200 2\nunit b 200 3\norder 0 1\nvalue 464\nplace 0 0\nplace 0 0\nlevel 464\ntree\nS 1\nS 3\nT 0\nT 4\nO\nend\n";
 
 const PLACES: &str = "unit a phase 0 slot 0\nunit b phase 0 slot 0\n";
 
@@ -52,7 +57,15 @@ fn said_by<F: Files>(
     let mut held = Slow::new(alloc, 999);
     let mut units = Io::new(&mut bytes);
     let mut text = Io::new(&mut held);
-    let status = do_line(files, wait, alloc, &asked.line, &mut units, &mut text);
+    let status = do_line(
+        files,
+        wait,
+        alloc,
+        &asked.line,
+        &mut units,
+        &mut text,
+        &Quiet,
+    );
     drop(units);
     drop(text);
     let reads = bytes.calls;
@@ -74,7 +87,7 @@ fn a_plan_with_a_path(rt: HostRuntime) -> Result<(), Fail> {
         alloc,
         "plan --nodes 4 --out /tmp/ecplan-plan-out.cert",
     )?;
-    let kept = fs::read_to_string(&rt, path).is_err();
+    let cut_cert = fs::read_to_string(&rt, path)?;
     let whole = said_by(
         &rt,
         &rt,
@@ -83,11 +96,28 @@ fn a_plan_with_a_path(rt: HostRuntime) -> Result<(), Fail> {
     )?;
     let cert = fs::read_to_string(&rt, path)?;
     fs::remove_file(&rt, path)?;
-    let told = format!(in alloc; "{cut}{kept}\n{whole}{cert}")?;
+    let told = format!(in alloc; "{cut}{cut_cert}{whole}{cert}")?;
     let shown = format!(in alloc;
-        "unproved 464\ncut budget\n{PLACES}status 2, 2 reads\ntrue\noptimal 464\n{PLACES}status 0, 2 reads\n{CERT}"
+        "unproved 464\ncut budget\nat least 464\n{PLACES}status 2, 2 reads\n{CUT_CERT}optimal 464\n{PLACES}status 0, 2 reads\n{CERT}"
     )?;
     assert_eq!(rt; told.as_str(), shown.as_str());
+    Ok(())
+}
+
+/// A search is gone on with, and its certificate takes the place of the one that it began with.
+#[test]
+fn a_search_that_is_gone_on_with(rt: HostRuntime) -> Result<(), Fail> {
+    let alloc = rt.alloc();
+    let path = "/tmp/ecplan-resume-in.cert";
+    fs::write(&rt, path, CUT_CERT)?;
+    let lines =
+        "check --cert /tmp/ecplan-resume-in.cert\nresume --cert /tmp/ecplan-resume-in.cert\nresume --nodes 1 --cert /tmp/ecplan-resume-in.cert --out /tmp/ecplan-resume-in.cert\nresume --cert /tmp/ecplan-resume-in.cert\n";
+    let told = answers_of(&rt, &rt, alloc, lines)?;
+    let cert = fs::read_to_string(&rt, path)?;
+    fs::remove_file(&rt, path)?;
+    let least = format!(in alloc; "optimal 464\n{PLACES}status 0, 2 reads\n")?;
+    let shown = format!(in alloc; "at least 464\nstatus 2, 2 reads\n{least}{least}{least}{CERT}")?;
+    assert_eq!(rt; format!(in alloc; "{told}{cert}")?.as_str(), shown.as_str());
     Ok(())
 }
 
@@ -109,10 +139,10 @@ fn answers_of<F: Files>(
 #[test]
 fn a_path_that_cannot_be_opened(rt: HostRuntime) -> Result<(), Fail> {
     let lines =
-        "plan --out /tmp/no-such-directory-of-ecplan/c\nplan --nodes 4 --out /tmp/no-such-directory-of-ecplan/c\ncheck --cert /tmp/no-such-directory-of-ecplan/c\nframes --cert /tmp/no-such-directory-of-ecplan/c\nplay --cert /tmp/no-such-directory-of-ecplan/c\nplay\n";
+        "plan --out /tmp/no-such-directory-of-ecplan/c\nplan --nodes 4 --out /tmp/no-such-directory-of-ecplan/c\ncheck --cert /tmp/no-such-directory-of-ecplan/c\nframes --cert /tmp/no-such-directory-of-ecplan/c\nplay --cert /tmp/no-such-directory-of-ecplan/c\nresume --cert /tmp/no-such-directory-of-ecplan/c --out /tmp/no-such-directory-of-ecplan/d\nplay\n";
     let told = answers_of(&rt, &rt, rt.alloc(), lines)?;
     let shown = format!(in rt.alloc();
-        "refused E4 Write\nstatus 4, 2 reads\nunproved 464\ncut budget\n{PLACES}status 2, 2 reads\nrefused E3 Read\nstatus 4, 0 reads\nrefused E3 Read\nstatus 4, 0 reads\nrefused E3 Read\nstatus 4, 0 reads\nrefused E2 NoPlace 0\nstatus 3, 2 reads\n"
+        "refused E4 Write\nstatus 4, 2 reads\nrefused E4 Write\nstatus 4, 2 reads\nrefused E3 Read\nstatus 4, 0 reads\nrefused E3 Read\nstatus 4, 0 reads\nrefused E3 Read\nstatus 4, 0 reads\nrefused E3 Read\nstatus 4, 0 reads\nrefused E2 NoPlace 0\nstatus 3, 2 reads\n"
     )?;
     assert_eq!(rt; told.as_str(), shown.as_str());
     Ok(())

@@ -34,20 +34,29 @@ fn line_text(alloc: Global, line: &Line) -> Result<String, AllocError> {
         Job::Plan { workers, nodes } => {
             format!(in alloc; "<plan {workers} {nodes} {cert} {out}>")
         }
+        Job::Resume { workers, nodes } => {
+            format!(in alloc; "<resume {workers} {nodes} {cert} {out}>")
+        }
         Job::Check => format!(in alloc; "<check {cert} {out}>"),
         Job::Frames => format!(in alloc; "<frames {cert} {out}>"),
         Job::Capture => format!(in alloc; "<capture {cert} {out}>"),
         Job::Play => format!(in alloc; "<play {cert} {out}>"),
+        Job::PlanCost => format!(in alloc; "<plan cost {cert} {out}>"),
     }
 }
 
-/// The line of some words, and behind it the paths of the units and of the picture, where one is given.
+/// The line of some words, and behind it the paths of the units and of the picture, where one is given, and that of the units
+/// with their places and whether the progress is told, where either is asked for.
 fn words_text(alloc: Global, words: &Words) -> Result<String, AllocError> {
     let mut text = line_text(alloc, &words.line)?;
     if words.units.is_some() || words.picture.is_some() {
         let units = path_of(&words.units);
         let picture = path_of(&words.picture);
         write!(text, " {units} {picture}")?;
+    }
+    if words.places.is_some() || words.progress {
+        let places = path_of(&words.places);
+        write!(text, " places {places} {}", words.progress)?;
     }
     Ok(text)
 }
@@ -106,6 +115,14 @@ const LINES: &str = "cost : <cost - ->|\
     cost line.toml --svg p.svg : <cost - -> line.toml p.svg|\
     cost --svg - - : <cost - -> - -|\
     cost cost : <cost - -> cost -|\
+    cost --cert p : <plan cost p ->|\
+    cost --cert=p q : <plan cost p -> q -|\
+    cost --svg p --cert q r : <plan cost q -> r p|\
+    plan --places p : <plan 1 1000000 - -> places p false|\
+    plan --progress : <plan 1 1000000 - -> places - true|\
+    plan --out p --places q --progress r : <plan 1 1000000 - p> r - places q true|\
+    resume --places=p --cert q : <resume 1 1000000 q -> places p false|\
+    resume --cert p --progress - : <resume 1 1000000 p -> places - true|\
     plan line.toml : <plan 1 1000000 - -> line.toml -|\
     plan 5 : <plan 1 1000000 - -> 5 -|\
     plan --out p --nodes 8 line.toml : <plan 1 8 - p> line.toml -|\
@@ -114,12 +131,33 @@ const LINES: &str = "cost : <cost - ->|\
     check --cert q - : <check q ->|\
     frames p : <frames - -> p -|\
     frames --cert q p : <frames q -> p -|\
-    frames --pcap p q : <capture - p> q -|";
+    frames --pcap p q : <capture - p> q -|\
+    resume --cert p : <resume 1 1000000 p ->|\
+    resume --cert=p --out=q : <resume 1 1000000 p q>|\
+    resume --cert p --out p : <resume 1 1000000 p p>|\
+    resume --workers 16 --nodes 10000000 --cert p : <resume 16 10000000 p ->|\
+    resume --out q --nodes 8 --cert p --workers 2 r : <resume 2 8 p q> r -|\
+    resume r --cert p : <resume 1 1000000 p -> r -|\
+    resume --cert p - : <resume 1 1000000 p ->|";
 
 /// Words that are no command, with a part of what is told; of two the whole text.
 const REFUSED: &str = " : requires a subcommand|\
     costs : unrecognized subcommand 'costs'|\
-    resume : unrecognized subcommand 'resume'|\
+    resumes : unrecognized subcommand 'resumes'|\
+    resume : --cert <PATH>|\
+    resume --nodes 5 : --cert <PATH>|\
+    resume p --out q : --cert <PATH>|\
+    resume --cert : a value is required for '--cert <PATH>'|\
+    resume --cert p --cert q : '--cert <PATH>' cannot be used multiple times|\
+    resume --cert p --out : a value is required for '--out <PATH>'|\
+    resume --cert p --out q --out q : '--out <PATH>' cannot be used multiple times|\
+    resume --cert p --workers 0 : invalid value '0' for '--workers <N>'|\
+    resume --cert p --workers 17 : invalid value '17' for '--workers <N>'|\
+    resume --cert p --nodes 0 : invalid value '0' for '--nodes <N>'|\
+    resume --cert p --nodes 10000001 : invalid value '10000001' for '--nodes <N>'|\
+    resume --cert p --pcap q : unexpected argument '--pcap'|\
+    resume --cert p --svg q : unexpected argument '--svg'|\
+    resume --cert p q r : unexpected argument 'r'|\
     frames --cert : a value is required for '--cert <PATH>'|\
     frames --out p : unexpected argument '--out'|\
     frames --pcap : a value is required for '--pcap <PATH>'|\
@@ -138,7 +176,18 @@ const REFUSED: &str = " : requires a subcommand|\
     cost --svg : a value is required for '--svg <PATH>'|\
     cost --svg p --svg q : '--svg <PATH>' cannot be used multiple times|\
     cost --out p : unexpected argument '--out'|\
-    cost --cert p : unexpected argument '--cert'|\
+    cost --cert : a value is required for '--cert <PATH>'|\
+    cost --cert p --cert q : '--cert <PATH>' cannot be used multiple times|\
+    cost --places p : unexpected argument '--places'|\
+    cost --progress : unexpected argument '--progress'|\
+    check --cert p --places q : unexpected argument '--places'|\
+    check --cert p --progress : unexpected argument '--progress'|\
+    frames --places p : unexpected argument '--places'|\
+    play --progress : unexpected argument '--progress'|\
+    plan --places : a value is required for '--places <PATH>'|\
+    plan --places p --places q : '--places <PATH>' cannot be used multiple times|\
+    plan --progress=yes : unexpected value 'yes' for '--progress'|\
+    plan --progress --progress : '--progress' cannot be used multiple times|\
     check : --cert <PATH>|\
     check --cert : a value is required for '--cert <PATH>'|\
     check p --cert : a value is required for '--cert <PATH>'|\
@@ -161,7 +210,7 @@ const REFUSED: &str = " : requires a subcommand|\
     plan 5 6 : unexpected argument '6'|\
     plan --svg p : unexpected argument '--svg'|\
     plan --workers 17 : <error: invalid value '17' for '--workers <N>': 17 is not in 1..=16\n\nFor more information, try '--help'.\n>|\
-    resume : <error: unrecognized subcommand 'resume'\n\nUsage: ecplan <COMMAND>\n\nFor more information, try '--help'.\n>";
+    solve : <error: unrecognized subcommand 'solve'\n\nUsage: ecplan <COMMAND>\n\nFor more information, try '--help'.\n>";
 
 /// Words that ask for help, with a part of it.
 const HELP: &str = "--help : Usage: ecplan <COMMAND>|\
@@ -174,11 +223,16 @@ const HELP: &str = "--help : Usage: ecplan <COMMAND>|\
     --help : 3 refused input|\
     --help : docs/FORMATS.md|\
     cost --help : Usage: ecplan cost [OPTIONS] [FILE]|\
+    cost --help : The certificate whose plan is told|\
+    plan --help : Where to write the unit text again, with the places of the plan|\
+    resume --help : Tell the progress on standard error also where that is no terminal|\
     plan --help : Usage: ecplan plan [OPTIONS] [FILE]|\
     plan --help : [default: 1000000]|\
     plan --workers 1 --help : nodes of the search tree|\
     plan --help : How many workers search, 1 to 16|\
     check --help : Usage: ecplan check --cert <PATH> [FILE]|\
+    resume --help : Usage: ecplan resume [OPTIONS] --cert <PATH> [FILE]|\
+    resume --help : [default: 1000000]|\
     frames --help : Usage: ecplan frames [OPTIONS] [FILE]|\
     frames --help : Where to write the frames as a capture file|\
     play --help : Usage: ecplan play [OPTIONS] [FILE]|\

@@ -3,7 +3,7 @@ use Rattle.ec_loads.specs.Search.{open_count}
 use Rattle.ec_cert.specs.declared.tree.Tree.{the_lemmas}
 use Rattle.ec_book.specs.Numbered.{numbered, draw}
 use Rattle.ec_book.specs.Grown.{shape_at}
-use Rattle.ec_book.proofs.DrawLemmas.{shape_at-last, shape_of-OpenLeaf, shape_of-Weights}
+use Rattle.ec_book.proofs.DrawLemmas.{shape_at-last, shape_of-OpenLeaf}
 use Rattle.ec_book.proofs.PartLemmas.{opens_all, IsPart, child_at, child_get, child_fits, part-step, part-skip, part-start, part-left, part-tree}
 use Rattle.ec_book.proofs.tree.+filled.Goals as goal
 

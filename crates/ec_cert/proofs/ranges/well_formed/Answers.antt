@@ -1,5 +1,5 @@
 use Rattle.std.proofs.Common.{rules}
 use Rattle.ec_cert.proofs.ranges.well_formed.Goals as goal
 
-pub returns-then-is_best_right : goal.returns-then-is_best_right
-returns-then-is_best_right c = search rules
+pub returns-then-is_level : goal.returns-then-is_level
+returns-then-is_level c = search rules

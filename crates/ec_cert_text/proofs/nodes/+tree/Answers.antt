@@ -5,9 +5,16 @@ use Rattle.ec_loads.specs.Shape.{leaf, tick}
 use Rattle.ec_cert.specs.declared.tree.Tree.{TickLeaf, the_lemmas}
 use Rattle.ec_cert.specs.Shapes.{shape_of}
 use Rattle.ec_cert_text.specs.Views.{at_view, tree_views}
-use Rattle.ec_cert_text.specs.Reading.{tree_at, many_from}
-use Rattle.ec_cert_text.proofs.ManyLemmas.{goes_on, ends}
+use Rattle.ec_cert_text.specs.Reading.{node_at, tree_at, many_from}
+use Rattle.ec_cert_text.proofs.ManyLemmas.{fails_as, goes_on, ends}
+use Rattle.ec_cert_text.proofs.NodeLaws.{tree_fails}
 use Rattle.ec_cert_text.proofs.nodes.+tree.Goals as goal
+
+pub tree_of-returns-in_err-node : goal.tree_of-returns-in_err-node
+tree_of-returns-in_err-node t c =
+    let p = err_from_is_err_and c.from_residual.result c.from_residual.ensures.1 in
+    let here = at_view c.args.place in
+    rw (p.1, p.2) (fails_as c.in_err-node.field-0.0 (node_at c.args.version c.args.levels here) (tree_at c.args.version c.args.levels here) (tree_fails c.args.version c.args.levels here) c.in_err-node.ensures.exact)
 
 pub trees_of-returns-in_err-tree : goal.trees_of-returns-in_err-tree
 trees_of-returns-in_err-tree t c =

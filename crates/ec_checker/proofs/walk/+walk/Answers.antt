@@ -23,7 +23,7 @@ returns-then-len-clause-judged t c =
     let other : length c.in-Split.trees.items ≡ length (kids rules args u) → ⊥ =
     λ e. c.if-len.true (here ∙ e ∙ sym places ∙ sym c.len-in-Some.ensures.value) in
     (λ j. Err (fault.Children c.args.number (want j) (got j)))
-    ∙ sym (split_wrong rules args c.args.value c.args.tree.now c.in-Split.trees c.args.order.now c.in-Some.later.now u c.args.number c.in-Split.is from other)
+    ∙ sym (split_wrong rules args c.args.value c.args.level c.args.tree.now c.in-Split.trees c.args.order.now c.in-Some.later.now u c.args.number c.in-Split.is from other)
 
 pub returns-in_default-clause-judged : goal.returns-in_default-clause-judged
 returns-in_default-clause-judged t c =
@@ -33,9 +33,9 @@ returns-in_default-clause-judged t c =
     let from = c.in-Some.ensures.cases.0 ∙ ap (λ w. w ∷ c.in-Some.later.now) (sym c.from-unit.ensures) in
     let places : length c.children_of-places.result ≡ length (kids rules args u) = ap length c.children_of-places.ensures in
     let count : length c.in-Split.trees.items ≡ length (kids rules args u) = omega (arith, c.if-len.false, c.len.ensures, c.len-in-Some.ensures.value, places) in
-    sym (no_more_children rules args c.args.value (drop c.loop-i.i c.in-Split.trees.items) u c.in-Some.later.now c.loop-i.places c.loop-i.at c.in_default.ensures.steps.0)
+    sym (no_more_children rules args c.args.value c.args.level (drop c.loop-i.i c.in-Split.trees.items) u c.in-Some.later.now c.loop-i.places c.loop-i.at c.in_default.ensures.steps.0)
     ∙ c.loop-i.invariant.judged
-    ∙ sym (split_is rules args c.args.value c.args.tree.now c.in-Split.trees c.args.order.now c.in-Some.later.now u c.args.number c.in-Split.is from count)
+    ∙ sym (split_is rules args c.args.value c.args.level c.args.tree.now c.in-Split.trees c.args.order.now c.in-Some.later.now u c.args.number c.in-Split.is from count)
 
 pub place-requires : goal.place-requires
 place-requires t c =
@@ -107,11 +107,11 @@ returns-in_err-at-in-Some-clause-judged t c =
     let places : length c.children_of-places.result ≡ length (kids rules args u) = ap length c.children_of-places.ensures in
     let count : length trees ≡ length (kids rules args u) = omega (arith, c.if-len.false, c.len.ensures, c.len-in-Some.ensures.value, places) in
     let made : c.place.new.self ≡ with_place args u (Some c.in-Some-next.place) = c.place.ensures ∙ ap (λ (w : Held). with_place w u (Some c.in-Some-next.place)) c.loop-i.invariant.same in
-    let rest : ℕ → Result ℕ CheckFault = λ j. judged_from rules args v (drop (i + 1) trees) u later c.next.new.self j in
+    let rest : ℕ → Result ℕ CheckFault = λ j. judged_from rules args v c.args.level (drop (i + 1) trees) u later c.next.new.self j in
     let whole =
-    split_is rules args v c.args.tree.now c.in-Split.trees c.args.order.now later u c.args.number c.in-Split.is from count
+    split_is rules args v c.args.level c.args.tree.now c.in-Split.trees c.args.order.now later u c.args.number c.in-Split.is from count
     ∙ sym c.loop-i.invariant.judged
-    ∙ child_step rules args c.place.new.self v trees u later c.loop-i.places c.next.new.self c.in-Some-next.place i c.loop-i.at c.index.result.now c.walk-child.result
+    ∙ child_step rules args c.place.new.self v c.args.level trees u later c.loop-i.places c.next.new.self c.in-Some-next.place i c.loop-i.at c.index.result.now c.walk-child.result
     (omega (arith, c.loop-i-test.true, c.len-i-end.ensures)) c.index.ensures c.in-Some-next.ensures.steps made c.walk-child.ensures.judged
     ∙ ap (λ w. then_judged w rest) c.in_err-at-in-Some.was in
     let p = err_from_is_err_and c.from_residual.result c.from_residual.ensures.1 in
@@ -129,7 +129,7 @@ loop-i-preserved t c =
     let at = c.loop-i.invariant.same in
     let ready = ready_at args.places c.args.order.now later c.in-Some.unit.now u c.requires.ready c.in-Some.ensures.cases.0 c.from-unit.ensures in
     let made : c.place.new.self ≡ with_place args u (Some c.in-Some-next.place) = c.place.ensures ∙ ap (λ (w : Held). with_place w u (Some c.in-Some-next.place)) at in
-    let rest : ℕ → Result ℕ CheckFault = λ j. judged_from rules args v (drop (i + 1) trees) u later c.next.new.self j in
+    let rest : ℕ → Result ℕ CheckFault = λ j. judged_from rules args v c.args.level (drop (i + 1) trees) u later c.next.new.self j in
     record {
       same =
           restored c.loop-i.loads c.place.new.self c.walk-child.new.loads c.remove.new.self u c.in-Some-next.place
@@ -137,7 +137,7 @@ loop-i-preserved t c =
           ∙ at;
       left = rest_follows c.walk-child.new.loads c.remove.new.self c.walk-child.new.rest c.unplaced.new.self u None c.walk-child.ensures.left c.remove.ensures c.unplaced.ensures;
       judged =
-          sym (child_step rules args c.place.new.self v trees u later c.loop-i.places c.next.new.self c.in-Some-next.place i c.loop-i.at c.index.result.now c.walk-child.result
+          sym (child_step rules args c.place.new.self v c.args.level trees u later c.loop-i.places c.next.new.self c.in-Some-next.place i c.loop-i.at c.index.result.now c.walk-child.result
           (omega (arith, c.loop-i-test.true, c.len-i-end.ensures)) c.index.ensures c.in-Some-next.ensures.steps made c.walk-child.ensures.judged
           ∙ ap (λ w. then_judged w rest) c.in_ok-at-in-Some.was)
           ∙ c.loop-i.invariant.judged;
@@ -152,6 +152,6 @@ returns-after-loop-i-clause-judged t c =
     let from = c.in-Some.ensures.cases.0 ∙ ap (λ w. w ∷ c.in-Some.later.now) (sym c.from-unit.ensures) in
     let places : length c.children_of-places.result ≡ length (kids rules args u) = ap length c.children_of-places.ensures in
     let count : length trees ≡ length (kids rules args u) = omega (arith, c.if-len.false, c.len.ensures, c.len-in-Some.ensures.value, places) in
-    sym (no_more_trees rules args c.args.value trees u c.in-Some.later.now c.loop-i.places c.loop-i.i c.loop-i.at (omega (arith, c.loop-i-test.false, c.len-i-end.ensures)))
+    sym (no_more_trees rules args c.args.value c.args.level trees u c.in-Some.later.now c.loop-i.places c.loop-i.i c.loop-i.at (omega (arith, c.loop-i-test.false, c.len-i-end.ensures)))
     ∙ c.loop-i.invariant.judged
-    ∙ sym (split_is rules args c.args.value c.args.tree.now c.in-Split.trees c.args.order.now c.in-Some.later.now u c.args.number c.in-Split.is from count)
+    ∙ sym (split_is rules args c.args.value c.args.level c.args.tree.now c.in-Split.trees c.args.order.now c.in-Some.later.now u c.args.number c.in-Split.is from count)

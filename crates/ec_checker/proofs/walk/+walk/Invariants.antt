@@ -13,5 +13,5 @@ invariant-loop-i l =
     record {
       same : l.loads ≡ l.initial.loads;
       left : IsRestOf l.rest l.loads;
-      judged : judged_from (rules_if l.turned) l.initial.loads l.value (drop l.i l.trees.items) l.unit l.later l.places l.at ≡ judged_from (rules_if l.turned) l.initial.loads l.value l.trees.items l.unit l.later (kids (rules_if l.turned) l.initial.loads l.unit) (next l.number);
+      judged : judged_from (rules_if l.turned) l.initial.loads l.value l.level (drop l.i l.trees.items) l.unit l.later l.places l.at ≡ judged_from (rules_if l.turned) l.initial.loads l.value l.level l.trees.items l.unit l.later (kids (rules_if l.turned) l.initial.loads l.unit) (next l.number);
     }

@@ -50,3 +50,9 @@ returns-in-None-cert-4 g c = tells_more (λ w h. rw (c.in-Play.is, c.in-None-cer
   h,
   elim (option_cases c.args.out) [ inl e ↦ rw e refl | inr p ↦ rw p.1 refl ],
 )) c.run_played.ensures
+
+pub returns-in-Some-cert-5 : goal.returns-in-Some-cert-5
+returns-in-Some-cert-5 g c = tells_more (λ w h. rw (c.in-PlanCost.is, c.in-Some-cert-5.is) (
+  h,
+  elim (option_cases c.args.out) [ inl e ↦ rw e refl | inr p ↦ rw p.1 refl ],
+)) c.run_planned_cost.ensures

@@ -2,7 +2,7 @@ use Rattle.std.proofs.Common.{inl, inr, refl}
 use Rattle.ec_jobs.proofs.RunLemmas.{tells_more}
 use Rattle.ec_jobs.proofs.TellLemmas.{option_cases}
 use Rattle.ec_jobs.proofs.running.run.Goals as goal
-use Rattle.ec_jobs.proofs.running.run.Goals.{in-Some-cert-3, in-None-cert-3}
+use Rattle.ec_jobs.proofs.running.run.Goals.{in-Some-cert-3, in-None-cert-3, in-Some-out-2, in-None-out-2}
 
 pub returns-in-Cost : goal.returns-in-Cost
 returns-in-Cost g c = tells_more (λ w h. rw c.in-Cost.is (
@@ -62,3 +62,16 @@ returns-in-None-cert-5 g c = tells_more (λ w h. rw (c.in-Play.is, c.in-None-cer
   h,
   elim (option_cases c.args.out) [ inl e ↦ rw e refl | inr p ↦ rw p.1 refl ],
 )) c.run_played.ensures
+
+pub returns-in-Some-cert-6 : goal.returns-in-Some-cert-6
+returns-in-Some-cert-6 g c = tells_more (λ w h. rw (c.in-PlanCost.is, c.in-Some-cert-6.is) (
+  h,
+  elim (option_cases c.args.out) [ inl e ↦ rw e refl | inr p ↦ rw p.1 refl ],
+)) c.run_planned_cost.ensures
+
+pub returns-after-out-3 : goal.returns-after-out-3
+returns-after-out-3 g c =
+    elim c.match-out-3.branch [
+      | in-Some-out-2 w ↦ rw (w.units-is, w.cert-is, w.text-is, w.out-is, w.result-is) (tells_more (λ x h. rw (c.in-Resume.is, c.in-Some-cert-7.is, w.in-Some-out-2.is) h) w.run_resume_to.ensures)
+      | in-None-out-2 w ↦ rw (w.units-is, w.cert-is, w.text-is, w.out-is, w.result-is) (tells_more (λ x h. rw (c.in-Resume.is, c.in-Some-cert-7.is, w.in-None-out-2.is) h) w.run_resume.ensures)
+    ]

@@ -1,5 +1,5 @@
-use Rattle.ec_workers.specs.Answers.{asked_for}
+use Rattle.ec_workers.specs.Answers.{asked_beyond}
 use Rattle.ec_workers.proofs.crewed.outcome_of.Goals as goal
 
 pub returns-then-is_closed-clause-outcome : goal.returns-then-is_closed-clause-outcome
-returns-then-is_closed-clause-outcome c = λ workers some. c.proved.ensures (asked_for workers c.args.nodes)
+returns-then-is_closed-clause-outcome c = λ workers given some nodes. c.proved.ensures.outcome (asked_beyond workers c.args.nodes given)

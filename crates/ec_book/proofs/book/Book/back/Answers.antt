@@ -1,7 +1,9 @@
 use Rattle.std.proofs.Common.{arith, refl, rules}
 use Rattle.ec_loads.specs.Line.{turned_time, line_by}
+use Rattle.ec_cert.specs.Shapes.{shape_of}
 use Rattle.ec_book.specs.declared.piece.Piece.TheVariants.{Free, Taken}
 use Rattle.ec_cert.specs.BestPlan.{value_of}
+use Rattle.ec_book.specs.Steps.{start}
 use Rattle.ec_book.proofs.HistoryLemmas.{granted-le, taken-le}
 use Rattle.ec_book.proofs.PieceLemmas.{within}
 use Rattle.ec_book.proofs.KeepLemmas.{counted-back, grown-set}
@@ -41,9 +43,9 @@ invariant_of-self c =
     rw (c.from.ensures, c.min-self-inside.ensures, c.push_reserved.ensures.capacity) (record {
       for = inv.for;
       counted =
-          counted-back b.nodes b.pieces.items (value_of b.best) b.spent b.held b.taken b.low b.log.items _ inv.counted c.args.worker c.args.piece c.in-Ok.grant
+          counted-back (start (shape_of b.given) b.given_value) b.nodes b.pieces.items (value_of b.best) b.spent b.held b.taken b.low b.log.items _ inv.counted c.args.worker c.args.piece c.in-Ok.grant
           c.push_reserved.new.self.items at c.push_reserved.ensures.items;
-      grown = grown-set (line_by turned_time b.loads.loads b.loads.slots) b.order.items b.pieces.items b.prefixes.items b.reports.items (value_of b.best) b.spent inv.grown c.args.piece (Taken c.args.worker c.in-Ok.grant) Free at refl;
+      grown = grown-set (shape_of b.given) (line_by turned_time b.loads.loads b.loads.slots) b.order.items b.pieces.items b.prefixes.items b.reports.items (value_of b.best) b.spent inv.grown c.args.piece (Taken c.args.worker c.in-Ok.grant) Free at refl;
     })
 
 pub returns-clause-ok : goal.returns-clause-ok

@@ -1,12 +1,12 @@
-use Rattle.std.proofs.Common.{◌≡◌, refl, sym, ◌∙◌, zero-add}
+use Rattle.std.proofs.Common.{◌≡◌, refl}
 use Rattle.ec_loads.specs.Line.{turned_time, line_by}
 use Rattle.ec_cert.specs.Shapes.{shape_of}
 use Rattle.ec_cert.specs.BestPlan.{value_of}
-use Rattle.ec_book.specs.Numbered.{gap, plain}
+use Rattle.ec_book.specs.Numbered.{numbered, plain}
 use Rattle.ec_book.specs.Grown.{grown}
 use Rattle.ec_book.specs.Steps.{start}
 use Rattle.ec_book.proofs.HistoryLemmas.{history-replays}
-use Rattle.ec_book.proofs.FinishLemmas.{drawn, drawn-partial, drawn-nodes, drawn-open, drawn-closed}
+use Rattle.ec_book.proofs.FinishLemmas.{drawn, drawn-partial, drawn-nodes, drawn-open, drawn-closed, drawn-extends}
 use Rattle.ec_book.proofs.book.Book.finish.Goals as goal
 
 pub returns-clause-ok : goal.returns-clause-ok
@@ -18,20 +18,22 @@ returns-clause-ok c =
     let prefixes = b.prefixes.items in
     let reports = b.reports.items in
     let value = value_of b.best in
+    let given = shape_of b.given in
     let made = c.self.invariant.grown in
     let past = c.self.invariant.counted.history in
     let shape = shape_of c.assembled-tree.result in
-    let is : shape ≡ plain (grown (gap 0) reports) = drawn line order pieces prefixes reports value b.spent made c.len.result _ _ c.assembled-tree.ensures c.in-Ok.ensures in
+    let is : shape ≡ plain (grown (numbered 0 given) reports) = drawn given line order pieces prefixes reports value b.spent made c.len.result _ _ c.assembled-tree.ensures c.in-Ok.ensures in
     rw (← c.self.view_is) (record {
       best = refl;
       legal = c.self.invariant.for.best_is;
-      tree = drawn-partial line order pieces prefixes reports value b.spent made shape is;
-      closed = drawn-closed line order pieces prefixes reports value b.spent made shape is;
-      pieces = (grown (gap 0) reports, is, made.pieces_are, made.tree);
-      live = drawn-open line order pieces prefixes reports value b.spent made shape is;
+      tree = drawn-partial given line order pieces prefixes reports value b.spent made shape is;
+      closed = drawn-closed given line order pieces prefixes reports value b.spent made shape is;
+      pieces = (grown (numbered 0 given) reports, is, made.pieces_are, made.tree);
+      live = drawn-open given line order pieces prefixes reports value b.spent made shape is;
       spent = refl;
-      nodes = drawn-nodes line order pieces prefixes reports value b.spent made shape is ∙ sym (zero-add b.spent);
+      nodes = drawn-nodes given line order pieces prefixes reports value b.spent made shape is;
       log = c.new.ensures;
       history = rw c.new.ensures past;
-      replayed = rw c.new.ensures (history-replays b.nodes start b.log.items (record { pieces = pieces; value = value; spent = b.spent }) past);
+      replayed = rw c.new.ensures (history-replays b.nodes (start given b.given_value) b.log.items (record { pieces = pieces; value = value; spent = b.spent }) past);
+      extends = drawn-extends given line order pieces prefixes reports value b.spent made shape is;
     })

@@ -1,8 +1,9 @@
 use Rattle.std.proofs.Common.{◌≡◌, ◌<◌, ◌+◌, ◌-◌, arith, refl, vec_capacity, slice_get, Some}
 use Rattle.ec_loads.specs.Line.{turned_time, line_by}
+use Rattle.ec_cert.specs.Shapes.{shape_of}
 use Rattle.ec_book.specs.declared.piece.Piece.TheVariants.{Free, Taken}
 use Rattle.ec_cert.specs.BestPlan.{value_of}
-use Rattle.ec_book.specs.Steps.{granted}
+use Rattle.ec_book.specs.Steps.{start, granted}
 use Rattle.ec_book.proofs.KeepLemmas.{counted-took, grown-set}
 use Rattle.ec_book.proofs.book.Book.hand_out.Goals as goal
 
@@ -20,9 +21,9 @@ invariant_of-self-2 c =
     rw c.from-2.ensures (record {
       for = inv.for;
       counted =
-          counted-took b.nodes b.pieces.items (value_of b.best) b.spent b.held b.taken b.low b.log.items _ inv.counted c.args.worker p g
+          counted-took (start (shape_of b.given) b.given_value) b.nodes b.pieces.items (value_of b.best) b.spent b.held b.taken b.low b.log.items _ inv.counted c.args.worker p g
           (vec_capacity c.push_reserved.new.self) c.push_reserved.new.self.items at
           (omega (arith, c.min-grant.ensures, c.from.ensures, some, left, c.requires.some)) (omega (arith, c.min-grant.ensures, left, counted.held_is)) log_is
           (omega (arith, c.in-Ok-reserve.ensures.ok, c.in-Some.ensures.1, c.push_reserved.ensures.capacity, c.reserve.ensures.len, b.log.ok.0));
-      grown = grown-set (line_by turned_time b.loads.loads b.loads.slots) b.order.items b.pieces.items b.prefixes.items b.reports.items (value_of b.best) b.spent inv.grown p Free (Taken c.args.worker g) at refl;
+      grown = grown-set (shape_of b.given) (line_by turned_time b.loads.loads b.loads.slots) b.order.items b.pieces.items b.prefixes.items b.reports.items (value_of b.best) b.spent inv.grown p Free (Taken c.args.worker g) at refl;
     })

@@ -6,6 +6,7 @@ use Rattle.ec_book.specs.declared.piece.Piece.TheVariants.{Free, Taken, Ended}
 use Rattle.ec_symmetry.specs.Orders.{prefix_of}
 use Rattle.ec_book.specs.Open.{AreOpened}
 use Rattle.ec_cert.specs.BestPlan.{value_of}
+use Rattle.ec_book.specs.Steps.{start}
 use Rattle.ec_book.specs.Views.{book_view}
 use Rattle.ec_book.specs.Faults.{IsWelcome, IsReportFault}
 use Rattle.ec_book.proofs.HistoryLemmas.{granted-le, taken-le}
@@ -28,7 +29,7 @@ returns-in-Err-add_opened-clause-err c =
     let sub = c.args.counted.sub in
     let welcome : IsWelcome b.pieces.items b.prefixes.items (value_of b.best) c.args.worker c.args.piece c.args.prefix.now sub.threshold (node_count (shape_of sub.tree)) c.in-Ok.grant =
     rw (c.as_slice-pieces.ensures.value, c.as_slice-prefixes.ensures.value, c.value_in-value.ensures) at c.in-Ok.ensures.ok in
-    rw (← c.self.view_is) ((c.in-Ok.grant, welcome), refl, λ j. book_view b.loads.loads b.loads.slots b.order.items b.nodes (c.in-Err-add_opened.ensures.same.0 j) (c.in-Err-add_opened.ensures.kept j) b.best b.spent b.log.items)
+    rw (← c.self.view_is) ((c.in-Ok.grant, welcome), refl, λ j. book_view b.loads.loads b.loads.slots b.order.items b.nodes (c.in-Err-add_opened.ensures.same.0 j) (c.in-Err-add_opened.ensures.kept j) b.best b.spent b.log.items (shape_of b.given) b.given_value)
 
 pub push_reserved-requires : goal.push_reserved-requires
 push_reserved-requires c =
@@ -108,9 +109,9 @@ invariant_of-self-2 c =
     rw (c.from.ensures, c.push_reserved.ensures.capacity) (record {
       for = inv.for;
       counted =
-          counted-report b.nodes b.pieces.items (value_of b.best) b.spent b.held b.taken b.low b.log.items _ inv.counted c.args.worker p g k first count
+          counted-report (start (shape_of b.given) b.given_value) b.nodes b.pieces.items (value_of b.best) b.spent b.held b.taken b.low b.log.items _ inv.counted c.args.worker p g k first count
           c.add_free.new.pieces.items c.push_reserved.new.self.items welcome.held some few first_is pieces_are c.push_reserved.ensures.items;
       grown =
-          grown-report line order b.pieces.items b.prefixes.items b.reports.items (value_of b.best) b.spent inv.grown p c.args.worker g k count q sub.threshold sub.tree
+          grown-report (shape_of b.given) line order b.pieces.items b.prefixes.items b.reports.items (value_of b.best) b.spent inv.grown p c.args.worker g k count q sub.threshold sub.tree
           c.add_free.new.pieces.items c.add_opened.new.prefixes.items c.push_reserved-2.new.self.items welcome.held welcome.place welcome.ahead partial c.in-Ok.ensures.nodes more.0 pieces_are more.1 reports_are;
     })

@@ -1,0 +1,8 @@
+use Rattle.ec_answers.proofs.PlanLemmas.{front_kept}
+use Rattle.ec_answers.proofs.plan.certified.Goals as goal
+
+pub returns-in_err-answer-clause-front : goal.returns-in_err-answer-clause-front
+returns-in_err-answer-clause-front g c = front_kept g.O.Write.contents c.args.out.now _
+
+pub returns-in_err-cert-clause-front : goal.returns-in_err-cert-clause-front
+returns-in_err-cert-clause-front g c = front_kept g.O.Write.contents c.args.out.now _

@@ -1,0 +1,147 @@
+-- The level at an open leaf, and the greatest one of all open leaves.
+use Rattle.std.proofs.Common.{◌≡◌, ◌↔◌, ℕ, ◌+◌, ◌<◌, ◌≤◌, min, max, is_some, MatchOption, List, [], ◌∷◌, length, set, drop, get_or, Option, Some, None, Vec, Global, refl, ap, sym, subst, ◌∙◌, inl, inr, arith, rules}
+use Rattle.std.proofs.lemmas.Bool.{cases_lt, false_from_ne_true}
+use Rattle.std.proofs.lemmas.List.{drop_all}
+use Rattle.ec_units.specs.declared.slave.Place.{Place}
+use Rattle.ec_units.specs.declared.unit.Load.{Load}
+use Rattle.ec_loads.specs.Cost.{IsFirstBusiest}
+use Rattle.ec_loads.specs.Held.{Held, AreLoads, items_of, no_places}
+use Rattle.ec_loads.specs.Line.{Line, turned_time, line_of, line_by}
+use Rattle.ec_loads.specs.Search.{Prefix, children, TickHolds, AverageHolds, LevelHolds, TreesWith, IsPartialTree, IsAtMost}
+use Rattle.ec_loads.specs.Shape.{Shape, Shapes, split, open_leaf, no_shapes, more}
+use Rattle.ec_bounds.proofs.HeldLemmas.{with_place}
+use Rattle.ec_cert.specs.declared.tree.Tree.{Tree, Split, OpenLeaf, the_lemmas}
+use Rattle.ec_cert.specs.Shapes.{shape_of, shapes_of}
+use Rattle.ec_cert.proofs.TreeLemmas.{shape_of-Split, shapes_of-drop}
+use Rattle.ec_checker.specs.Judged.{tick_reaches}
+use Rattle.ec_checker.specs.Levels.{IsGreatestLevel, IsLowered}
+use Rattle.ec_checker.proofs.FoundLemmas.{reaches_from, reaches_to}
+
+-- ---- the test of an open leaf
+
+-- some tick is found, or none
+abbrev pub TickFound : Line → ℕ → Prefix → Option ℕ → Type 0
+TickFound line l ps found =
+    MatchOption found ((t : ℕ) → ¬ (TickHolds line.loads line.slots (Some l) ps t))
+    (λ t. TickHolds line.loads line.slots (Some l) ps t × ((i : ℕ) → i < t → ¬ (TickHolds line.loads line.slots (Some l) ps i)))
+
+reaches_same : (line : Line) (l : ℕ) (ps : Prefix) (found : Option ℕ) → AreLoads line.loads → TickFound line l ps found → is_some found ≡ tick_reaches line.loads line.slots l ps
+reaches_same line l ps None within none = sym (false_from_ne_true (tick_reaches line.loads line.slots l ps) (λ e. let h = reaches_from line l ps e in none h.0 h.1))
+reaches_same line l ps (Some t) within tells = sym (reaches_to line l ps within t tells.0)
+
+-- what is found at a number that is the level
+pub reaches_is : (line : Line) (l given : ℕ) (ps : Prefix) (found : Option ℕ) → AreLoads line.loads → given ≡ l → TickFound line given ps found → is_some found ≡ tick_reaches line.loads line.slots l ps
+reaches_is line l given ps found within same tells = reaches_same line l ps found within (subst (λ w. TickFound line w ps found) same tells)
+
+-- the greatest level at an open leaf
+pub open_most : (held : Held) (top at mean r : ℕ) → IsFirstBusiest (items_of held) held.slots top at → ((b : ℕ) → (b ≤ mean) ↔ AverageHolds held.loads held.slots (Some b) held.places) → r ≡ max top mean
+    → (m : ℕ) → (m ≤ r) ↔ LevelHolds (line_of turned_time held) (Some m) held.places
+open_most held top at mean r busiest all is m = (
+  λ low. elim (cases_lt top m) [
+    | inr under ↦ inl (at, (m, refl, omega (arith, under, busiest.reached)))
+    | inl above ↦ inr ((all m).0 (omega (arith, low, is, above)))
+  ],
+  λ (holds : LevelHolds (line_of turned_time held) (Some m) held.places). elim holds [
+    | inl h ↦ let e : m ≡ h.1.0 = cc in let most = busiest.busiest.most h.0 in omega (arith, e, h.1.2, most, is)
+    | inr h ↦ let low = (all m).1 h in omega (arith, low, is)
+  ],
+)
+
+-- ---- the walk over the open leaves
+
+-- the same of trees for children
+abbrev pub AreLowered : Line → Shapes → Prefix → ℕ → List ℕ → List Place → ℕ → ℕ → Type 0
+AreLowered line ss ps u order places most least =
+    (v : Option ℕ) → TreesWith (λ _ _. Unit {0}) line v ss ps u order places → (m : ℕ) → ((m ≤ least) ↔ ((m ≤ most) × TreesWith (λ qs _. LevelHolds line (Some m) qs) line v ss ps u order places))
+
+abbrev pub lowered_from : Held → List Tree → ℕ → List ℕ → List Place → ℕ → ℕ → Type 0
+lowered_from held ts u order places most least = AreLowered (line_of turned_time held) (shapes_of ts) held.places u order places most least
+
+abbrev pub turned_kids : Held → ℕ → List Place
+turned_kids held u = children (line_of turned_time held) held.places u
+
+-- what holds from here on gives what holds from the start
+abbrev pub Lowers : Held → List Tree → ℕ → List ℕ → List Place → ℕ → ℕ → ℕ → Type 0
+Lowers held trees u order places i level so_far =
+    (least : ℕ) → lowered_from held (drop i trees) u order places so_far least → lowered_from held trees u order (turned_kids held u) level least
+
+one_more : (line : Line) (s : Shape) (ss : Shapes) (ps : Prefix) (u : ℕ) (order : List ℕ) (p : Place) (rest : List Place) (most so_far least : ℕ) → IsLowered line s (set ps u (Some p)) order most so_far → AreLowered line ss ps u order rest so_far least → AreLowered line (more s ss) ps u order (p ∷ rest) most least
+one_more line s ss ps u order p rest most so_far least one two v h m = (
+  λ low. let b = (two v h.1 m).0 low in let a = (one v h.0 m).0 b.0 in (a.0, (a.1, b.1)),
+  λ q. (two v h.1 m).1 ((one v h.0 m).1 (q.0, q.1.0), q.1.1),
+)
+
+-- one more child, to which what is so far is given
+pub lowered_step : (held placed : Held) (ts : List Tree) (u : ℕ) (order : List ℕ) (ps rest : List Place) (p : Place) (i most given so_far least : ℕ) (t : Tree) → i < length ts → t ≡ get_or ts i t → ps ≡ p ∷ rest → placed ≡ with_place held u (Some p) → given ≡ most
+    → IsLowered (line_of turned_time placed) (shape_of t) placed.places order given so_far → lowered_from held (drop (i + 1) ts) u order rest so_far least → lowered_from held (drop i ts) u order ps most least
+lowered_step held placed ts u order ps rest p i most given so_far least t h is first made same one two =
+    let line = line_of turned_time held in
+    let here : IsLowered line (shape_of (get_or ts i t)) (set held.places u (Some p)) order most so_far =
+    subst (λ x. IsLowered line (shape_of x) (set held.places u (Some p)) order most so_far) is
+    (subst (λ (w : Held). IsLowered (line_of turned_time w) (shape_of t) w.places order most so_far) made
+    (subst (λ w. IsLowered (line_of turned_time placed) (shape_of t) placed.places order w so_far) same one)) in
+    subst (λ w. lowered_from held (drop i ts) u order w most least) (sym first)
+    (subst (λ s. AreLowered line s held.places u order (p ∷ rest) most least) (sym (shapes_of-drop ts i t h))
+    (one_more line (shape_of (get_or ts i t)) (shapes_of (drop (i + 1) ts)) held.places u order p rest most so_far least here two))
+
+none_left : (line : Line) (ss : Shapes) (ps : Prefix) (u : ℕ) (order : List ℕ) (most : ℕ) → AreLowered line ss ps u order [] most most
+none_left line no_shapes ps u order most v h m = (λ low. (low, tt), λ q. q.0)
+none_left line (more s ss) ps u order most v h m = absurd h
+
+no_trees_left : (line : Line) (ps : Prefix) (u : ℕ) (order : List ℕ) (places : List Place) (most : ℕ) → AreLowered line no_shapes ps u order places most most
+no_trees_left line ps u order [] most v h m = (λ low. (low, tt), λ q. q.0)
+no_trees_left line ps u order (p ∷ rest) most v h m = absurd h
+
+-- no child is left
+pub lowered_no_child : (held : Held) (ts : List Tree) (u : ℕ) (order : List ℕ) (ps : List Place) (most : ℕ) → ps ≡ [] → lowered_from held ts u order ps most most
+lowered_no_child held ts u order ps most e =
+    subst (λ w. lowered_from held ts u order w most most) (sym e) (none_left (line_of turned_time held) (shapes_of ts) held.places u order most)
+
+-- no tree is left
+pub lowered_no_tree : (held : Held) (ts : List Tree) (u : ℕ) (order : List ℕ) (ps : List Place) (i most : ℕ) → length ts ≤ i → lowered_from held (drop i ts) u order ps most most
+lowered_no_tree held ts u order ps i most h =
+    subst (λ w. lowered_from held w u order ps most most) (sym (drop_all i ts h)) (no_trees_left (line_of turned_time held) held.places u order ps most)
+
+-- a split, by its trees
+pub lowered_split : (held : Held) (tree : Tree) (trees : Vec Tree Global) (order later : List ℕ) (u most least : ℕ) → tree ≡ Split trees → order ≡ u ∷ later → lowered_from held trees.items u later (turned_kids held u) most least
+    → IsLowered (line_of turned_time held) (shape_of tree) held.places order most least
+lowered_split held tree trees order later u most least is from all =
+    let line = line_of turned_time held in
+    let whole : shape_of tree ≡ split (shapes_of trees.items) = ap shape_of is ∙ shape_of-Split trees in
+    let own : IsLowered line (split (shapes_of trees.items)) held.places (u ∷ later) most least = all in
+    subst (λ s. IsLowered line s held.places order most least) (sym whole) (subst (λ w. IsLowered line (split (shapes_of trees.items)) held.places w most least) (sym from) own)
+
+-- an open leaf lowers the level to its own
+pub lowered_open : (held : Held) (tree : Tree) (order : List ℕ) (most own least : ℕ) → shape_of tree ≡ open_leaf → ((m : ℕ) → (m ≤ own) ↔ LevelHolds (line_of turned_time held) (Some m) held.places) → least ≡ min most own
+    → IsLowered (line_of turned_time held) (shape_of tree) held.places order most least
+lowered_open held tree order most own least is all low =
+    let line = line_of turned_time held in
+    let here : IsLowered line open_leaf held.places order most least =
+    λ v h m. (λ under. (omega (arith, under, low), (all m).0 (omega (arith, under, low))), λ q. let own_low = (all m).1 q.1 in omega (arith, q.0, own_low, low)) in
+    subst (λ s. IsLowered line s held.places order most least) (sym is) here
+
+pub shape_of-OpenLeaf : shape_of OpenLeaf ≡ open_leaf
+shape_of-OpenLeaf = search (rules, the_lemmas)
+
+-- ---- the greatest level of a tree
+
+-- a level that is at most so many is one that isn't above the value
+abbrev IsMost : Option ℕ → ℕ → Type 0
+IsMost v most = (m : ℕ) → ((m ≤ most) ↔ ((m ≤ 12304) × IsAtMost (Some m) v))
+
+-- the lowest level of its open leaves, up to the greatest that one can be, is the greatest that the tree shows
+pub greatest_of : (line : Line) (v : Option ℕ) (tree : Shape) (order : List ℕ) (most least : ℕ) → IsPartialTree line v tree (no_places line.loads) order → IsMost v most → IsLowered line tree (no_places line.loads) order most least → IsGreatestLevel line v tree order least
+greatest_of line v tree order most least partial is lowered =
+    let own = (lowered v partial.0 least).0 (omega arith) in
+    let at = (is least).0 own.0 in
+    record {
+      range = at.0;
+      shows = (at.1, own.1);
+      greatest = λ m within shows. (lowered v partial.0 m).1 ((is m).1 (within, shows.0), shows.1);
+    }
+
+-- over loads that hold no place
+pub greatest_from : (loads : List Load) (n : ℕ) (held : Held) (v : Option ℕ) (tree : Shape) (order : List ℕ) (most least : ℕ) → held ≡ record { loads = loads; slots = n; places = no_places loads } → IsPartialTree (line_by turned_time loads n) v tree (no_places loads) order → IsMost v most → IsLowered (line_of turned_time held) tree held.places order most least
+    → IsGreatestLevel (line_by turned_time loads n) v tree order least
+greatest_from loads n held v tree order most least at partial is lowered =
+    greatest_of (line_by turned_time loads n) v tree order most least partial is (subst (λ (h : Held). IsLowered (line_of turned_time h) tree h.places order most least) at lowered)

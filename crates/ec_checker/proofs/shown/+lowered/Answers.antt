@@ -1,0 +1,101 @@
+use Rattle.std.proofs.Common.{◌≡◌, ◌<◌, ◌∷◌, length, slice_get, Some, None, ap, sym, subst, ◌∙◌, arith, refl}
+use Rattle.std.proofs.lemmas.Grind.{common_steps}
+use Rattle.std.proofs.lemmas.Option.{slice_get_within}
+use Rattle.ec_loads.specs.Held.{Held}
+use Rattle.ec_bounds.proofs.HeldLemmas.{with_place, restored, rest_follows, flags_count, still_within}
+use Rattle.ec_cert.specs.Shapes.{shape_of}
+use Rattle.ec_checker.specs.Judged.{IsReady}
+use Rattle.ec_checker.proofs.LevelLemmas.{lowered_from, lowered_step, lowered_no_child, lowered_no_tree, lowered_split, lowered_open, shape_of-OpenLeaf}
+use Rattle.ec_checker.proofs.WalkLemmas.{ready_at}
+use Rattle.ec_checker.proofs.shown.+lowered.Goals as goal
+
+pub loop-i-init : goal.loop-i-init
+loop-i-init t c =
+    let args = c.args.loads.now in
+    record {
+      same = refl;
+      left = c.requires.left;
+      lowers = λ least all. subst (λ w. lowered_from args c.in-Split.trees.items c.from-unit.result c.in-Some.later.now w c.args.level least) c.children_of-places.ensures all;
+    }
+
+pub returns-in_default-clause-lowered : goal.returns-in_default-clause-lowered
+returns-in_default-clause-lowered t c =
+    let args = c.args.loads.now in
+    let from = c.in-Some.ensures.cases.0 ∙ ap (λ w. w ∷ c.in-Some.later.now) (sym c.from-unit.ensures) in
+    lowered_split args c.args.tree.now c.in-Split.trees c.args.order.now c.in-Some.later.now c.from-unit.result c.args.level c.loop-i.least c.in-Split.is from
+    (c.loop-i.invariant.lowers c.loop-i.least (lowered_no_child args _ c.from-unit.result c.in-Some.later.now c.loop-i.places c.loop-i.least c.in_default.ensures.steps.0))
+
+pub place-requires : goal.place-requires
+place-requires t c =
+    let args = c.args.loads.now in
+    let u = c.from-unit.result in
+    let ready = ready_at args.places c.args.order.now c.in-Some.later.now c.in-Some.unit.now u c.requires.ready c.in-Some.ensures.cases.0 c.from-unit.ensures in
+    subst (λ (w : Held). u < length w.places) (sym c.loop-i.invariant.same) (slice_get_within args.places u None ready.0)
+
+pub placed-requires : goal.placed-requires
+placed-requires t c =
+    let args = c.args.loads.now in
+    let u = c.from-unit.result in
+    let ready = ready_at args.places c.args.order.now c.in-Some.later.now c.in-Some.unit.now u c.requires.ready c.in-Some.ensures.cases.0 c.from-unit.ensures in
+    let within = subst (λ (w : Held). u < length w.places) (sym c.loop-i.invariant.same) (slice_get_within args.places u None ready.0) in
+    subst (λ w. u < w) (sym (flags_count c.loop-i.loads c.loop-i.rest c.loop-i.invariant.left)) within
+
+pub lowered-least-requires : goal.lowered-least-requires
+lowered-least-requires t c =
+    let args = c.args.loads.now in
+    let u = c.from-unit.result in
+    let p = c.in-Some-next.place in
+    let ready = ready_at args.places c.args.order.now c.in-Some.later.now c.in-Some.unit.now u c.requires.ready c.in-Some.ensures.cases.0 c.from-unit.ensures in
+    let made : c.place.new.self ≡ with_place args u (Some p) = c.place.ensures ∙ ap (λ (w : Held). with_place w u (Some p)) c.loop-i.invariant.same in
+    let shorter : length c.args.order.now ≡ length (c.in-Some.unit.now ∷ c.in-Some.later.now) = ap length c.in-Some.ensures.cases.0 in
+    (omega (arith, shorter), (subst (λ (w : Held). IsReady w.places c.in-Some.later.now) (sym made) (ready.1 p), rest_follows c.loop-i.loads c.place.new.self c.loop-i.rest c.placed.new.self u (Some p) c.loop-i.invariant.left c.place.ensures c.placed.ensures))
+
+pub remove-requires : goal.remove-requires
+remove-requires t c =
+    let args = c.args.loads.now in
+    let u = c.from-unit.result in
+    let ready = ready_at args.places c.args.order.now c.in-Some.later.now c.in-Some.unit.now u c.requires.ready c.in-Some.ensures.cases.0 c.from-unit.ensures in
+    let within = subst (λ (w : Held). u < length w.places) (sym c.loop-i.invariant.same) (slice_get_within args.places u None ready.0) in
+    still_within c.loop-i.loads c.lowered-least.new.loads u (Some c.in-Some-next.place) within (c.lowered-least.ensures.same ∙ c.place.ensures)
+
+pub unplaced-requires : goal.unplaced-requires
+unplaced-requires t c =
+    let args = c.args.loads.now in
+    let u = c.from-unit.result in
+    let ready = ready_at args.places c.args.order.now c.in-Some.later.now c.in-Some.unit.now u c.requires.ready c.in-Some.ensures.cases.0 c.from-unit.ensures in
+    let within = subst (λ (w : Held). u < length w.places) (sym c.loop-i.invariant.same) (slice_get_within args.places u None ready.0) in
+    let still = still_within c.loop-i.loads c.lowered-least.new.loads u (Some c.in-Some-next.place) within (c.lowered-least.ensures.same ∙ c.place.ensures) in
+    subst (λ w. u < w) (sym (flags_count c.lowered-least.new.loads c.lowered-least.new.rest c.lowered-least.ensures.left)) still
+
+pub loop-i-preserved : goal.loop-i-preserved
+loop-i-preserved t c =
+    let args = c.args.loads.now in
+    let u = c.from-unit.result in
+    let later = c.in-Some.later.now in
+    let trees = c.in-Split.trees.items in
+    let i = c.loop-i.i in
+    let at = c.loop-i.invariant.same in
+    let ready = ready_at args.places c.args.order.now later c.in-Some.unit.now u c.requires.ready c.in-Some.ensures.cases.0 c.from-unit.ensures in
+    let made : c.place.new.self ≡ with_place args u (Some c.in-Some-next.place) = c.place.ensures ∙ ap (λ (w : Held). with_place w u (Some c.in-Some-next.place)) at in
+    record {
+      same =
+          restored c.loop-i.loads c.place.new.self c.lowered-least.new.loads c.remove.new.self u c.in-Some-next.place
+          c.place.ensures c.lowered-least.ensures.same c.remove.ensures (ap (λ (h : Held). slice_get h.places u) at ∙ ready.0)
+          ∙ at;
+      left = rest_follows c.lowered-least.new.loads c.remove.new.self c.lowered-least.new.rest c.unplaced.new.self u None c.lowered-least.ensures.left c.remove.ensures c.unplaced.ensures;
+      lowers =
+          λ least all. c.loop-i.invariant.lowers least
+          (lowered_step args c.place.new.self trees u later c.loop-i.places c.next.new.self c.in-Some-next.place i c.loop-i.least _ c.lowered-least.result least c.index.result.now
+          (omega (arith, c.loop-i-test.true, c.len-i-end.ensures)) (grind (arith, common_steps)) c.in-Some-next.ensures.steps made (grind (arith, common_steps)) c.lowered-least.ensures.lowered all);
+    }
+
+pub returns-after-loop-i-clause-lowered : goal.returns-after-loop-i-clause-lowered
+returns-after-loop-i-clause-lowered t c =
+    let args = c.args.loads.now in
+    let from = c.in-Some.ensures.cases.0 ∙ ap (λ w. w ∷ c.in-Some.later.now) (sym c.from-unit.ensures) in
+    lowered_split args c.args.tree.now c.in-Split.trees c.args.order.now c.in-Some.later.now c.from-unit.result c.args.level c.loop-i.least c.in-Split.is from
+    (c.loop-i.invariant.lowers c.loop-i.least (lowered_no_tree args c.in-Split.trees.items c.from-unit.result c.in-Some.later.now c.loop-i.places c.loop-i.i c.loop-i.least (omega (arith, c.loop-i-test.false, c.len-i-end.ensures))))
+
+pub returns-in-OpenLeaf-clause-lowered : goal.returns-in-OpenLeaf-clause-lowered
+returns-in-OpenLeaf-clause-lowered t c =
+    lowered_open c.args.loads.now c.args.tree.now c.args.order.now c.args.level c.open_level.result _ (ap shape_of c.in-OpenLeaf.is ∙ shape_of-OpenLeaf) c.open_level.ensures (grind (arith, common_steps))

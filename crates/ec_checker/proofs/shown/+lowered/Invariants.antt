@@ -1,0 +1,15 @@
+use Rattle.std.proofs.Common.{◌≡◌, length}
+use Rattle.ec_bounds.specs.Left.{IsRestOf}
+use Rattle.ec_checker.proofs.LevelLemmas.{Lowers}
+use Rattle.ec_checker.proofs.shown.+lowered.Given as goal
+
+abbrev pub decreases-lowered : goal.decreases-lowered
+decreases-lowered l = length l.order.now
+
+abbrev pub invariant-loop-i : goal.invariant-loop-i
+invariant-loop-i l =
+    record {
+      same : l.loads ≡ l.initial.loads;
+      left : IsRestOf l.rest l.loads;
+      lowers : Lowers l.initial.loads l.trees.items l.unit l.later l.places l.i l.level l.least;
+    }

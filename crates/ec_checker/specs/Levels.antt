@@ -1,0 +1,17 @@
+-- The greatest level that a tree with open leaves shows.
+use Rattle.std.specs.Prelude.{ℕ, ◌≤◌, ◌↔◌, List, Option, Some}
+use Rattle.ec_loads.specs.Held.{no_places}
+use Rattle.ec_loads.specs.Line.{Line}
+use Rattle.ec_loads.specs.Search.{Prefix, IsTreeAbove, TreeWith, ShowsLevel}
+use Rattle.ec_loads.specs.Shape.{Shape}
+
+-- of the levels of at most 12304 that the tree shows at the empty prefix it is the greatest; 12304 is what eight slots cost at most
+pub record IsGreatestLevel (line : Line) (v : Option ℕ) (tree : Shape) (order : List ℕ) (l : ℕ) : Type 0 where
+  pub range : l ≤ 12304
+  pub shows : ShowsLevel line v l tree (no_places line.loads) order
+  pub greatest : (m : ℕ) → m ≤ 12304 → ShowsLevel line v m tree (no_places line.loads) order → m ≤ l
+
+-- of the levels up to a greatest one, those up to a lower one are the ones that hold at each open leaf, whatever the value at which the closed ones hold
+abbrev pub IsLowered : Line → Shape → Prefix → List ℕ → ℕ → ℕ → Type 0
+IsLowered line tree ps order most least =
+    (v : Option ℕ) → TreeWith (λ _ _. Unit {0}) line v tree ps order → (m : ℕ) → ((m ≤ least) ↔ ((m ≤ most) × IsTreeAbove line v (Some m) tree ps order))

@@ -1,0 +1,119 @@
+//! The greatest level that a tree with open leaves shows.
+
+ghost use Rattle.std.specs.Prelude.{◌≡◌, ℕ, ◌≤◌, ◌↔◌, Some, IfOk, length, MatchOption};
+ghost use Rattle.ec_units.specs.Load.{loads_of};
+ghost use Rattle.ec_loads.specs.Held.{no_places};
+ghost use Rattle.ec_loads.specs.Line.{turned_time, line_of, line_by};
+ghost use Rattle.ec_loads.specs.Search.{LevelHolds, IsPartialTree, IsAtMost};
+ghost use Rattle.ec_bounds.specs.Left.{IsRestOf};
+ghost use Rattle.ec_cert.specs.BestPlan.{value_of, IsBestPlan};
+ghost use Rattle.ec_cert.specs.Shapes.{shape_of};
+ghost use Rattle.ec_symmetry.specs.Orders.{IsOrder};
+ghost use Rattle.ec_checker.specs.Judged.{IsReady};
+ghost use Rattle.ec_checker.specs.Levels.{IsGreatestLevel, IsLowered};
+
+use ec_bounds::{Rest, average_level};
+use ec_cert::{Best, Tree};
+use ec_loads::Loads;
+use ec_symmetry::children_of;
+use ec_units::Units;
+use std::alloc::{AllocError, Global};
+
+/// The greatest level, what eight slots cost at most in wire bytes.
+const MOST_LEVEL: u64 = 12_304;
+
+/// The greatest level that is neither above 12,304 nor above what the best plan costs, if there is one.
+fn most_level(best: &Option<Best>) -> u64
+    ensures { (m : ℕ) → ((m ≤ result) ↔ ((m ≤ 12304) × IsAtMost (Some m) (value_of best.now))) }
+{
+    match best {
+        None => MOST_LEVEL,
+        Some(best) => MOST_LEVEL.min(best.busiest),
+    }
+}
+
+/// The greatest level that holds at the places so far: the greatest cost of a tick, or what the average of all is at
+/// least.
+fn open_level(loads: &Loads, rest: &Rest) -> u64
+    requires { IsRestOf rest.now loads.now }
+    ensures { (m : ℕ) → ((m ≤ result) ↔ LevelHolds (line_of turned_time loads.now) (Some m) loads.now.places) }
+{
+    let (most, _) = loads.top();
+    most.max(average_level(loads, rest))
+}
+
+/// The greatest level of at most this one that holds at each open leaf of a tree for the places so far, its children
+/// where time is turned. The places are as before afterwards. Each node is visited once, and no recursion is deeper
+/// than the order is long.
+fn lowered(loads: &mut Loads, rest: &mut Rest, level: u64, order: &[u8], tree: &Tree) -> u64
+    requires ready { IsReady loads.old.places order.now }
+    requires left { IsRestOf rest.old loads.old }
+    ensures same { loads.new ≡ loads.old }
+    ensures left { IsRestOf rest.new loads.new }
+    ensures lowered { IsLowered (line_of turned_time loads.old) (shape_of tree.now) loads.old.places order.now level result }
+{
+    match tree {
+        Tree::Split(trees) => match order.split_first() {
+            None => level,
+            Some((unit, later)) => {
+                let unit = usize::from(*unit);
+                let mut places = children_of(loads, unit, true);
+                let mut least = level;
+                for i in 0..trees.len() {
+                    let Some(place) = places.next() else {
+                        return least;
+                    };
+                    loads.place(unit, place);
+                    rest.placed(unit);
+                    least = lowered(loads, rest, least, later, &trees[i]);
+                    loads.remove(unit);
+                    rest.unplaced(unit);
+                }
+                least
+            }
+        },
+        Tree::OpenLeaf => level.min(open_level(loads, rest)),
+        Tree::TickLeaf(_) | Tree::FullLeaf(_, _) | Tree::Average | Tree::Weights(_) => level,
+    }
+}
+
+/// The greatest level that a tree with open leaves shows, in wire bytes: the least, over its open leaves, of the greatest
+/// one that holds there, by a tick of its places or by the average, and above neither what the best plan costs nor
+/// 12,304.
+///
+/// The loads are those of the units, with no place, and are so again afterwards. Takes no memory, and visits each
+/// node once.
+pub fn level_in(
+    loads: &mut Loads,
+    units: &Units,
+    order: &[u8],
+    tree: &Tree,
+    best: &Option<Best>,
+) -> u64
+    requires loads { loads.old ≡ record { loads = loads_of units.now.units; slots = units.now.slots; places = no_places (loads_of units.now.units) } }
+    requires order { IsOrder (length units.now.units) order.now }
+    requires partial { IsPartialTree (line_by turned_time (loads_of units.now.units) units.now.slots) (value_of best.now) (shape_of tree.now) (no_places (loads_of units.now.units)) order.now }
+    requires best { IsBestPlan (loads_of units.now.units) units.now.slots best.now }
+    ensures same { loads.new ≡ loads.old }
+    ensures level { IsGreatestLevel (line_by turned_time (loads_of units.now.units) units.now.slots) (value_of best.now) (shape_of tree.now) order.now result }
+{
+    let mut rest = Rest::all(units);
+    lowered(loads, &mut rest, most_level(best), order, tree)
+}
+
+/// What `level_in` gives, over loads that are made for it. It takes memory once, for the places of the units.
+pub fn level(
+    alloc: Global,
+    units: &Units,
+    order: &[u8],
+    tree: &Tree,
+    best: &Option<Best>,
+) -> Result<u64, AllocError>
+    requires order { IsOrder (length units.now.units) order.now }
+    requires partial { IsPartialTree (line_by turned_time (loads_of units.now.units) units.now.slots) (value_of best.now) (shape_of tree.now) (no_places (loads_of units.now.units)) order.now }
+    requires best { IsBestPlan (loads_of units.now.units) units.now.slots best.now }
+    ensures { IfOk result (IsGreatestLevel (line_by turned_time (loads_of units.now.units) units.now.slots) (value_of best.now) (shape_of tree.now) order.now) }
+{
+    let mut loads = Loads::new(alloc, units)?;
+    Ok(level_in(&mut loads, units, order, tree, best))
+}

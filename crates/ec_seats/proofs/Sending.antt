@@ -1,0 +1,35 @@
+-- The shared book may be reached from several threads.
+use denote.RattleType.{RattleType}
+use denote.Param.Send.{IsSend, IsSync, sendable}
+use Rattle.std.proofs.Crossing.{crosses}
+use Rattle.std.specs.declared.sync.ledger.Ledger
+use Rattle.std.proofs.sync.ledger.Share.TheSendSync as share
+use Rattle.std.proofs.sync.ledger.Book.TheSendSync as ledger
+use Rattle.std.specs.contracts.sync.Mutex as Mutex
+use Rattle.ec_loads.proofs.loads.Loads.TheSendSync as loads
+use Rattle.ec_loads.proofs.plan.Places.TheSendSync as places
+use Rattle.ec_cert.proofs.cert.Best.TheSendSync as best
+use Rattle.ec_cert.proofs.weights.Weights.TheSendSync as weights
+use Rattle.ec_cert.proofs.tree.Tree.TheLaws.TheKnot as tree
+use Rattle.ec_book.proofs.piece.Piece.TheSendSync as piece
+use Rattle.ec_book.proofs.step.Step.TheSendSync as step
+use Rattle.ec_book.specs.contracts.report.Report as Report
+use Rattle.ec_book.specs.contracts.book.Book as Book
+use Rattle.ec_seats.specs.declared.search.Search
+use Rattle.ec_seats.specs.contracts.locked.Locked as Locked
+use Rattle.ec_seats.specs.contracts.shared.Shared as Shared
+
+report_send : IsSend Report.the_row
+report_send = search (sendable, crosses, tree.crosses, weights.the_send) depth 20
+
+book_send : IsSend Book.the_row
+book_send = search (sendable, crosses, tree.crosses, report_send, weights.the_send, loads.the_send, places.the_send, best.the_send, piece.the_send, step.the_send) depth 60
+
+locked_send : (T : RattleType) (s : Search.Ghosts T.Denot) (l : Ledger.Ghosts T.Denot) → IsSend T → IsSync T → IsSend (Locked.the_row T s l)
+locked_send T s l send sync = search (sendable, crosses, book_send, share.the_send, ledger.the_send) depth 20
+
+lock_sync : (T : RattleType) (s : Search.Ghosts T.Denot) (l : Ledger.Ghosts T.Denot) → IsSend T → IsSync T → IsSync (Mutex.the_row (Locked.the_row T s l))
+lock_sync T s l send sync = search (crosses, locked_send) depth 20
+
+pub shared_sync : (T : RattleType) (s : Search.Ghosts T.Denot) (l : Ledger.Ghosts T.Denot) → IsSend T → IsSync T → IsSync (Shared.the_row T s l)
+shared_sync T s l send sync = search (sendable, crosses, lock_sync, loads.the_sync) depth 20

@@ -1,0 +1,50 @@
+//! The planner, where it goes on with a certificate.
+
+ghost use Rattle.std.specs.Prelude.{◌≤◌, IfOk, IfErr};
+ghost use Rattle.ec_loads.specs.Search.{node_count};
+ghost use Rattle.ec_cert.specs.Shapes.{cert_view, shape_of};
+ghost use Rattle.ec_workers.specs.Answers.{asked_beyond, HasOrder, IsOutcome, IsSolveFault};
+ghost use Rattle.ec_workers.specs.Outcomes.{IsPartialCert};
+
+use crate::crewed::resume_by_crew;
+use crate::outcome::{Outcome, SolveFault};
+use crate::planning::resume_alone;
+use ec_book::is_closed;
+use ec_cert::Cert;
+use ec_crew::Gate;
+use ec_units::Units;
+use std::alloc::Global;
+use std::sync::Wait;
+use std::thread::Threads;
+
+/// Goes on with a search that ended without a proof, from its certificate, with 1 to 16 workers, which split and close
+/// at most `nodes` nodes more (1 to 10,000,000). The order of the units is the certificate's, and so are the tree and
+/// the plan from which it goes on; what it finds is as if it had found all of the tree. `gate` is told before each node.
+///
+/// Where no leaf of the tree is open it ends at once. One worker runs in the calling thread; its answer is always the same for
+/// the same units, certificate and budget, as long as memory is given. Several run as `solve` says, but no greedy plan
+/// is made, and all begin at the value of the certificate's plan if it has one.
+///
+/// `OutOfMemory` where memory was refused before the search began, `Spawn` where more than one worker was asked for and
+/// none could be started.
+pub fn solve_from<R: Threads + Wait + Sync, G: Gate + Sync>(
+    rt: &R,
+    alloc: Global,
+    units: &Units,
+    cert: &Cert,
+    workers: usize,
+    nodes: u32,
+    gate: &G,
+) -> Result<Outcome, SolveFault>
+    requires workers { (1 ≤ workers) × (workers ≤ 16) }
+    requires nodes { (1 ≤ nodes) × (nodes ≤ 10000000) }
+    requires cert { IsPartialCert units.now.units units.now.slots (cert_view cert.now) }
+    ensures outcome { IfOk result (IsOutcome units.now.units units.now.slots (asked_beyond workers nodes (node_count (shape_of cert.now.tree)))) }
+    ensures fault { IfErr result (IsSolveFault workers) }
+    ensures order { IfOk result (HasOrder cert.now.order) }
+{
+    if workers == 1 || is_closed(&cert.tree) {
+        return resume_alone(rt, alloc, units, cert, nodes, gate);
+    }
+    resume_by_crew(rt, alloc, units, cert, workers, nodes, gate)
+}

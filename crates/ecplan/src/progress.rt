@@ -1,0 +1,198 @@
+//! The progress of a search, told on standard error while it runs.
+
+use crossbeam_utils::CachePadded;
+use ec_lines::Job;
+use ec_workers::Gate;
+use std::alloc::{AllocError, Global};
+use std::io;
+use std::io::Write as _;
+use std::rt::Clock;
+use std::sync::atomic::{AtomicU64, Ordering};
+use std::time::Instant;
+
+/// How many nodes a worker visits between two looks at the clock.
+const EVERY: u64 = 4096;
+
+/// The most workers of a search.
+const MOST_WORKERS: usize = 16;
+
+/// What covers a line on a terminal.
+const BLANKS: &str =
+    "\r                                                                              \r";
+
+/// How the progress is told.
+#[derive(Clone, Copy, PartialEq, Eq)]
+pub(crate) enum Telling {
+    /// Not at all.
+    Nothing,
+    /// In one line of a terminal, which is written over five times a second.
+    Over,
+    /// In a line of its own each second.
+    Lines,
+}
+
+impl Telling {
+    /// How the progress of a job is told: of a search alone, on a terminal, or where it is asked for.
+    pub(crate) fn of(job: &Job, is_terminal: bool, is_asked: bool) -> Telling {
+        match job {
+            Job::Plan { .. } | Job::Resume { .. } if is_terminal => Telling::Over,
+            Job::Plan { .. } | Job::Resume { .. } if is_asked => Telling::Lines,
+            _ => Telling::Nothing,
+        }
+    }
+
+    /// How many milliseconds there are between two lines.
+    fn step(self) -> u64 {
+        match self {
+            Telling::Lines => 1000,
+            _ => 200,
+        }
+    }
+}
+
+/// What has been told of a search so far, and what it counts.
+#[derive(Drop)]
+pub(crate) struct Progress<'a, H> {
+    rt: &'a H,
+    telling: Telling,
+    /// The nodes that the search may visit.
+    budget: u32,
+    began: Option<Instant>,
+    /// How many nodes each worker has visited.
+    counts: Vec<CachePadded<AtomicU64>>,
+    /// The milliseconds at which the last line was told.
+    told_at: AtomicU64,
+}
+
+/// A count for each worker; none where memory runs out.
+fn new_counts(alloc: Global, telling: Telling) -> Vec<CachePadded<AtomicU64>> {
+    let mut counts = Vec::new(alloc);
+    if telling == Telling::Nothing {
+        return counts;
+    }
+    for _ in 0..MOST_WORKERS {
+        let _ = counts.push(CachePadded::new(AtomicU64::new(0)));
+    }
+    counts
+}
+
+/// The nodes that a job may visit.
+fn budget_of(job: &Job) -> u32 {
+    match job {
+        Job::Plan { nodes, .. } | Job::Resume { nodes, .. } => *nodes,
+        _ => 0,
+    }
+}
+
+impl<'a, H: AllocGlobal + Eprint + Clock> Progress<'a, H> {
+    /// The progress of a job, of which nothing was told yet.
+    pub(crate) fn new(rt: &'a H, job: &Job, telling: Telling) -> Progress<'a, H> {
+        Progress {
+            rt,
+            telling,
+            budget: budget_of(job),
+            began: Instant::now(rt).ok(),
+            counts: new_counts(rt.alloc(), telling),
+            told_at: AtomicU64::new(0),
+        }
+    }
+
+    /// How many nodes all workers have visited.
+    fn nodes(&self) -> u64 {
+        let mut nodes = 0u64;
+        for count in self.counts.as_slice() {
+            nodes = nodes.saturating_add(count.load(Ordering::SeqCst));
+        }
+        nodes
+    }
+
+    /// The milliseconds since the search began.
+    fn millis(&self) -> Option<u64> {
+        let began = self.began?;
+        let passed = began.elapsed(self.rt).ok()?;
+        u64::try_from(passed.as_millis()).ok()
+    }
+
+    /// What is told now, with the best value that a worker knows.
+    fn line(&self, value: Option<u64>, millis: u64) -> Result<String, AllocError> {
+        let (nodes, budget, seconds) = (self.nodes(), self.budget, millis / 1000);
+        match value {
+            Some(best) => {
+                format!(in self.rt.alloc();
+                    "{nodes} of {budget} nodes, best value {best}, {seconds} s"
+                )
+            }
+            None => {
+                format!(in self.rt.alloc(); "{nodes} of {budget} nodes, no plan yet, {seconds} s")
+            }
+        }
+    }
+
+    /// Tells a line.
+    fn tell(&self, line: &str) {
+        if self.telling == Telling::Over {
+            let _ = self.rt.eprint(BLANKS);
+            let _ = self.rt.eprint(line);
+        } else {
+            let _ = self.rt.eprint(line);
+            let _ = self.rt.eprint("\n");
+        }
+    }
+
+    /// Tells how far the search is, if that is due and no other worker tells it now.
+    fn look(&self, value: Option<u64>) {
+        let Some(millis) = self.millis() else {
+            return;
+        };
+        let told_at = self.told_at.load(Ordering::SeqCst);
+        if millis.saturating_sub(told_at) < self.telling.step() {
+            return;
+        }
+        let swapped = self
+            .told_at
+            .compare_exchange(told_at, millis, Ordering::SeqCst, Ordering::SeqCst);
+        if swapped.is_err() {
+            return;
+        }
+        if let Ok(line) = self.line(value, millis) {
+            self.tell(line.as_str());
+        }
+    }
+}
+
+impl<'a, H: AllocGlobal + Eprint + Clock> Gate for Progress<'a, H> {
+    fn before(&self, worker: usize, _piece: u64, value: Option<u64>) {
+        let Some(count) = self.counts.as_slice().get(worker) else {
+            return;
+        };
+        let before = count.fetch_add(1, Ordering::SeqCst);
+        if before % EVERY == EVERY - 1 {
+            self.look(value);
+        }
+    }
+}
+
+/// A writer before whose first bytes what stands in the line of the terminal is taken away.
+#[derive(Drop)]
+pub(crate) struct Behind<'a, W, H> {
+    pub inner: W,
+    pub rt: &'a H,
+    /// Whether something may stand there.
+    pub covers: bool,
+}
+
+impl<'a, W: io::Write, H: Eprint> io::Write for Behind<'a, W, H> {
+    ghost contents = { λ behind. W.contents behind.inner };
+
+    fn write(&mut self, bytes: &[u8]) -> io::Result<usize> {
+        if self.covers {
+            self.covers = false;
+            let _ = self.rt.eprint(BLANKS);
+        }
+        self.inner.write(bytes)
+    }
+
+    fn flush(&mut self) -> io::Result<()> {
+        self.inner.flush()
+    }
+}
