@@ -112,14 +112,6 @@ grown-below c (x ∷ rs) e t h b =
       | false ↦ omega arith
     ])) t b)
 
-opens_suc : (ts : List Tree) (i : ℕ) (x : Tree) → i < length ts → x ≡ get_or ts i x → open_counts (shapes_of (take (suc i) ts)) ≡ open_counts (shapes_of (take i ts)) + open_count (shape_of x)
-opens_suc [] i x h is = absurd (not-suc-le-zero h)
-opens_suc (t ∷ ts) zero x h is = let one = ap (λ w. open_count (shape_of w)) is in omega (arith, one)
-opens_suc (t ∷ ts) (suc i) x h is = let rest = opens_suc ts i x (le_of_suc-le-suc h) is in omega (arith, rest)
-
-pub opens_step : (ts : List Tree) (i : ℕ) (x : Tree) → i < length ts → x ≡ get_or ts i x → open_counts (shapes_of (take (i + 1) ts)) ≡ open_counts (shapes_of (take i ts)) + open_count (shape_of x)
-opens_step ts i x h is = rw add-one (opens_suc ts i x h is)
-
 nodes_suc : (ts : List Tree) (i : ℕ) (x : Tree) → i < length ts → x ≡ get_or ts i x → node_counts (shapes_of (take (suc i) ts)) ≡ node_counts (shapes_of (take i ts)) + node_count (shape_of x)
 nodes_suc [] i x h is = absurd (not-suc-le-zero h)
 nodes_suc (t ∷ ts) zero x h is = let one = ap (λ w. node_count (shape_of w)) is in omega (arith, one)
@@ -127,12 +119,6 @@ nodes_suc (t ∷ ts) (suc i) x h is = let rest = nodes_suc ts i x (le_of_suc-le-
 
 pub nodes_step : (ts : List Tree) (i : ℕ) (x : Tree) → i < length ts → x ≡ get_or ts i x → node_counts (shapes_of (take (i + 1) ts)) ≡ node_counts (shapes_of (take i ts)) + node_count (shape_of x)
 nodes_step ts i x h is = rw add-one (nodes_suc ts i x h is)
-
--- a child has no more open leaves than all have
-pub opens_child : (ts : List Tree) (i : ℕ) (x : Tree) → i < length ts → x ≡ get_or ts i x → open_count (shape_of x) ≤ open_counts (shapes_of ts)
-opens_child [] i x h is = absurd (not-suc-le-zero h)
-opens_child (t ∷ ts) zero x h is = let same = ap (λ w. open_count (shape_of w)) is in omega (arith, same)
-opens_child (t ∷ ts) (suc i) x h is = let rest = opens_child ts i x (le_of_suc-le-suc h) is in omega (arith, rest)
 
 -- one child fewer
 pub rows_done : (f : ℕ → Shape) (ts ls : List Tree) (i k : ℕ) (child new : Tree) → i < length ls → slice_get ts i ≡ Some child → shape_of new ≡ draw f (numbered k (shape_of child))

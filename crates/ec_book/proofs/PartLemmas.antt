@@ -5,11 +5,11 @@ use Rattle.ec_loads.specs.Shape.{split, Leaf, leaf}
 use Rattle.ec_loads.specs.Search.{open_count, open_counts}
 use Rattle.ec_cert.specs.declared.tree.Tree.{Tree, Split}
 use Rattle.ec_cert.specs.Shapes.{shape_of, shapes_of}
-use Rattle.ec_cert.proofs.TreeLemmas.{shape_of-Split}
+use Rattle.ec_cert.proofs.TreeLemmas.{shape_of-Split, opens_step}
 use Rattle.ec_book.specs.Numbered.{numbered, all_numbered, draw, draws}
 use Rattle.ec_book.specs.Grown.{shape_at}
 use Rattle.ec_book.proofs.RowLemmas.{Below-numbered}
-use Rattle.ec_book.proofs.DrawLemmas.{draw-same, shape_at-take, opens_step, length-take', length-set'', rows_done, slice_get-set, take-take', drop-end}
+use Rattle.ec_book.proofs.DrawLemmas.{draw-same, shape_at-take, length-take', length-set'', rows_done, slice_get-set, take-take', drop-end}
 
 pub record IsPart (ts ls built0 built : List Tree) (i : ℕ) : Type 0 where
   pub within : i ≤ length ts

@@ -22,4 +22,3 @@ pub use law::{done_is_spent, empty_logs_spend_nothing, histories_replay, trees_f
 pub use piece::Piece;
 pub use step::{Step, Steps};
 pub use taken::{Taken, Took};
-pub use tree::is_closed;

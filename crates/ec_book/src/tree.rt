@@ -49,21 +49,3 @@ pub(crate) fn filled(tree: Tree, built: &mut Vec<Tree>) -> Tree
         closed => closed,
     }
 }
-
-/// Whether no leaf of a tree is open. Each node is visited once at most, and no recursion is deeper than the tree.
-pub fn is_closed(tree: &Tree) -> bool
-    ensures { IsTrue result ↔ (open_count (shape_of tree.now) ≡ 0) }
-{
-    match tree {
-        Tree::Split(trees) => {
-            for i in 0..trees.len() {
-                if !is_closed(&trees[i]) {
-                    return false;
-                }
-            }
-            true
-        }
-        Tree::OpenLeaf => false,
-        _ => true,
-    }
-}

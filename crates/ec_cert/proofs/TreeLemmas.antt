@@ -1,6 +1,7 @@
 -- A tree in memory, level by level.
-use Rattle.std.proofs.Common.{◌≡◌, ◌↔◌, ℕ, zero, suc, ◌+◌, ◌-◌, ◌<◌, ◌≤◌, List, [], ◌∷◌, length, drop, get_or, Vec, Global, refl, ap, sym, subst, ◌∙◌, arith, rules}
+use Rattle.std.proofs.Common.{◌≡◌, ◌↔◌, ℕ, zero, suc, ◌+◌, ◌-◌, ◌<◌, ◌≤◌, List, [], ◌∷◌, length, drop, take, get_or, Vec, Global, refl, ap, sym, subst, ◌∙◌, arith, rules, not-suc-le-zero, le_of_suc-le-suc, add-one}
 use Rattle.std.proofs.lemmas.List.{drop_more}
+use Rattle.ec_loads.specs.Search.{open_count, open_counts}
 use Rattle.ec_loads.specs.Shape.{Shape, split, more, shape_count}
 use Rattle.ec_cert.specs.Shapes.{shape_of, shapes_of, shapes}
 use Rattle.ec_cert.specs.WellFormed.{HasLevels, HaveLevels}
@@ -19,6 +20,15 @@ shape_count-shapes_of (t ∷ ts) = ap suc (shape_count-shapes_of ts)
 
 pub shapes_of-drop : (ts : List Tree) (i : ℕ) (d : Tree) → i < length ts → shapes_of (drop i ts) ≡ more (shape_of (get_or ts i d)) (shapes_of (drop (i + 1) ts))
 shapes_of-drop ts i d h = ap shapes_of (drop_more ts i d h)
+
+-- one more tree has its own open leaves more
+opens_suc : (ts : List Tree) (i : ℕ) (x : Tree) → i < length ts → x ≡ get_or ts i x → open_counts (shapes_of (take (suc i) ts)) ≡ open_counts (shapes_of (take i ts)) + open_count (shape_of x)
+opens_suc [] i x h is = absurd (not-suc-le-zero h)
+opens_suc (t ∷ ts) zero x h is = let one = ap (λ w. open_count (shape_of w)) is in omega (arith, one)
+opens_suc (t ∷ ts) (suc i) x h is = let rest = opens_suc ts i x (le_of_suc-le-suc h) is in omega (arith, rest)
+
+pub opens_step : (ts : List Tree) (i : ℕ) (x : Tree) → i < length ts → x ≡ get_or ts i x → open_counts (shapes_of (take (i + 1) ts)) ≡ open_counts (shapes_of (take i ts)) + open_count (shape_of x)
+opens_step ts i x h is = rw add-one (opens_suc ts i x h is)
 
 -- what has been looked at has the levels, so the rest decides
 abbrev pub SameLevels : ℕ → ℕ → List Tree → ℕ → Type 0

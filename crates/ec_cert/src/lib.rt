@@ -2,6 +2,7 @@
 #![tactic(auto)]
 
 mod cert;
+mod closed;
 mod copying;
 mod lists;
 mod order;
@@ -10,6 +11,7 @@ mod tree;
 mod weights;
 
 pub use cert::{Best, Cert, Subtree};
+pub use closed::is_closed;
 pub use copying::copy_of;
 pub use lists::{UnitLine, UnitLines};
 pub use order::Order;

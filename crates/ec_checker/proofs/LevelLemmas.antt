@@ -7,8 +7,8 @@ use Rattle.ec_units.specs.declared.unit.Load.{Load}
 use Rattle.ec_loads.specs.Cost.{IsFirstBusiest}
 use Rattle.ec_loads.specs.Held.{Held, AreLoads, items_of, no_places}
 use Rattle.ec_loads.specs.Line.{Line, turned_time, line_of, line_by}
-use Rattle.ec_loads.specs.Search.{Prefix, children, TickHolds, AverageHolds, LevelHolds, TreesWith, IsPartialTree, IsAtMost}
-use Rattle.ec_loads.specs.Shape.{Shape, Shapes, split, open_leaf, no_shapes, more}
+use Rattle.ec_loads.specs.Search.{Prefix, children, TickHolds, AverageHolds, LevelHolds, TreeWith, TreesWith, IsPartialTree, IsAtMost, open_count, open_counts}
+use Rattle.ec_loads.specs.Shape.{Shape, Shapes, split, leaf, open_leaf, no_shapes, more}
 use Rattle.ec_bounds.proofs.HeldLemmas.{with_place}
 use Rattle.ec_cert.specs.declared.tree.Tree.{Tree, Split, OpenLeaf, the_lemmas}
 use Rattle.ec_cert.specs.Shapes.{shape_of, shapes_of}
@@ -91,6 +91,30 @@ none_left line (more s ss) ps u order most v h m = absurd h
 no_trees_left : (line : Line) (ps : Prefix) (u : ℕ) (order : List ℕ) (places : List Place) (most : ℕ) → AreLowered line no_shapes ps u order places most most
 no_trees_left line ps u order [] most v h m = (λ low. (low, tt), λ q. q.0)
 no_trees_left line ps u order (p ∷ rest) most v h m = absurd h
+
+-- where no leaf is open, it doesn't matter what an open leaf has to be
+mutual
+  tree_closed : (f g : Prefix → List ℕ → Type 0) (line : Line) (v : Option ℕ) (s : Shape) (ps : Prefix) (order : List ℕ) → open_count s ≡ 0 → TreeWith f line v s ps order → TreeWith g line v s ps order
+  tree_closed f g line v (split ts) ps [] none h = absurd h
+  tree_closed f g line v (split ts) ps (u ∷ order) none h = trees_closed f g line v ts ps u order (children line ps u) none h
+  tree_closed f g line v (leaf l) ps order none h = h
+  tree_closed f g line v open_leaf ps order none h = absurd (omega (arith, none))
+
+  trees_closed : (f g : Prefix → List ℕ → Type 0) (line : Line) (v : Option ℕ) (ts : Shapes) (ps : Prefix) (u : ℕ) (order : List ℕ) (places : List Place) → open_counts ts ≡ 0 → TreesWith f line v ts ps u order places → TreesWith g line v ts ps u order places
+  trees_closed f g line v no_shapes ps u order [] none h = tt
+  trees_closed f g line v no_shapes ps u order (p ∷ rest) none h = absurd h
+  trees_closed f g line v (more t ts) ps u order [] none h = absurd h
+  trees_closed f g line v (more t ts) ps u order (p ∷ rest) none h =
+      (tree_closed f g line v t (set ps u (Some p)) order (omega (arith, none)) h.0, trees_closed f g line v ts ps u order rest (omega (arith, none)) h.1)
+
+-- a child with no open leaf lowers no level
+pub lowered_skip : (held : Held) (ts : List Tree) (u : ℕ) (order : List ℕ) (ps rest : List Place) (p : Place) (i most least : ℕ) (t : Tree) → i < length ts → t ≡ get_or ts i t → ps ≡ p ∷ rest → open_count (shape_of t) ≡ 0
+    → lowered_from held (drop (i + 1) ts) u order rest most least → lowered_from held (drop i ts) u order ps most least
+lowered_skip held ts u order ps rest p i most least t h is first none two =
+    let line = line_of turned_time held in
+    let below = with_place held u (Some p) in
+    let same : IsLowered line (shape_of t) below.places order most most = λ v all m. (λ low. (low, tree_closed (λ _ _. Unit {0}) (λ qs _. LevelHolds line (Some m) qs) line v (shape_of t) below.places order none all), λ q. q.0) in
+    lowered_step held below ts u order ps rest p i most most most least t h is first refl refl same two
 
 -- no child is left
 pub lowered_no_child : (held : Held) (ts : List Tree) (u : ℕ) (order : List ℕ) (ps : List Place) (most : ℕ) → ps ≡ [] → lowered_from held ts u order ps most most

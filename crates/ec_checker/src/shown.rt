@@ -13,7 +13,7 @@ ghost use Rattle.ec_checker.specs.Judged.{IsReady};
 ghost use Rattle.ec_checker.specs.Levels.{IsGreatestLevel, IsLowered};
 
 use ec_bounds::{Rest, average_level};
-use ec_cert::{Best, Tree};
+use ec_cert::{Best, Tree, is_closed};
 use ec_loads::Loads;
 use ec_symmetry::children_of;
 use ec_units::Units;
@@ -43,8 +43,8 @@ fn open_level(loads: &Loads, rest: &Rest) -> u64
 }
 
 /// The greatest level of at most this one that holds at each open leaf of a tree for the places so far, its children
-/// where time is turned. The places are as before afterwards. Each node is visited once, and no recursion is deeper
-/// than the order is long.
+/// where time is turned. The places are as before afterwards. No place is tried where no leaf is open, and no recursion
+/// is deeper than the order is long.
 fn lowered(loads: &mut Loads, rest: &mut Rest, level: u64, order: &[u8], tree: &Tree) -> u64
     requires ready { IsReady loads.old.places order.now }
     requires left { IsRestOf rest.old loads.old }
@@ -63,11 +63,13 @@ fn lowered(loads: &mut Loads, rest: &mut Rest, level: u64, order: &[u8], tree: &
                     let Some(place) = places.next() else {
                         return least;
                     };
-                    loads.place(unit, place);
-                    rest.placed(unit);
-                    least = lowered(loads, rest, least, later, &trees[i]);
-                    loads.remove(unit);
-                    rest.unplaced(unit);
+                    if !is_closed(&trees[i]) {
+                        loads.place(unit, place);
+                        rest.placed(unit);
+                        least = lowered(loads, rest, least, later, &trees[i]);
+                        loads.remove(unit);
+                        rest.unplaced(unit);
+                    }
                 }
                 least
             }
@@ -81,8 +83,7 @@ fn lowered(loads: &mut Loads, rest: &mut Rest, level: u64, order: &[u8], tree: &
 /// one that holds there, by a tick of its places or by the average, and above neither what the best plan costs nor
 /// 12,304.
 ///
-/// The loads are those of the units, with no place, and are so again afterwards. Takes no memory, and visits each
-/// node once.
+/// The loads are those of the units, with no place, and are so again afterwards. Takes no memory.
 pub fn level_in(
     loads: &mut Loads,
     units: &Units,

@@ -15,8 +15,8 @@ use ec_wire::Io;
 use std::alloc::Global;
 use std::io::{Read, Write};
 
-/// Does a job that searches for nothing, without a runtime: reads the units, and for a check, or frames with a
-/// certificate, then the certificate, makes its whole answer, and then writes it to `text`. It reads at most 1,048,577 bytes of units and 67,108,865 of a
+/// Does a job that searches for nothing, without a runtime: reads the units, and then the certificate where the job has
+/// one, makes its whole answer, and then writes it to `text`. It reads at most 1,048,577 bytes of units and 67,108,865 of a
 /// certificate, so it ends on readers that never do. A cost leaves `cert` unread, and so does a check of units that are
 /// refused. A capture writes its file to `out`, if `out` is there, before the text; no other job writes to it.
 pub fn run_plain<R: Read, C: Read, W: Write, O: Write>(

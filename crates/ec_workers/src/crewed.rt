@@ -17,9 +17,9 @@ ghost use Rattle.ec_workers.specs.declared.outcome.Cut.TheVariants.{Budget, Jour
 use crate::certify::lines_of;
 use crate::outcome::{Cut, Outcome, SolveFault};
 use crate::planning::{nothing, proved};
-use ec_book::{Book, Finished, is_closed};
+use ec_book::{Book, Finished};
 use ec_branch::search_order;
-use ec_cert::{Cert, Order, UnitLines};
+use ec_cert::{Cert, Order, UnitLines, is_closed};
 use ec_crew::{CrewFault, Crewed, Ended, Gate, search_by_crew};
 use ec_units::Units;
 use std::alloc::Global;

@@ -1,12 +1,13 @@
-use Rattle.std.proofs.Common.{◌≡◌, ◌<◌, ◌∷◌, length, slice_get, Some, None, ap, sym, subst, ◌∙◌, arith, refl}
+use Rattle.std.proofs.Common.{◌≡◌, ◌<◌, ◌∷◌, length, slice_get, Some, None, ap, sym, subst, ◌∙◌, arith, refl, rules}
 use Rattle.std.proofs.lemmas.Grind.{common_steps}
 use Rattle.std.proofs.lemmas.Option.{slice_get_within}
 use Rattle.ec_loads.specs.Held.{Held}
 use Rattle.ec_bounds.proofs.HeldLemmas.{with_place, restored, rest_follows, flags_count, still_within}
 use Rattle.ec_cert.specs.Shapes.{shape_of}
 use Rattle.ec_checker.specs.Judged.{IsReady}
-use Rattle.ec_checker.proofs.LevelLemmas.{lowered_from, lowered_step, lowered_no_child, lowered_no_tree, lowered_split, lowered_open, shape_of-OpenLeaf}
+use Rattle.ec_checker.proofs.LevelLemmas.{lowered_from, lowered_step, lowered_skip, lowered_no_child, lowered_no_tree, lowered_split, lowered_open, shape_of-OpenLeaf}
 use Rattle.ec_checker.proofs.WalkLemmas.{ready_at}
+use Rattle.ec_checker.proofs.shown.+lowered.Goals.{then-not-is_closed, else-not-is_closed}
 use Rattle.ec_checker.proofs.shown.+lowered.Goals as goal
 
 pub loop-i-init : goal.loop-i-init
@@ -74,20 +75,37 @@ loop-i-preserved t c =
     let later = c.in-Some.later.now in
     let trees = c.in-Split.trees.items in
     let i = c.loop-i.i in
+    let p = c.in-Some-next.place in
     let at = c.loop-i.invariant.same in
+    let within : i < length trees = omega (arith, c.loop-i-test.true, c.len-i-end.ensures) in
     let ready = ready_at args.places c.args.order.now later c.in-Some.unit.now u c.requires.ready c.in-Some.ensures.cases.0 c.from-unit.ensures in
-    let made : c.place.new.self ≡ with_place args u (Some c.in-Some-next.place) = c.place.ensures ∙ ap (λ (w : Held). with_place w u (Some c.in-Some-next.place)) at in
-    record {
-      same =
-          restored c.loop-i.loads c.place.new.self c.lowered-least.new.loads c.remove.new.self u c.in-Some-next.place
-          c.place.ensures c.lowered-least.ensures.same c.remove.ensures (ap (λ (h : Held). slice_get h.places u) at ∙ ready.0)
-          ∙ at;
-      left = rest_follows c.lowered-least.new.loads c.remove.new.self c.lowered-least.new.rest c.unplaced.new.self u None c.lowered-least.ensures.left c.remove.ensures c.unplaced.ensures;
-      lowers =
-          λ least all. c.loop-i.invariant.lowers least
-          (lowered_step args c.place.new.self trees u later c.loop-i.places c.next.new.self c.in-Some-next.place i c.loop-i.least _ c.lowered-least.result least c.index.result.now
-          (omega (arith, c.loop-i-test.true, c.len-i-end.ensures)) (grind (arith, common_steps)) c.in-Some-next.ensures.steps made (grind (arith, common_steps)) c.lowered-least.ensures.lowered all);
-    }
+    elim c.if-not-is_closed.branch [
+      | then-not-is_closed w ↦
+          let made : w.place.new.self ≡ with_place args u (Some p) = w.place.ensures ∙ ap (λ (w : Held). with_place w u (Some p)) at in
+          record {
+            same =
+                w.loads-is
+                ∙ restored c.loop-i.loads w.place.new.self w.lowered-least.new.loads w.remove.new.self u p
+                w.place.ensures w.lowered-least.ensures.same w.remove.ensures (ap (λ (h : Held). slice_get h.places u) at ∙ ready.0)
+                ∙ at;
+            left =
+                rw (w.loads-is, w.rest-is)
+                (rest_follows w.lowered-least.new.loads w.remove.new.self w.lowered-least.new.rest w.unplaced.new.self u None w.lowered-least.ensures.left w.remove.ensures w.unplaced.ensures);
+            lowers =
+                λ least all. c.loop-i.invariant.lowers least
+                (lowered_step args w.place.new.self trees u later c.loop-i.places c.next.new.self p i c.loop-i.least c.loop-i.least w.lowered-least.result least w.index-then-not-is_closed.result.now
+                within w.index-then-not-is_closed.ensures c.in-Some-next.ensures.steps made refl w.lowered-least.ensures.lowered (rw (sym w.least-is) all));
+          }
+      | else-not-is_closed w ↦
+          record {
+            same = w.loads-is ∙ at;
+            left = rw (w.loads-is, w.rest-is) c.loop-i.invariant.left;
+            lowers =
+                λ least all. c.loop-i.invariant.lowers least
+                (lowered_skip args trees u later c.loop-i.places c.next.new.self p i c.loop-i.least least c.index.result.now
+                within c.index.ensures c.in-Some-next.ensures.steps (w.if-not-is_closed.ensures.0 (search rules)) (rw (sym w.least-is) all));
+          }
+    ]
 
 pub returns-after-loop-i-clause-lowered : goal.returns-after-loop-i-clause-lowered
 returns-after-loop-i-clause-lowered t c =

@@ -1,7 +1,0 @@
-use Rattle.std.proofs.Common.{◌≡◌, take}
-use Rattle.ec_loads.specs.Search.{open_counts}
-use Rattle.ec_cert.specs.Shapes.{shapes_of}
-use Rattle.ec_book.proofs.tree.+is_closed.Given as goal
-
-abbrev pub invariant-loop-i : goal.invariant-loop-i
-invariant-loop-i l = open_counts (shapes_of (take l.i l.trees.items)) ≡ 0
