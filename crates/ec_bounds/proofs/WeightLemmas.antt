@@ -1,5 +1,5 @@
 -- Weighted sums over a hyperperiod, and what weights that hold show of the plans that extend a prefix.
-use Rattle.std.proofs.Common.{◌≡◌, ℕ, zero, suc, ◌+◌, ◌-◌, ◌*◌, ◌%◌, ◌<◌, ◌≤◌, ◌==◌, cond, min, Bool, true, false, is_none, List, [], ◌∷◌, map, length, get_or, All, Option, Some, None, refl, sym, ap, ◌∙◌, subst, arith, inl, inr, mul_comm, mul-add, suc-mul, mul-zero, mul-le-mul_left, add-one, add-zero, drop, drop-cons, mod-eq_of_lt}
+use Rattle.std.proofs.Common.{◌≡◌, ℕ, zero, suc, ◌+◌, ◌-◌, ◌*◌, ◌%◌, ◌<◌, ◌≤◌, ◌==◌, cond, min, Bool, true, false, is_none, List, [], ◌∷◌, map, length, get_or, All, Option, Some, None, refl, sym, ap, ◌∙◌, subst, arith, inl, inr, mul_comm, mul-add, suc-mul, mul-zero, mul-le-mul_left, add-one, add-zero, drop, drop-cons, replicate, mod-eq_of_lt}
 use Rattle.std.specs.Prelude.{IsTrue, nat_lt, ◌↔◌}
 use Rattle.std.proofs.lemmas.Bool.{cases_eq, eq-eqb, ne_eqb}
 use Rattle.std.proofs.lemmas.List.{get_or_past}
@@ -14,7 +14,7 @@ use Rattle.ec_loads.specs.Legal.{IsLegal}
 use Rattle.ec_loads.specs.Search.{Prefix, Extends, free, same, HasTick, IsAtMost}
 use Rattle.ec_loads.specs.Weights.{weight_of, total_weight, weight_at, least_below, least_weight, weighted_raw, weighted_demand, WeightsHold}
 use Rattle.ec_loads.proofs.CellLemmas.{one_remainder}
-use Rattle.ec_bounds.specs.Left.{weighted_left}
+use Rattle.ec_bounds.specs.Left.{weighted_left, AreLeast}
 use Rattle.ec_bounds.proofs.SubLemmas.{Sub-items, All-Sub, sum_below-le, below_some}
 use Rattle.ec_bounds.proofs.AverageLemmas.{sum_below-add, sum_below-agree, sum_below-none, sum_below-split, sends, moved, heads-Sub, raw_cost-parts, raw_cost-le, above_or_all}
 use Rattle.ec_bounds.proofs.LeftLemmas.{some_same, below_from, below_to}
@@ -174,6 +174,19 @@ weight-end w p f t h =
 pub least-more : (f : ℕ → ℕ) (k : ℕ) → 1 ≤ k → least_below f (k + 1) ≡ min (least_below f k) (f k)
 least-more f zero h = absurd (omega arith)
 least-more f (suc n) h = rw add-one refl
+
+none_there : (n p : ℕ) → get_or (replicate {A = Option ℕ} n None) p None ≡ None
+none_there zero p = refl
+none_there (suc n) zero = refl
+none_there (suc n) (suc p) = none_there n p
+
+-- where nothing is known, all that is known is so
+pub none_known : (w : List ℕ) (n : ℕ) → AreLeast w (replicate n None)
+none_known w n p v is = let no : None ≡ Some v = sym (none_there n p) ∙ is in absurd cc
+
+-- the least weight of a period that is written otherwise
+pub weight-of : (w : List ℕ) (h a p r : ℕ) → r ≡ least_weight w h a → a ≡ p → r ≡ least_weight w h p
+weight-of w h a p r is eq = is ∙ ap (least_weight w h) eq
 
 -- one unit more
 pub weighted_left-at : (ls : List Load) (bs : List Bool) (w : List ℕ) (h i : ℕ) (d : Load) (e : Bool) → i < length ls → i < length bs

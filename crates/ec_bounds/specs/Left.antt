@@ -1,5 +1,5 @@
 -- Which units have no place yet.
-use Rattle.std.specs.Prelude.{◌≡◌, ℕ, ◌+◌, ◌*◌, ◌/◌, ◌<◌, Bool, true, is_none, if◌then◌else◌, List, [], ◌∷◌, map, get_or}
+use Rattle.std.specs.Prelude.{◌≡◌, ℕ, ◌+◌, ◌*◌, ◌/◌, ◌<◌, ◌≤◌, Bool, true, is_none, if◌then◌else◌, List, [], ◌∷◌, length, map, get_or, Option, Some, None}
 use Rattle.ec_units.specs.declared.unit.Load.{Load}
 use Rattle.ec_loads.specs.Held.{Held}
 use Rattle.ec_loads.specs.Search.{nobody}
@@ -21,6 +21,10 @@ abbrev pub weighted_left : List Load → List Bool → List ℕ → ℕ → ℕ
 weighted_left [] bs w h = 0
 weighted_left (l ∷ ls) [] w h = 0
 weighted_left (l ∷ ls) (b ∷ bs) w h = (if b then l.bytes * least_weight w h l.period else 0) + weighted_left ls bs w h
+
+-- of the periods from 0 on, what is known of their least weights is so
+abbrev pub AreLeast : List ℕ → List (Option ℕ) → Type 0
+AreLeast w known = (p v : ℕ) → get_or known p None ≡ Some v → (v ≡ least_weight w (length w) p) × (v ≤ 67107840)
 
 -- none has a place
 abbrev pub all_of : List Load → List Bool
