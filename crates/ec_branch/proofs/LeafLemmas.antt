@@ -6,18 +6,19 @@ use Rattle.ec_hyper.specs.Lcm.{lcm_of}
 use Rattle.ec_units.specs.declared.unit.Load.{Load}
 use Rattle.ec_units.specs.Load.{periods_of}
 use Rattle.ec_loads.specs.Cost.{items, payload, tick_cost, IsFirstBusiest}
+use Rattle.ec_loads.specs.Excess.{IsFirstOverfull, IsFirstReached}
 use Rattle.ec_loads.specs.Held.{Held, AreLoads, items_of}
 use Rattle.ec_loads.specs.Legal.{Fits}
 use Rattle.ec_loads.specs.Line.{Line}
 use Rattle.ec_loads.specs.Search.{Prefix, TickHolds, FullHolds, AverageHolds, LeafHolds, HasShortTick}
-use Rattle.ec_loads.specs.Shape.{Leaf, tick, average, weighted, leaf}
+use Rattle.ec_loads.specs.Shape.{Leaf, tick, full, average, weighted, leaf}
 use Rattle.ec_loads.specs.Weights.{WeightsHold}
 use Rattle.ec_loads.proofs.CostLemmas.{tick_cost-mod, payload-mod}
 use Rattle.ec_loads.proofs.ItemLemmas.{DivideAll-loads}
 use Rattle.ec_bounds.specs.Laws.{IsFirstFullLeaf}
 use Rattle.ec_bounds.proofs.LeafLemmas.{leaf-falls}
 use Rattle.ec_cert.specs.Shapes.{shape_of}
-use Rattle.ec_cert.specs.declared.tree.Tree.{TickLeaf, Average, Weights, the_lemmas}
+use Rattle.ec_cert.specs.declared.tree.Tree.{TickLeaf, FullLeaf, Average, Weights, the_lemmas}
 use Rattle.ec_branch.specs.Walks.{IsClosing}
 
 -- what an answer says, said otherwise
@@ -92,6 +93,22 @@ shape_of-TickLeaf t = search (rules, the_lemmas)
 
 pub shape_of-Weights : (w : List ℕ) → shape_of (Weights w) ≡ leaf (weighted w)
 shape_of-Weights w = search (rules, the_lemmas)
+
+pub shape_of-FullLeaf : (t s : ℕ) → shape_of (FullLeaf t s) ≡ leaf (full t s)
+shape_of-FullLeaf t s = search (rules, the_lemmas)
+
+-- a unit's place that is too much closes the prefix that has it
+pub overfull_leaf :
+    (line : Line) (v : Option ℕ) (ps : Prefix) (h p f s t : ℕ) → h ≤ 1024 → s < line.slots → IsFirstOverfull (items line.loads ps) h p f s t → IsClosing line v ps (shape_of (FullLeaf t s))
+overfull_leaf line v ps h p f s t most within first =
+    let below = first.below in
+    subst (IsClosing line v ps) (sym (shape_of-FullLeaf t s)) (closing_leaf line v ps (full t s) (within, first.above) (omega (arith, below, most)))
+
+pub reached_leaf :
+    (line : Line) (v : ℕ) (ps : Prefix) (h p f s t : ℕ) → h ≤ 1024 → IsFirstReached (items line.loads ps) line.slots h p f s v t → IsClosing line (Some v) ps (shape_of (TickLeaf t))
+reached_leaf line v ps h p f s t most first =
+    let below = first.below in
+    subst (IsClosing line (Some v) ps) (sym (shape_of-TickLeaf t)) (closing_leaf line (Some v) ps (tick t) (v, refl, first.reached) (omega (arith, below, most)))
 
 -- weights as a leaf in memory
 pub weights_leaf : (line : Line) (v : Option ℕ) (ps : Prefix) (w : List ℕ) → WeightsHold line.loads line.slots v ps w → length w ≤ 1024 → All (λ x. x ≤ 65535) w → IsClosing line v ps (shape_of (Weights w))

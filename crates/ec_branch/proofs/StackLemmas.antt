@@ -1,12 +1,12 @@
 -- A walk with a stack of its own: what each of its steps keeps.
-use Rattle.std.proofs.Common.{rules, ◌≡◌, ℕ, zero, suc, ◌+◌, ◌-◌, ◌*◌, ◌<◌, ◌≤◌, ◌++◌, Vec, Global, vec_capacity, ◌⊎◌, inl, inr, Bool, true, false, List, [], ◌∷◌, length, set, take, drop, reverse, replicate, Option, Some, None, refl, sym, ap, ◌∙◌, subst, arith, take_all, length-drop}
-use Rattle.std.proofs.lemmas.List.{append_assoc, append-nil, reverse-append, length-reverse, length-set}
+use Rattle.std.proofs.Common.{rules, ◌≡◌, ℕ, zero, suc, ◌+◌, ◌-◌, ◌*◌, ◌<◌, ◌≤◌, ◌++◌, Vec, Global, vec_capacity, ◌⊎◌, inl, inr, Bool, true, false, List, [], ◌∷◌, length, set, get_or, take, drop, reverse, replicate, Option, Some, None, refl, sym, ap, ◌∙◌, subst, arith, take_all, length-drop}
+use Rattle.std.proofs.lemmas.List.{append_assoc, append-nil, reverse-append, length-reverse, length-set, length-append}
 use Rattle.std.proofs.lemmas.Option.{slice_get_within}
 use Rattle.ec_units.specs.declared.slave.Place.{Place}
 use Rattle.ec_loads.specs.Held.{Held}
 use Rattle.ec_loads.specs.Line.{turned_time, Line, line_of}
-use Rattle.ec_loads.specs.Search.{Prefix, children, IsAtMost}
-use Rattle.ec_loads.specs.Shape.{open_leaf}
+use Rattle.ec_loads.specs.Search.{Prefix, children, nobody, IsAtMost}
+use Rattle.ec_loads.specs.Shape.{Shape, open_leaf}
 use Rattle.ec_bounds.specs.Left.{Left, IsRestOf}
 use Rattle.ec_bounds.proofs.HeldLemmas.{with_place, with_flag, restored, rest_follows}
 use Rattle.ec_cert.proofs.TreeLemmas.{shape_of-Split}
@@ -18,9 +18,9 @@ use Rattle.ec_branch.specs.declared.level.Level.{Level}
 use Rattle.ec_branch.specs.declared.level.Turn.{Turn}
 use Rattle.ec_branch.specs.declared.level.Turn.TheVariants.{Enter, Up}
 use Rattle.ec_branch.specs.Frames.{Frame}
-use Rattle.ec_branch.specs.Stacks.{State, IsExplored, IsUnderWay, IsOpened, Task, IsTop, IsStack, IsOn, IsPaused, IsWithin, IsBack, IsEnd, IsFor, efforts}
-use Rattle.ec_branch.specs.Walks.{IsReadyFor}
-use Rattle.ec_branch.proofs.WalkLemmas.{IsAtMost-trans, In-mid, fair_lesser, walking_more}
+use Rattle.ec_branch.specs.Stacks.{State, IsAsked, IsSpent, IsExplored, IsUnderWay, IsAmong, IsOpened, Task, IsTop, IsStack, IsOn, IsPaused, IsWithin, IsBack, IsEnd, IsFor, efforts}
+use Rattle.ec_branch.specs.Walks.{IsClosing, IsReadyFor}
+use Rattle.ec_branch.proofs.WalkLemmas.{IsAtMost-trans, In-mid, fair_lesser, walking_more, closed_walked}
 use Rattle.ec_branch.proofs.KnownLemmas.{IsAtMost-same}
 
 pub shape_of-OpenLeaf : shape_of OpenLeaf ≡ open_leaf
@@ -51,36 +51,72 @@ open_explored line floor ps order s why = record {
   stays = λ k. k;
 }
 
+-- what a guide knows is at most the value in use, where it was before
+asked_least : (floor : ℕ) (from now : State) → IsAsked floor from now → IsAtMost from.known from.value → IsAtMost now.known now.value
+asked_least floor from now asked h =
+    elim asked.one [
+      | inl was ↦ subst (IsAtMost now.known) (sym was) (IsAtMost-trans now.known from.known from.value asked.falls h)
+      | inr same ↦ subst (IsAtMost now.known) (sym same) (IsAtMost-same now.known)
+    ]
+
 -- a split whose children have no trees yet
 pub under_first :
-    (line : Line) (floor : ℕ) (ps : Prefix) (u : ℕ) (order : List ℕ) (from : State) (first asked knows : Option ℕ) (left : ℕ) (halted : Bool) (ts : List Tree) →
-    left + 1 ≡ from.left → IsAtMost first from.value → IsAtMost first asked → (first ≡ from.value) ⊎ (first ≡ asked) → ((b : ℕ) → asked ≡ Some b → floor ≤ b) →
-    knows ≡ asked → IsAtMost asked from.known → (from.halted ≡ true → halted ≡ true) → ts ≡ [] →
-    IsUnderWay line floor ps u order [] from (record { value = first; left = left; halted = halted; known = knows }) ts
-under_first line floor ps u order from first asked knows left halted ts spent low under one high is falls stays none =
-    subst (IsUnderWay line floor ps u order [] from (record { value = first; left = left; halted = halted; known = knows })) (sym none)
+    (line : Line) (floor : ℕ) (ps : Prefix) (u : ℕ) (order : List ℕ) (from now : State) (left : ℕ) (ts : List Tree) → IsAsked floor from now → left + 1 ≡ now.left → ts ≡ [] →
+    IsUnderWay line floor ps u order [] from (record { value = now.value; left = left; halted = now.halted; known = now.known }) ts
+under_first line floor ps u order from now left ts asked spent none =
+    subst (IsUnderWay line floor ps u order [] from (record { value = now.value; left = left; halted = now.halted; known = now.known })) (sym none)
     (record {
-      first = first;
+      first = now.value;
       had = left;
-      spent = spent;
-      low = low;
-      keeps = fair_lesser floor line.loads line.slots from.value first asked one high;
+      spent = spent ∙ asked.left;
+      low = asked.low;
+      keeps = fair_lesser floor line.loads line.slots from.value now.value now.known asked.one asked.high;
       walking = record {
         holds = λ w k. tt;
         short = tt;
-        lower = IsAtMost-same first;
+        lower = IsAtMost-same now.value;
         fair = λ f. f;
         count = omega arith;
         cause = inl refl;
       };
-      falls = subst (λ w. IsAtMost w from.known) (sym is) falls;
-      least = λ h. elim one [
-        | inl was ↦ subst (λ w. IsAtMost w first) (sym is) (subst (IsAtMost asked) (sym was) (IsAtMost-trans asked from.known from.value falls h))
-        | inr now ↦ subst (λ w. IsAtMost w first) (sym is) (subst (IsAtMost asked) (sym now) (IsAtMost-same asked))
-      ];
-      most = subst (IsAtMost first) (sym is) under;
-      stays = stays;
+      falls = asked.falls;
+      least = asked_least floor from now asked;
+      most = asked.under;
+      stays = λ k. asked.halted ∙ k;
     })
+
+-- a node that is closed
+pub closed_explored :
+    (line : Line) (floor : ℕ) (ps : Prefix) (order : List ℕ) (from now : State) (left : ℕ) (tree : Shape) → IsAsked floor from now → left + 1 ≡ now.left → IsClosing line now.value ps tree →
+    IsExplored line floor ps order from (record { value = now.value; left = left; halted = now.halted; known = now.known }) tree
+closed_explored line floor ps order from now left tree asked spent closing = record {
+  walked =
+      closed_walked line floor ps order from.value now.value from.left left now.halted tree closing (spent ∙ asked.left) asked.low
+      (fair_lesser floor line.loads line.slots from.value now.value now.known asked.one asked.high);
+  follows = record { falls = asked.falls; least = asked_least floor from now asked; most = λ _. asked.under };
+  stays = λ k. asked.halted ∙ k;
+}
+
+-- a node that stays open, since the guide stopped at the plan that it makes
+pub stopped_explored :
+    (line : Line) (floor : ℕ) (ps : Prefix) (order : List ℕ) (from now : State) (halted : Bool) (known : Option ℕ) → IsAsked floor from now → halted ≡ true → known ≡ now.known →
+    IsExplored line floor ps order from (record { value = now.value; left = now.left; halted = halted; known = known }) open_leaf
+stopped_explored line floor ps order from now halted known asked stops same = record {
+  walked = record {
+    holds = λ w low. tt;
+    short = tt;
+    lower = asked.low;
+    fair = fair_lesser floor line.loads line.slots from.value now.value now.known asked.one asked.high;
+    count = let left = asked.left in omega (arith, left);
+    cause = inr (inr stops);
+  };
+  follows = record {
+    falls = subst (λ k. IsAtMost k from.known) (sym same) asked.falls;
+    least = λ h. subst (λ k. IsAtMost k now.value) (sym same) (asked_least floor from now asked h);
+    most = λ _. subst (IsAtMost now.value) (sym same) asked.under;
+  };
+  stays = λ _. stops;
+}
 
 -- one child more has its tree
 pub under_more :
@@ -100,20 +136,48 @@ under_more line floor ps u order done p from now to ts t under step = record {
   stays = λ k. step.stays (under.stays k);
 }
 
--- where no node is left, the other children stay open
+-- where no node is left or the guide stops, the other children stay open
 pub under_open :
-    (line : Line) (floor : ℕ) (ps : Prefix) (u : ℕ) (order : List ℕ) (done rest : List Place) (from now : State) (ts : List Tree) → now.left ≡ 0 →
+    (line : Line) (floor : ℕ) (ps : Prefix) (u : ℕ) (order : List ℕ) (done rest : List Place) (from now : State) (ts : List Tree) → (length rest ≡ 0) ⊎ IsSpent now →
     IsUnderWay line floor ps u order done from now ts →
     IsUnderWay line floor ps u order (done ++ rest) from now (ts ++ replicate (length rest) OpenLeaf)
-under_open line floor ps u order done [] from now ts none under =
+under_open line floor ps u order done [] from now ts why under =
     subst (λ k. IsUnderWay line floor ps u order k from now (ts ++ [])) (sym (append-nil done))
     (subst (λ k. IsUnderWay line floor ps u order done from now k) (sym (append-nil ts)) under)
-under_open line floor ps u order done (p ∷ rest) from now ts none under =
-    let open_one = subst (IsExplored line floor (set ps u (Some p)) order now now) (sym shape_of-OpenLeaf) (open_explored line floor (set ps u (Some p)) order now (inl none)) in
+under_open line floor ps u order done (p ∷ rest) from now ts (inl none) under = absurd (omega arith)
+under_open line floor ps u order done (p ∷ rest) from now ts (inr spent) under =
+    let open_one = subst (IsExplored line floor (set ps u (Some p)) order now now) (sym shape_of-OpenLeaf) (open_explored line floor (set ps u (Some p)) order now spent) in
     let one = under_more line floor ps u order done p from now now ts OpenLeaf under open_one in
-    let all = under_open line floor ps u order (done ++ p ∷ []) rest from now (ts ++ OpenLeaf ∷ []) none one in
+    let all = under_open line floor ps u order (done ++ p ∷ []) rest from now (ts ++ OpenLeaf ∷ []) (inr spent) one in
     subst (λ k. IsUnderWay line floor ps u order k from now (ts ++ OpenLeaf ∷ replicate (length rest) OpenLeaf)) (append_assoc done (p ∷ []) rest)
     (subst (λ k. IsUnderWay line floor ps u order ((done ++ p ∷ []) ++ rest) from now k) (append_assoc ts (OpenLeaf ∷ []) (replicate (length rest) OpenLeaf)) all)
+
+-- one child more of a split has its tree, without having had its place
+pub among_more :
+    (line : Line) (floor : ℕ) (ps : Prefix) (later : List ℕ) (done : List Place) (from before now : State) (level : Level) (p : Place) (places : List Place) (t : Tree) (v : Vec Tree Global) →
+    IsAmong line floor ps later done from before level → level.places ≡ p ∷ places → IsExplored line floor (set ps level.unit (Some p)) later before now (shape_of t) →
+    v.items ≡ level.trees.items ++ t ∷ [] → vec_capacity v ≡ vec_capacity level.trees →
+    IsAmong line floor ps later (done ++ p ∷ []) from now (record { unit = level.unit; places = places; trees = v })
+among_more line floor ps later done from before now level p places t v among steps explored pushed room =
+    let under = under_more line floor ps level.unit later done p from before now level.trees.items t among.under explored in
+    let longer = ap length pushed ∙ length-append level.trees.items (t ∷ []) in
+    let fewer = ap length steps in
+    let trees = among.trees in
+    record {
+      free = among.free;
+      kids = append_assoc done (p ∷ []) places ∙ ap (λ w. done ++ w) (sym steps) ∙ among.kids;
+      under = subst (IsUnderWay line floor ps level.unit later (done ++ p ∷ []) from now) (sym pushed) under;
+      trees = omega (arith, longer, fewer, trees, room);
+    }
+
+-- the next child's place is within its ranges
+pub among_place :
+    (line : Line) (floor : ℕ) (ps : Prefix) (later : List ℕ) (done : List Place) (from now : State) (level : Level) (p : Place) (places : List Place) →
+    IsAmong line floor ps later done from now level → level.places ≡ p ∷ places → (p.phase < (get_or line.loads level.unit nobody).period) × (p.slot < line.slots)
+among_place line floor ps later done from now level p places among steps =
+    let kids : done ++ p ∷ places ≡ children line ps level.unit = ap (λ w. done ++ w) (sym steps) ∙ among.kids in
+    let range = children-In line ps level.unit p (subst (In p) kids (In-mid done p places)) in
+    (range.0, range.2)
 
 -- all children have their trees
 pub under_all :
@@ -198,7 +262,7 @@ for_slots task ls held left now turn order frame on is = is.slots ∙ sym (line_
 pub on_leaf :
     (task : Task) (ls : Vec Level Global) (held : Held) (left : Left) (old now : State) (order : List ℕ) (floor : ℕ) (tree : Tree) →
     (on : IsOn task ls held left old Enter) → order ≡ on.later → floor ≡ task.floor →
-    IsExplored (line_of turned_time held) floor held.places order old now (shape_of tree) → IsOn task ls held left now (Up tree)
+    IsExplored (line_of turned_time held) floor held.places order on.from now (shape_of tree) → IsOn task ls held left now (Up tree)
 on_leaf task ls held left old now order floor tree on same floor_is explored = record {
   line = on.line;
   rest = on.rest;
@@ -208,17 +272,20 @@ on_leaf task ls held left old now order floor tree on same floor_is explored = r
   from = on.from;
   stack = on.stack;
   entered =
-      subst (λ s. IsExplored task.line task.floor held.places on.later s now (shape_of tree)) on.entered
-      (subst (λ o. IsExplored task.line task.floor held.places o old now (shape_of tree)) same
-      (subst (λ f. IsExplored task.line f held.places order old now (shape_of tree)) floor_is
-      (subst (λ l. IsExplored l floor held.places order old now (shape_of tree)) on.line explored)));
+      subst (λ o. IsExplored task.line task.floor held.places o on.from now (shape_of tree)) same
+      (subst (λ f. IsExplored task.line f held.places order on.from now (shape_of tree)) floor_is
+      (subst (λ l. IsExplored l floor held.places order on.from now (shape_of tree)) on.line explored));
 }
+
+-- the guide was asked for it
+pub on_asked : (task : Task) (ls : Vec Level Global) (held : Held) (left : Left) (old : State) (floor : ℕ) → (on : IsOn task ls held left old Enter) → floor ≡ task.floor → IsAsked floor on.from old
+on_asked task ls held left old floor on floor_is = subst (λ f. IsAsked f on.from old) (sym floor_is) on.entered
 
 -- a node is split
 pub on_split :
     (task : Task) (ls : Vec Level Global) (held : Held) (left : Left) (old now : State) (order : List ℕ) (floor : ℕ) (level : Level) →
     (on : IsOn task ls held left old Enter) → order ≡ on.later → floor ≡ task.floor →
-    IsOpened (line_of turned_time held) floor held.places order old now level → IsPaused task ls held left now level
+    IsOpened (line_of turned_time held) floor held.places order on.from now level → IsPaused task ls held left now level
 on_split task ls held left old now order floor level on same floor_is opened =
     let next : on.later ≡ level.unit ∷ opened.later = sym same ∙ opened.next in
     let long = ap length next in
@@ -233,10 +300,39 @@ on_split task ls held left old now order floor level on same floor_is opened =
       done = [];
       kids = opened.places ∙ ap (λ l. children l held.places level.unit) on.line;
       under =
-          subst (λ s. IsUnderWay task.line task.floor held.places level.unit opened.later [] s now level.trees.items) on.entered
-          (subst (λ f. IsUnderWay task.line f held.places level.unit opened.later [] old now level.trees.items) floor_is
-          (subst (λ l. IsUnderWay l floor held.places level.unit opened.later [] old now level.trees.items) on.line opened.under));
+          subst (λ f. IsUnderWay task.line f held.places level.unit opened.later [] on.from now level.trees.items) floor_is
+          (subst (λ l. IsUnderWay l floor held.places level.unit opened.later [] on.from now level.trees.items) on.line opened.under);
       trees = (let room = opened.room in omega (arith, none, room));
+    }
+
+-- between two children, with the line of the loads and the guide's floor
+pub paused_among :
+    (task : Task) (ls : Vec Level Global) (held : Held) (left : Left) (now : State) (level : Level) (floor : ℕ) → (paused : IsPaused task ls held left now level) → floor ≡ task.floor →
+    IsAmong (line_of turned_time held) floor held.places paused.later paused.done paused.from now level
+paused_among task ls held left now level floor paused floor_is =
+    subst (λ l. IsAmong l floor held.places paused.later paused.done paused.from now level) (sym paused.line)
+    (subst (λ f. IsAmong task.line f held.places paused.later paused.done paused.from now level) (sym floor_is)
+    (record { free = paused.ready.0; kids = paused.kids; under = paused.under; trees = paused.trees }))
+
+pub among_paused :
+    (task : Task) (ls : Vec Level Global) (held : Held) (left : Left) (old now : State) (level level2 : Level) (floor : ℕ) (done : List Place) → (paused : IsPaused task ls held left old level) →
+    floor ≡ task.floor → level2.unit ≡ level.unit → IsAmong (line_of turned_time held) floor held.places paused.later done paused.from now level2 → IsPaused task ls held left now level2
+among_paused task ls held left old now level level2 floor done paused floor_is unit_is among =
+    let at =
+    subst (λ f. IsAmong task.line f held.places paused.later done paused.from now level2) floor_is
+    (subst (λ l. IsAmong l floor held.places paused.later done paused.from now level2) paused.line among) in
+    record {
+      line = paused.line;
+      rest = paused.rest;
+      later = paused.later;
+      ready = subst (λ u. IsReadyFor task.line.loads task.line.slots held.places (u ∷ paused.later)) (sym unit_is) paused.ready;
+      room = paused.room;
+      from = paused.from;
+      stack = subst (λ u. IsStack task (reverse ls.items) held.places (u ∷ paused.later) paused.from) (sym unit_is) paused.stack;
+      done = done;
+      kids = at.kids;
+      under = at.under;
+      trees = at.trees;
     }
 
 -- no child is left to be explored
@@ -256,20 +352,12 @@ paused_up task ls held left now level v paused under = record {
   entered = under_all task.line task.floor held.places level.unit paused.later paused.from now v under;
 }
 
-pub paused_none :
-    (task : Task) (ls : Vec Level Global) (held : Held) (left : Left) (now : State) (level : Level) →
-    IsPaused task ls held left now level → level.places ≡ [] → IsOn task ls held left now (Up (Split level.trees))
-paused_none task ls held left now level paused none =
-    let all : paused.done ≡ children task.line held.places level.unit = sym (append-nil paused.done) ∙ ap (λ w. paused.done ++ w) (sym none) ∙ paused.kids in
-    paused_up task ls held left now level level.trees paused
-    (subst (λ k. IsUnderWay task.line task.floor held.places level.unit paused.later k paused.from now level.trees.items) all paused.under)
-
 pub paused_open :
     (task : Task) (ls : Vec Level Global) (held : Held) (left : Left) (now : State) (level : Level) (v : Vec Tree Global) →
-    IsPaused task ls held left now level → now.left ≡ 0 → v.items ≡ level.trees.items ++ replicate (length level.places) OpenLeaf →
+    IsPaused task ls held left now level → (length level.places ≡ 0) ⊎ IsSpent now → v.items ≡ level.trees.items ++ replicate (length level.places) OpenLeaf →
     IsOn task ls held left now (Up (Split v))
-paused_open task ls held left now level v paused none made =
-    let under = under_open task.line task.floor held.places level.unit paused.later paused.done level.places paused.from now level.trees.items none paused.under in
+paused_open task ls held left now level v paused why made =
+    let under = under_open task.line task.floor held.places level.unit paused.later paused.done level.places paused.from now level.trees.items why paused.under in
     paused_up task ls held left now level v paused
     (subst (λ ts. IsUnderWay task.line task.floor held.places level.unit paused.later (children task.line held.places level.unit) paused.from now ts) (sym made)
     (subst (λ k. IsUnderWay task.line task.floor held.places level.unit paused.later k paused.from now (level.trees.items ++ replicate (length level.places) OpenLeaf)) paused.kids under))
@@ -280,12 +368,12 @@ length-last (y ∷ xs) x = let rest = length-last xs x in omega (arith, rest)
 
 -- the next child gets its place
 pub paused_next :
-    (task : Task) (ls ls2 : Vec Level Global) (held held2 : Held) (left left2 : Left) (now : State) (level : Level) (p : Place) (places : List Place) →
-    IsPaused task ls held left now level → level.places ≡ p ∷ places →
+    (task : Task) (ls ls2 : Vec Level Global) (held held2 : Held) (left left2 : Left) (now asked : State) (level : Level) (p : Place) (places : List Place) →
+    IsPaused task ls held left now level → IsAsked task.floor now asked → level.places ≡ p ∷ places →
     ls2.items ≡ ls.items ++ record { unit = level.unit; places = places; trees = level.trees } ∷ [] → vec_capacity ls2 ≡ vec_capacity ls →
     held2 ≡ with_place held level.unit (Some p) → left2 ≡ with_flag left level.unit false →
-    IsOn task ls2 held2 left2 now Enter
-paused_next task ls ls2 held held2 left left2 now level p places paused steps pushed same made flagged =
+    IsOn task ls2 held2 left2 asked Enter
+paused_next task ls ls2 held held2 left left2 now asked level p places paused entered steps pushed same made flagged =
     let u = level.unit in
     let level2 : Level = record { unit = level.unit; places = places; trees = level.trees } in
     let kids : paused.done ++ p ∷ places ≡ children task.line held.places u = ap (λ w. paused.done ++ w) (sym steps) ∙ paused.kids in
@@ -312,7 +400,7 @@ paused_next task ls ls2 held held2 left left2 now level p places paused steps pu
       room = omega (arith, long, room, same);
       from = now;
       stack = subst (λ w. IsStack task w held2.places paused.later now) (sym (ap reverse pushed ∙ reverse-push ls.items level2)) (held.places, paused.from, top, paused.stack);
-      entered = refl;
+      entered = entered;
     }
 
 -- the place of the innermost level is taken back
@@ -435,9 +523,9 @@ for_walk held order first now s same loads slots = record {
 
 -- the walk begins
 pub on_start :
-    (held : Held) (left : Left) (order : List ℕ) (frame : Frame) (s : State) (ls : Vec Level Global) →
-    IsRestOf left held → IsReadyFor held.loads held.slots held.places order → ls.items ≡ [] → length order ≤ vec_capacity ls → IsOn (walk_task held order frame s) ls held left s Enter
-on_start held left order frame s ls rest ready none room =
+    (held : Held) (left : Left) (order : List ℕ) (frame : Frame) (s now : State) (ls : Vec Level Global) →
+    IsRestOf left held → IsReadyFor held.loads held.slots held.places order → ls.items ≡ [] → length order ≤ vec_capacity ls → IsAsked frame.floor s now → IsOn (walk_task held order frame s) ls held left now Enter
+on_start held left order frame s now ls rest ready none room asked =
     let long = ap length none in record {
       line = refl;
       rest = rest;
@@ -446,5 +534,5 @@ on_start held left order frame s ls rest ready none room =
       room = omega (arith, long, room);
       from = s;
       stack = subst (λ w. IsStack (walk_task held order frame s) (reverse w) held.places order s) (sym none) (refl, refl, refl);
-      entered = refl;
+      entered = asked;
     }

@@ -1,5 +1,5 @@
 -- A walk with a stack of its own.
-use Rattle.std.specs.Prelude.{◌≡◌, ℕ, suc, ◌+◌, ◌*◌, ◌^◌, ◌<◌, ◌≤◌, ◌++◌, List, [], ◌∷◌, length, set, reverse, Option, Some, Bool, true}
+use Rattle.std.specs.Prelude.{◌≡◌, ℕ, suc, ◌+◌, ◌*◌, ◌^◌, ◌<◌, ◌≤◌, ◌++◌, List, [], ◌∷◌, length, set, slice_get, reverse, Option, Some, None, ◌⊎◌, Bool, true, false}
 use Rattle.std.proofs.Common.{Vec, Global, vec_capacity}
 use Rattle.ec_units.specs.declared.slave.Place.{Place}
 use Rattle.ec_loads.specs.Held.{Held}
@@ -30,6 +30,22 @@ pub record State : Type 0 where
 abbrev pub state_of : Search → Bool → Option ℕ → State
 state_of search halted known = record { value = search.value; left = search.left; halted = halted; known = known }
 
+-- the guide was asked before a node, while nodes were left and it didn't stop: the value in use is the lesser of what it was and what the guide knows
+pub record IsAsked (floor : ℕ) (from now : State) : Type 0 where
+  pub some : 0 < from.left
+  pub runs : from.halted ≡ false
+  pub left : now.left ≡ from.left
+  pub halted : now.halted ≡ from.halted
+  pub low : IsAtMost now.value from.value
+  pub under : IsAtMost now.value now.known
+  pub one : (now.value ≡ from.value) ⊎ (now.value ≡ now.known)
+  pub high : (b : ℕ) → now.known ≡ Some b → floor ≤ b
+  pub falls : IsAtMost now.known from.known
+
+-- a node stays open: no node is left, or the guide stops
+abbrev pub IsSpent : State → Type 0
+IsSpent s = (s.left ≡ 0) ⊎ (s.halted ≡ true)
+
 -- a walk below a prefix, from one state to another, gave the tree
 pub record IsExplored (line : Line) (floor : ℕ) (ps : Prefix) (order : List ℕ) (from to : State) (tree : Shape) : Type 0 where
   pub walked : IsWalked line floor ps order from.value from.left to.value to.left to.halted tree
@@ -48,6 +64,19 @@ pub record IsUnderWay (line : Line) (floor : ℕ) (ps : Prefix) (u : ℕ) (order
   pub least : IsAtMost from.known from.value → IsAtMost now.known now.value
   pub most : IsAtMost now.value now.known
   pub stays : from.halted ≡ true → now.halted ≡ true
+
+-- a split of a prefix, begun in one state, some of whose children have trees in the other; the unit has no place
+pub record IsAmong (line : Line) (floor : ℕ) (ps : Prefix) (later : List ℕ) (done : List Place) (from now : State) (level : Level) : Type 0 where
+  pub free : slice_get ps level.unit ≡ Some None
+  pub kids : done ++ level.places ≡ children line ps level.unit
+  pub under : IsUnderWay line floor ps level.unit later done from now level.trees.items
+  pub trees : length level.trees.items + length level.places ≤ vec_capacity level.trees
+
+-- after some more children: this one is the next, and the guide was asked for it; or none is to be explored
+abbrev pub IsPassed : Line → ℕ → Prefix → List ℕ → State → State → Level → Option Place → Type 0
+IsPassed line floor ps later from now level (Some p) =
+    (done : List Place) × (before : State) × IsAsked floor before now × IsAmong line floor ps later done from before (record { unit = level.unit; places = p ∷ level.places; trees = level.trees })
+IsPassed line floor ps later from now level None = (done : List Place) × IsAmong line floor ps later done from now level × ((length level.places ≡ 0) ⊎ IsSpent now)
 
 -- what became of a node
 pub record IsOpened (line : Line) (floor : ℕ) (ps : Prefix) (order : List ℕ) (from to : State) (level : Level) : Type 0 where
@@ -87,9 +116,9 @@ abbrev pub IsStack : Task → List Level → Prefix → List ℕ → State → T
 IsStack task [] ps later now = (ps ≡ task.places) × (later ≡ task.order) × (now ≡ task.first)
 IsStack task (l ∷ ls) ps later now = (before : Prefix) × (from : State) × IsTop task l before from ps later now × IsStack task ls before (l.unit ∷ later) from
 
--- the node is to be entered, or was entered and has this tree
+-- the guide was asked for the node, or it was entered and has this tree
 abbrev pub IsTurn : Task → Prefix → List ℕ → State → State → Turn → Type 0
-IsTurn task ps later from now Enter = now ≡ from
+IsTurn task ps later from now Enter = IsAsked task.floor from now
 IsTurn task ps later from now (Up tree) = IsExplored task.line task.floor ps later from now (shape_of tree)
 
 -- where a walk is

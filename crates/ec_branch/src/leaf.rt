@@ -1,11 +1,11 @@
 //! The leaf that closes a prefix.
 
-ghost use Rattle.std.specs.Prelude.{◌≡◌, ℕ, ◌≤◌, IfOk, MatchOption};
+ghost use Rattle.std.specs.Prelude.{◌≡◌, ℕ, ◌<◌, ◌≤◌, IfOk, IfSome, MatchOption, slice_get, slice_set, get_or, Some, None};
 ghost use Rattle.ec_loads.specs.Cost.{IsFirstBusiest};
 ghost use Rattle.ec_loads.specs.Held.{items_of};
 ghost use Rattle.ec_loads.specs.Legal.{Fits};
 ghost use Rattle.ec_loads.specs.Line.{turned_time, line_of};
-ghost use Rattle.ec_loads.specs.Search.{TickHolds, FullHolds};
+ghost use Rattle.ec_loads.specs.Search.{TickHolds, FullHolds, nobody};
 ghost use Rattle.ec_bounds.specs.Left.{IsRestOf};
 ghost use Rattle.ec_cert.specs.Shapes.{shape_of};
 ghost use Rattle.ec_branch.specs.Walks.{IsClosing};
@@ -13,7 +13,8 @@ ghost use Rattle.ec_branch.specs.Walks.{IsClosing};
 use crate::weighted::weighted_leaf;
 use ec_bounds::{Rest, average_bound, full_bound, tick_bound};
 use ec_cert::Tree;
-use ec_loads::Loads;
+use ec_loads::{Excess, Loads};
+use ec_units::Place;
 use std::alloc::{AllocError, Global};
 
 /// The least tick, and in it the least slot, whose payload is too large.
@@ -61,6 +62,33 @@ fn plain_leaf(loads: &Loads, rest: &Rest, value: Option<u64>) -> Option<Tree>
         return Some(Tree::Average);
     }
     None
+}
+
+/// The leaf that closes the places so far and one place more for a unit that has none, where its payload is then too
+/// large or a tick costs at least the value; none also where that is so without it. The loads stay as they are.
+pub(crate) fn raised_leaf(
+    loads: &Loads,
+    unit: usize,
+    place: Place,
+    value: Option<u64>,
+) -> Option<Tree>
+    requires free { slice_get loads.now.places unit ≡ Some None }
+    requires phase { place.phase < (get_or loads.now.loads unit nobody).period }
+    requires slot { place.slot < loads.now.slots }
+    ensures { IfSome result (λ tree. IsClosing (line_of turned_time loads.now) value (slice_set loads.now.places unit (Some place)) (shape_of tree)) }
+{
+    let Some(least) = value else {
+        return None;
+    };
+    if full_bound(loads).is_some() || loads.first_at_least(least).is_some() {
+        return None;
+    }
+    let _ticks = loads.ticks();
+    match loads.excess(unit, place, least) {
+        Some(Excess::Payload(tick)) => Some(Tree::FullLeaf(tick, place.slot)),
+        Some(Excess::Cost(tick)) => Some(Tree::TickLeaf(tick)),
+        None => None,
+    }
 }
 
 /// The leaf that closes the places so far at a value: a payload that is too large, else a tick that costs at least

@@ -1,6 +1,7 @@
 //! The search below a prefix: the order of the units, a first plan, and trees whose leaves hold.
 #![tactic(auto)]
 
+mod ask;
 mod back;
 mod exploring;
 mod first_plan;

@@ -4,14 +4,14 @@ ghost use Rattle.std.specs.Prelude.{◌≡◌, IfOk, true};
 ghost use Rattle.ec_loads.specs.Line.{turned_time, line_of};
 ghost use Rattle.ec_bounds.specs.Left.{IsRestOf};
 ghost use Rattle.ec_branch.specs.Frames.{Frame};
-ghost use Rattle.ec_branch.specs.Stacks.{IsEntered, state_of};
+ghost use Rattle.ec_branch.specs.Stacks.{State, IsAsked, IsEntered, state_of};
 ghost use Rattle.ec_branch.specs.Walks.{IsReadyFor};
 
 use crate::guide::Guide;
 use crate::leaf::{leaf_of, top_of};
 use crate::level::Level;
 use crate::plan::whole;
-use crate::value::{Search, lesser};
+use crate::value::Search;
 use ec_bounds::Rest;
 use ec_cert::Tree;
 use ec_loads::Loads;
@@ -27,8 +27,8 @@ pub(crate) enum Entered {
     Split(Level),
 }
 
-/// Asks the guide and closes the node at the places so far, or tells the guide of the plan that they make, or splits
-/// the node by the next unit. The node stays open where no node is left or the guide stops.
+/// Closes the node at the places so far, for which the guide was asked, or tells the guide of the plan that they make,
+/// or splits the node by the next unit. The node stays open where the guide then stops.
 pub(crate) fn enter<G: Guide>(
     alloc: Global,
     loads: &Loads,
@@ -41,14 +41,12 @@ pub(crate) fn enter<G: Guide>(
     requires left { IsRestOf rest.now loads.now }
     requires units { (G.frame guide.old).loads ≡ loads.now.loads }
     requires slots { (G.frame guide.old).slots ≡ loads.now.slots }
+    requires asked { (from : State) × IsAsked (G.frame guide.old).floor from (state_of search.old (G.halted guide.old) (G.known guide.old)) }
     ensures frame { G.frame guide.new ≡ G.frame guide.old }
     ensures stays { G.halted guide.old ≡ true → G.halted guide.new ≡ true }
-    ensures entered { IfOk result (λ node. IsEntered (line_of turned_time loads.now) (G.frame guide.old).floor loads.now.places order.now (state_of search.old (G.halted guide.old) (G.known guide.old)) (state_of search.new (G.halted guide.new) (G.known guide.new)) node) }
+    ensures entered { IfOk result (λ node. (from : State) → IsAsked (G.frame guide.old).floor from (state_of search.old (G.halted guide.old) (G.known guide.old)) →
+        IsEntered (line_of turned_time loads.now) (G.frame guide.old).floor loads.now.places order.now from (state_of search.new (G.halted guide.new) (G.known guide.new)) node) }
 {
-    if search.left == 0 || guide.stopped() {
-        return Ok(Entered::Leaf(Tree::OpenLeaf));
-    }
-    search.value = lesser(search.value, guide.bound());
     if let Some(leaf) = leaf_of(alloc, loads, rest, search.value)? {
         search.left -= 1;
         return Ok(Entered::Leaf(leaf));

@@ -8,6 +8,7 @@ ghost use Rattle.ec_branch.specs.Frames.{Frame};
 ghost use Rattle.ec_branch.specs.Stacks.{Task, IsFor, IsOn, IsWithin, IsBack, IsStepped, effort, state_of, is_less};
 ghost use Rattle.ec_branch.specs.Walks.{IsReadyFor, IsWalked, FollowsGuide};
 
+use crate::ask::ask;
 use crate::back::take_back;
 use crate::guide::Guide;
 use crate::level::{Level, Turn, next_child};
@@ -64,7 +65,7 @@ fn step<G: Guide>(
         Turn::Enter => match enter(alloc, loads, rest, &order[levels.len()..], guide, search)? {
             Entered::Leaf(tree) => Ok(Stepped::On(Turn::Up(tree))),
             Entered::Split(level) => {
-                Ok(Stepped::On(next_child(loads, rest, search.left, levels, level)))
+                Ok(Stepped::On(next_child(loads, rest, guide, search, levels, level)))
             }
         },
         Turn::Up(tree) => {
@@ -73,7 +74,7 @@ fn step<G: Guide>(
             };
             take_back(loads, rest, level.unit);
             level.trees.push_reserved(tree);
-            Ok(Stepped::On(next_child(loads, rest, search.left, levels, level)))
+            Ok(Stepped::On(next_child(loads, rest, guide, search, levels, level)))
         }
     }
 }
@@ -100,6 +101,9 @@ pub(crate) fn walk<G: Guide>(
     ensures walked { IfOk result (λ tree. IsWalked (line_of turned_time loads.old) (G.frame guide.old).floor loads.old.places order.now search.old.value search.old.left search.new.value search.new.left (G.halted guide.new) (shape_of tree)) }
 {
     let mut levels = Vec::with_capacity(alloc, order.len())?;
+    if !ask(guide, search) {
+        return Ok(Tree::OpenLeaf);
+    }
     let mut turn = Turn::Enter;
     loop {
         match step(alloc, loads, rest, order, guide, search, &mut levels, turn) {

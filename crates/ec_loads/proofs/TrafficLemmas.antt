@@ -150,7 +150,7 @@ tick_off x t s ne =
       | inr w ↦ ap (λ b. b && (x.slot == s)) w.0
     ]
 
-slot_on : (x : Item) (t : ℕ) → t % x.period ≡ x.phase → is_sent t x.slot x ≡ true
+pub slot_on : (x : Item) (t : ℕ) → t % x.period ≡ x.phase → is_sent t x.slot x ≡ true
 slot_on x t e = and_from (travels x.period x.phase t) (x.slot == x.slot) (eq-eqb (t % x.period) x.phase e) (eq-eqb x.slot x.slot refl)
 
 -- so they differ by what the item adds

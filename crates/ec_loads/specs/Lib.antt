@@ -1,5 +1,6 @@
 pub mod Cost
 pub mod Examples
+pub mod Excess
 pub mod Held
 pub mod Laws
 pub mod Legal

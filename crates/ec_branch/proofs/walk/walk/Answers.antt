@@ -1,7 +1,19 @@
-use Rattle.std.proofs.Common.{reverse, sym, subst}
+use Rattle.std.proofs.Common.{◌≡◌, true, reverse, ap, sym, subst, ◌∙◌, arith}
 use Rattle.ec_branch.specs.Stacks.{IsWithin, state_of}
-use Rattle.ec_branch.proofs.StackLemmas.{walk_task, for_walk, on_within, held_same}
+use Rattle.ec_branch.proofs.StackLemmas.{walk_task, for_walk, on_start, on_within, held_same, open_explored, shape_of-OpenLeaf}
 use Rattle.ec_branch.proofs.walk.walk.Goals as goal
+
+pub loop-next-init : goal.loop-next-init
+loop-next-init g c =
+    let h = c.args.loads.now in
+    let frame = g.G.Guide.frame c.args.guide.now in
+    let first = state_of c.args.search.now (g.G.Guide.halted c.args.guide.now) (g.G.Guide.known c.args.guide.now) in
+    let now = state_of c.ask.new.search (g.G.Guide.halted c.ask.new.guide) (g.G.Guide.known c.ask.new.guide) in
+    record {
+      frame = c.ask.ensures.frame;
+      stays = λ k. c.ask.ensures.stays ∙ k;
+      on = on_start h c.args.rest.now c.args.order.now frame first now c.in_ok-levels.levels c.requires.left c.requires.ready c.in_ok-levels.ensures.items c.in_ok-levels.ensures.capacity c.if-not-ask.ensures.asked;
+    }
 
 pub returns-in-Ok-Done-clause-same : goal.returns-in-Ok-Done-clause-same
 returns-in-Ok-Done-clause-same g c =

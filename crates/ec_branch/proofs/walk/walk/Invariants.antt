@@ -9,9 +9,9 @@ decreases-loop-next g l = effort l.search.left l.levels.items l.turn
 abbrev pub invariant-loop-next : goal.invariant-loop-next
 invariant-loop-next g l =
     record {
-      frame : g.G.Guide.frame l.guide ≡ g.G.Guide.frame l.initial.guide;
-      stays : g.G.Guide.halted l.initial.guide ≡ true → g.G.Guide.halted l.guide ≡ true;
+      frame : g.G.Guide.frame l.guide ≡ g.G.Guide.frame l.fn.guide;
+      stays : g.G.Guide.halted l.fn.guide ≡ true → g.G.Guide.halted l.guide ≡ true;
       on : IsOn
-          (walk_task l.fn.loads l.order (g.G.Guide.frame l.initial.guide) (state_of l.initial.search (g.G.Guide.halted l.initial.guide) (g.G.Guide.known l.initial.guide)))
+          (walk_task l.fn.loads l.order (g.G.Guide.frame l.fn.guide) (state_of l.fn.search (g.G.Guide.halted l.fn.guide) (g.G.Guide.known l.fn.guide)))
           l.levels l.loads l.rest (state_of l.search (g.G.Guide.halted l.guide) (g.G.Guide.known l.guide)) l.turn;
     }
