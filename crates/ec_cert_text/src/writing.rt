@@ -1,6 +1,7 @@
 //! The text of a certificate, written without taking memory.
 
 ghost use Rattle.std.specs.Prelude.{◌≡◌, ℕ, ◌++◌, ◌<◌, ◌≤◌, false, true, length, codes, OnOk, OnErr};
+ghost use Rattle.std.specs.Fmt.{decimal};
 ghost use Rattle.std.specs.List.{All, flat_map};
 ghost use Rattle.std.specs.Io.KnownBytes.{Appends};
 ghost use Rattle.ec_wire.specs.Stream.{stream, has_failed, WritesFront};
@@ -149,6 +150,42 @@ fn write_weight_words<W: Write>(
     Ok(())
 }
 
+/// Writes a word, a number and a line feed. It has a place of its own on the stack, which a walk over a tree pays for at
+/// these lines alone.
+#[inline(never)]
+fn write_number<W: Write>(
+    word: &[u8],
+    number: usize,
+    io: &mut Io<W>,
+    waiting: &mut Waiting,
+) -> Result<(), WriteFault>
+    requires { length word.now ≤ 32 }
+    ensures all { OnOk result (Gathers (W.contents (stream io.old)) waiting.old.bytes.items (W.contents (stream io.new)) waiting.new.bytes.items (word.now ++ (decimal number ++ codes "\n"))) }
+    ensures front { GathersFront (W.contents (stream io.old)) waiting.old.bytes.items (W.contents (stream io.new)) (word.now ++ (decimal number ++ codes "\n")) }
+    ensures ok { OnOk result (has_failed io.new ≡ has_failed io.old) }
+    ensures err { OnErr result (has_failed io.new ≡ true) }
+{
+    waiting.write(io, number_line(word, number).as_slice())
+}
+
+/// Writes a word, two numbers with a space between them, and a line feed, as `write_number` does.
+#[inline(never)]
+fn write_pair<W: Write>(
+    word: &[u8],
+    first: usize,
+    second: usize,
+    io: &mut Io<W>,
+    waiting: &mut Waiting,
+) -> Result<(), WriteFault>
+    requires { length word.now ≤ 32 }
+    ensures all { OnOk result (Gathers (W.contents (stream io.old)) waiting.old.bytes.items (W.contents (stream io.new)) waiting.new.bytes.items (word.now ++ (decimal first ++ (codes " " ++ (decimal second ++ codes "\n"))))) }
+    ensures front { GathersFront (W.contents (stream io.old)) waiting.old.bytes.items (W.contents (stream io.new)) (word.now ++ (decimal first ++ (codes " " ++ (decimal second ++ codes "\n")))) }
+    ensures ok { OnOk result (has_failed io.new ≡ has_failed io.old) }
+    ensures err { OnErr result (has_failed io.new ≡ true) }
+{
+    waiting.write(io, pair_line(word, first, second).as_slice())
+}
+
 #[cycle(nodes)]
 fn write_node<W: Write>(
     tree: &Tree,
@@ -162,15 +199,13 @@ fn write_node<W: Write>(
 {
     match tree {
         Tree::Split(trees) => {
-            let line = number_line(b"S ", trees.len());
-            waiting.write(io, line.as_slice())?;
+            write_number(b"S ", trees.len(), io, waiting)?;
             write_nodes(trees, io, waiting)
         }
-        Tree::TickLeaf(tick) => waiting.write(io, number_line(b"T ", *tick as usize).as_slice()),
-        Tree::FullLeaf(tick, slot) => waiting.write(
-            io,
-            pair_line(b"F ", *tick as usize, usize::from(*slot)).as_slice(),
-        ),
+        Tree::TickLeaf(tick) => write_number(b"T ", *tick as usize, io, waiting),
+        Tree::FullLeaf(tick, slot) => {
+            write_pair(b"F ", *tick as usize, usize::from(*slot), io, waiting)
+        }
         Tree::Average => waiting.write(io, b"A\n"),
         Tree::Weights(weights) => write_weights(weights.as_slice(), io, waiting),
         Tree::OpenLeaf => waiting.write(io, b"O\n"),

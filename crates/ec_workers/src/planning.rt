@@ -20,7 +20,7 @@ use crate::outcome::{Cut, Outcome, SolveFault};
 use crate::turn::offer;
 use ec_book::{Book, Finished};
 use ec_branch::{greedy, search_order};
-use ec_cert::{Best, Cert, Order, Tree, UnitLines, is_closed};
+use ec_cert::{Best, Cert, Order, Tree, UnitLines};
 use ec_checker::faults_refute;
 use ec_crew::{Gate, copy_of};
 use ec_tree::trees_bound;
@@ -120,6 +120,7 @@ fn ended(
     ensures outcome { IsOutcome units.now.units units.now.slots (asked_beyond 1 nodes (given_nodes book)) result }
     ensures order { HasOrder order result }
 {
+    let open = book.open_pieces();
     let Ok(finished) = book.finish() else {
         return nothing(order, Cut::Memory);
     };
@@ -129,7 +130,7 @@ fn ended(
         spent,
         ..
     } = finished;
-    if is_closed(&tree) {
+    if open == 0 {
         return proved(alloc, units, lines, order, best, tree);
     }
     Outcome::Unproved {

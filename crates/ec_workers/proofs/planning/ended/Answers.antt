@@ -8,5 +8,5 @@ returns-in_default-clause-outcome c =
     let us = c.args.units.now.units in
     c.nothing.ensures.outcome us c.args.units.now.slots (asked_beyond 1 c.args.nodes (given_nodes c.args.book)) c.requires.order (λ all. let some = c.requires.some in absurd (omega (arith, all, some)))
 
-pub returns-then-is_closed-clause-outcome : goal.returns-then-is_closed-clause-outcome
-returns-then-is_closed-clause-outcome c = c.proved.ensures.outcome (asked_beyond 1 c.args.nodes (given_nodes c.args.book))
+pub returns-then-open-eq0-clause-outcome : goal.returns-then-open-eq0-clause-outcome
+returns-then-open-eq0-clause-outcome c = c.proved.ensures.outcome (asked_beyond 1 c.args.nodes (given_nodes c.args.book))
