@@ -3,15 +3,15 @@
 ghost use Rattle.std.specs.Prelude.{Some};
 
 use crate::call::Call;
-use ec_cert::{Cert, well_formed};
+use ec_cert::{Cert, Tree, well_formed};
 use ec_cert_text::{read_cert, write_cert};
 use ec_checker::check;
 use ec_units::Units;
 use ec_wire::Io;
 use std::alloc::{AllocError, Global};
 use std::fmt::Write as _;
-use std::io;
 use std::io::{ErrorKind, Write};
+use std::{io, mem};
 
 /// Two units of 200 bytes, one every second and one every third tick: 19 lines, 128 bytes.
 const EXAMPLE: &str =
@@ -121,6 +121,21 @@ fn checked(alloc: Global, units: &Units, text: &[u8]) -> Result<String, AllocErr
     }
 }
 
+/// What the checker answers of such a text's certificate with so many splits of one child each above its tree, which may be
+/// more than a text can have.
+fn towered(alloc: Global, units: &Units, text: &[u8], splits: usize) -> Result<String, AllocError> {
+    let mut cert = match read_cert(alloc, text) {
+        Ok(cert) => cert,
+        Err(fault) => return format!(in alloc; "{fault:?}"),
+    };
+    for _ in 0..splits.min(60) {
+        let mut children = Vec::new(alloc);
+        children.push(mem::replace(&mut cert.tree, Tree::OpenLeaf))?;
+        cert.tree = Tree::Split(children);
+    }
+    format!(in alloc; "{:?}", check(alloc, units, &cert))
+}
+
 /// A text that a call makes: the first bytes of the example, the example with a tab for a byte, or twice; a
 /// certificate of so many splits below one another, of so many units, or so many spaces.
 fn made(alloc: Global, call: &Call<'_>) -> Result<Vec<u8>, AllocError> {
@@ -191,8 +206,8 @@ fn wide(alloc: Global, last: u32) -> Result<String, AllocError> {
 }
 
 /// What a call about certificates answers: `read TEXT`, `write ROOM TEXT`, `check TEXT`; `lines FIRST LAST TEXT` and
-/// `judge FIRST LAST TEXT` read and check the example with these lines replaced, `example ROOM` writes it; `wide LAST` checks one of many nodes; any other
-/// name reads a text that it makes.
+/// `judge FIRST LAST TEXT` read and check the example with these lines replaced, `example ROOM` writes it; `wide LAST`
+/// checks one of many nodes, `tower SPLITS TEXT` one with so many splits more; any other name reads a text that it makes.
 pub(crate) fn answer(alloc: Global, units: &Units, call: &Call<'_>) -> Result<String, AllocError> {
     match call.name() {
         b"read" => reading(alloc, unbarred(alloc, call.after(1))?.as_slice()),
@@ -202,6 +217,10 @@ pub(crate) fn answer(alloc: Global, units: &Units, call: &Call<'_>) -> Result<St
         }
         b"example" => rewritten(alloc, EXAMPLE.as_bytes(), call.index(1)),
         b"check" => checked(alloc, units, unbarred(alloc, call.after(1))?.as_slice()),
+        b"tower" => {
+            let text = unbarred(alloc, call.after(2))?;
+            towered(alloc, units, text.as_slice(), call.index(1))
+        }
         b"wide" => checked(alloc, units, wide(alloc, call.count(1))?.as_bytes()),
         b"lines" => {
             let text = edited(alloc, call.index(1), call.index(2), call.after(3))?;
