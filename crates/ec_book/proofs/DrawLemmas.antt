@@ -1,6 +1,6 @@
 -- The last trees in place of the open leaves, from the last report to the first.
 use Rattle.std.proofs.Common.{◌≡◌, ◌≢◌, ℕ, zero, suc, ◌+◌, ◌<◌, ◌≤◌, ◌==◌, Bool, true, false, eqb, if◌then◌else◌, List, [], ◌∷◌, ◌++◌, length, set, get_or, slice_get, take, drop, replicate, Some, refl, sym, ap, ◌∙◌, subst, arith, not-suc-le-zero, le_of_suc-le-suc, add-one, rules}
-use Rattle.ec_loads.specs.Shape.{Shape, tick, full, weighted, split, leaf, open_leaf, more}
+use Rattle.ec_loads.specs.Shape.{Shape, Shapes, tick, full, weighted, split, leaf, open_leaf, no_shapes, more}
 use Rattle.ec_loads.specs.Search.{open_count, open_counts, node_count, node_counts}
 use Rattle.ec_cert.specs.declared.tree.Tree.{Tree, TickLeaf, FullLeaf, Weights, OpenLeaf, the_lemmas}
 use Rattle.ec_cert.specs.Shapes.{shape_of, shapes_of}
@@ -20,6 +20,20 @@ module _ (f g : ℕ → Shape) (c : ℕ) (same : (m : ℕ) → m < c → f m ≡
     pub draws-same : (ts : Numbereds) → AllBelow c ts → draws f ts ≡ draws g ts
     draws-same last b = refl
     draws-same (next t ts) b = (λ j. more (draw-same t b.0 j) (draws-same ts b.1 j))
+
+-- without an open leaf there is nothing to draw
+mutual
+  pub draw-closed : (f : ℕ → Shape) (s : Shape) (k : ℕ) → open_count s ≡ 0 → draw f (numbered k s) ≡ s
+  draw-closed f (split ts) k none = ap split (draws-closed f ts k none)
+  draw-closed f (leaf l) k none = refl
+  draw-closed f open_leaf k none = absurd (omega (arith, none))
+
+  draws-closed : (f : ℕ → Shape) (ss : Shapes) (k : ℕ) → open_counts ss ≡ 0 → draws f (all_numbered k ss) ≡ ss
+  draws-closed f no_shapes k none = refl
+  draws-closed f (more s ss) k none =
+      let one : open_count s ≡ 0 = omega (arith, none) in
+      let rest : open_counts ss ≡ 0 = omega (arith, none) in
+      λ j. more (draw-closed f s k one j) (draws-closed f ss (k + open_count s) rest j)
 
 -- drawing a filled tree
 module _ (f g : ℕ → Shape) (h : ℕ → Numbered) (c : ℕ) (each : (m : ℕ) → m < c → f m ≡ draw g (h m)) where

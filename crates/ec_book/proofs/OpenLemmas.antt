@@ -6,9 +6,9 @@ use Rattle.ec_units.specs.declared.unit.Load.{Load}
 use Rattle.ec_loads.specs.Line.{Line}
 use Rattle.ec_loads.specs.Search.{children}
 use Rattle.ec_loads.specs.Shape.{Shape, split, more}
-use Rattle.ec_cert.specs.declared.tree.Tree.{Tree, Split}
+use Rattle.ec_cert.specs.declared.tree.Tree.{Tree}
 use Rattle.ec_cert.specs.Shapes.{shape_of, shapes_of}
-use Rattle.ec_cert.proofs.TreeLemmas.{shape_of-Split, shapes_of-drop}
+use Rattle.ec_cert.proofs.TreeLemmas.{shapes_of-drop}
 use Rattle.ec_symmetry.specs.Orders.{prefix_of}
 use Rattle.ec_book.specs.Open.{leaf_places, all_leaf_places, open_places, AreOpened, IsAddedTo}
 use Rattle.ec_book.proofs.OrderLemmas.{leads-more}
@@ -30,11 +30,10 @@ opened_first line order ts u w q path kids out same next e =
 pub leads-here : (loads : List Load) (order : List ℕ) (q : List Place) (u : ℕ) → length q < length order → u ≡ get_or order (length q) 0 → u ∷ drop (length q + 1) order ≡ drop (length q) order
 leads-here loads order q u h is = (λ j. is j ∷ drop (length q + 1) order) ∙ sym (drop_more order (length q) 0 h)
 
-pub split_opened : (line : Line) (order : List ℕ) (tree : Tree) (trees : Vec Tree Global) (u : ℕ) (q : List Place) → tree ≡ Split trees → length q < length order → u ≡ get_or order (length q) 0
+pub split_opened : (line : Line) (order : List ℕ) (tree : Tree) (trees : Vec Tree Global) (u : ℕ) (q : List Place) → shape_of tree ≡ split (shapes_of trees.items) → length q < length order → u ≡ get_or order (length q) 0
     → open_places line order (shape_of tree) q ≡ opened_all line order trees.items u q
 split_opened line order tree trees u q is h at =
-    let whole : shape_of tree ≡ split (shapes_of trees.items) = ap shape_of is ∙ shape_of-Split trees in
-    λ j. leaf_places line (whole j) (prefix_of line.loads order q) (sym (leads-here line.loads order q u h at) j) q
+    λ j. leaf_places line (is j) (prefix_of line.loads order q) (sym (leads-here line.loads order q u h at) j) q
 
 pub child_opened : (line : Line) (order : List ℕ) (ts : List Tree) (u : ℕ) (q : List Place) (kids rest : List Place) (p : Place) (i : ℕ) (t : Tree)
     → length q < length order → u ≡ get_or order (length q) 0 → i < length ts → t ≡ get_or ts i t → kids ≡ p ∷ rest

@@ -1,7 +1,7 @@
 -- A split whose last children were filled.
-use Rattle.std.proofs.Common.{◌≡◌, ℕ, zero, suc, ◌+◌, ◌-◌, ◌<◌, ◌≤◌, List, [], ◌∷◌, length, set, get_or, slice_get, take, drop, Vec, Global, Some, refl, sym, ap, ◌∙◌, subst, arith, take_all}
+use Rattle.std.proofs.Common.{◌≡◌, ℕ, zero, suc, ◌+◌, ◌-◌, ◌<◌, ◌≤◌, List, [], ◌∷◌, length, set, get_or, slice_get, take, drop, Box, Vec, Global, Some, refl, sym, ap, ◌∙◌, subst, arith, take_all, not-suc-le-zero, le_of_suc-le-suc}
 use Rattle.std.proofs.lemmas.Option.{slice_get_read, get_or_from_slice_get}
-use Rattle.ec_loads.specs.Shape.{split, Leaf, leaf}
+use Rattle.ec_loads.specs.Shape.{split}
 use Rattle.ec_loads.specs.Search.{open_count, open_counts}
 use Rattle.ec_cert.specs.declared.tree.Tree.{Tree, Split}
 use Rattle.ec_cert.specs.Shapes.{shape_of, shapes_of}
@@ -9,7 +9,7 @@ use Rattle.ec_cert.proofs.TreeLemmas.{shape_of-Split, opens_step}
 use Rattle.ec_book.specs.Numbered.{numbered, all_numbered, draw, draws}
 use Rattle.ec_book.specs.Grown.{shape_at}
 use Rattle.ec_book.proofs.RowLemmas.{Below-numbered}
-use Rattle.ec_book.proofs.DrawLemmas.{draw-same, shape_at-take, length-take', length-set'', rows_done, slice_get-set, take-take', drop-end}
+use Rattle.ec_book.proofs.DrawLemmas.{draw-same, draw-closed, shape_at-take, length-take', length-set'', rows_done, slice_get-set, take-take', drop-end}
 
 pub record IsPart (ts ls built0 built : List Tree) (i : ℕ) : Type 0 where
   pub within : i ≤ length ts
@@ -46,6 +46,10 @@ module _ (ts ls built0 built : List Tree) (i j : ℕ) (h : IsPart ts ls built0 b
   pub child_fits : (x : Tree) → slice_get ts j ≡ Some x → open_counts (shapes_of ts) ≤ length built0 → open_count (shape_of x) ≤ length built
   child_fits x at most = omega (arith, child_opens x at, h.left, most)
 
+  -- the child's open leaves lie from the floor on, where those of the split do
+  pub child_above : (floor : ℕ) (x : Tree) → slice_get ts j ≡ Some x → floor + open_counts (shapes_of ts) ≤ length built0 → floor + open_count (shape_of x) ≤ length built
+  child_above floor x at most = omega (arith, child_opens x at, h.left, most)
+
   pub part-step : (x mid new : Tree) (built2 : List Tree) → slice_get ts j ≡ Some x → open_counts (shapes_of ts) ≤ length built0 → built2 ≡ take (length built - open_count (shape_of x)) built → shape_of new ≡ draw (shape_at built) (numbered (length built - open_count (shape_of x)) (shape_of x)) → IsPart ts (set (set ls j mid) j new) built0 built2 j
   part-step x mid new built2 at most built2_is new_is =
       let fits = child_fits x at most in
@@ -67,15 +71,29 @@ module _ (ts ls built0 built : List Tree) (i j : ℕ) (h : IsPart ts ls built0 b
         done = rows_done (shape_at built0) ts (set ls j mid) j (length built2) x new (omega (arith, inside, length-set'' ls j mid)) at one rest;
       }
 
-  -- a child that is a closed leaf stays as it is
-  pub part-skip : (x : Tree) (l : Leaf) → slice_get ts j ≡ Some x → shape_of x ≡ leaf l → open_counts (shapes_of ts) ≤ length built0 → IsPart ts ls built0 built j
-  part-skip x l at is most =
-      let none : open_count (shape_of x) ≡ 0 = ap open_count is in
+  -- a child without an open leaf stays as it is
+  pub part-skip : (x : Tree) → slice_get ts j ≡ Some x → open_count (shape_of x) ≡ 0 → open_counts (shapes_of ts) ≤ length built0 → IsPart ts ls built0 built j
+  part-skip x at none most =
       let here : slice_get ls j ≡ Some x = h.front j (omega arith) ∙ at in
       let same : set ls j x ≡ ls = set-back ls j x here in
       let whole : built ≡ take (length built - open_count (shape_of x)) built = sym (take_all (length built - open_count (shape_of x)) built (omega (arith, none))) in
-      let drawn : shape_of x ≡ draw (shape_at built) (numbered (length built - open_count (shape_of x)) (shape_of x)) = rw is refl in
+      let drawn : shape_of x ≡ draw (shape_at built) (numbered (length built - open_count (shape_of x)) (shape_of x)) = sym (draw-closed (shape_at built) (shape_of x) (length built - open_count (shape_of x)) none) in
       subst (λ w. IsPart ts w built0 built j) (ap (λ w. set w j x) same ∙ same) (part-step x x x built at most whole drawn)
+
+is_there : (ts : List Tree) (i : ℕ) → i < length ts → (x : Tree) × (slice_get ts i ≡ Some x)
+is_there [] i h = absurd (not-suc-le-zero h)
+is_there (t ∷ ts) zero h = (t, refl)
+is_there (t ∷ ts) (suc i) h = is_there ts i (le_of_suc-le-suc h)
+
+-- no child before has an open leaf
+pub part-rest : (ts ls built0 built : List Tree) (i : ℕ) → IsPart ts ls built0 built i → open_counts (shapes_of (take i ts)) ≡ 0 → open_counts (shapes_of ts) ≤ length built0 → IsPart ts ls built0 built 0
+part-rest ts ls built0 built zero h none most = h
+part-rest ts ls built0 built (suc i) h none most =
+    let is : i + 1 ≡ suc i = omega arith in
+    let within : i < length ts = omega (arith, h.within) in
+    let got = is_there ts i within in
+    let count = child_opens ts ls built0 built (suc i) i h is got.0 got.1 in
+    part-rest ts ls built0 built i (part-skip ts ls built0 built (suc i) i h is got.0 got.1 (omega (arith, count, none)) most) (omega (arith, count, none)) most
 
 pub part-start : (ts built0 : List Tree) → IsPart ts ts built0 built0 (length ts)
 part-start ts built0 = record {
@@ -91,20 +109,19 @@ part-start ts built0 = record {
     take-all [] = refl
     take-all (x ∷ xs) = ap (λ w. x ∷ w) (take-all xs)
 
+-- where no leaf is open, no tree is taken
+pub none_taken : (tree : Tree) (built : List Tree) → open_count (shape_of tree) ≡ 0 → built ≡ take (length built - open_count (shape_of tree)) built
+none_taken tree built none = sym (take_all (length built - open_count (shape_of tree)) built (omega (arith, none)))
+
 -- what a split opens
-pub opens_all : (tree : Tree) (trees : Vec Tree Global) → tree ≡ Split trees → open_count (shape_of tree) ≡ open_counts (shapes_of trees.items)
-opens_all tree trees is = ap open_count (ap shape_of is ∙ shape_of-Split trees)
+pub opens_all : (tree : Tree) (trees : Vec Tree Global) → shape_of tree ≡ split (shapes_of trees.items) → open_count (shape_of tree) ≡ open_counts (shapes_of trees.items)
+opens_all tree trees is = ap open_count is
 
 module _ (ts ls built0 built : List Tree) (h : IsPart ts ls built0 built 0) where
   end_len : open_counts (shapes_of ts) ≤ length built0 → length built ≡ length built0 - open_counts (shapes_of ts)
   end_len most = let left = h.left in omega (arith, left, most)
 
-  pub part-left : (tree : Tree) (trees : Vec Tree Global) → tree ≡ Split trees → trees.items ≡ ts → open_count (shape_of tree) ≤ length built0 → built ≡ take (length built0 - open_count (shape_of tree)) built0
-  part-left tree trees is same most =
-      let all : open_count (shape_of tree) ≡ open_counts (shapes_of ts) = opens_all tree trees is ∙ ap (λ w. open_counts (shapes_of w)) same in
-      h.built_is ∙ ap (λ w. take w built0) (end_len (omega (arith, all, most)) ∙ ap (λ w. length built0 - w) (sym all))
-
-  pub part-tree : (tree : Tree) (trees made : Vec Tree Global) → tree ≡ Split trees → trees.items ≡ ts → made.items ≡ ls → open_count (shape_of tree) ≤ length built0
+  pub part-tree : (tree : Tree) (trees : Vec Tree Global) (made : Box (Vec Tree Global) Global) → shape_of tree ≡ split (shapes_of trees.items) → trees.items ≡ ts → made.value.items ≡ ls → open_count (shape_of tree) ≤ length built0
       → shape_of (Split made) ≡ draw (shape_at built0) (numbered (length built0 - open_count (shape_of tree)) (shape_of tree))
   part-tree tree trees made is same made_is most =
       let all : open_count (shape_of tree) ≡ open_counts (shapes_of ts) = opens_all tree trees is ∙ ap (λ w. open_counts (shapes_of w)) same in
@@ -112,4 +129,4 @@ module _ (ts ls built0 built : List Tree) (h : IsPart ts ls built0 built 0) wher
       shape_of-Split made ∙ ap (λ w. split (shapes_of w)) made_is ∙ ap split h.done
       ∙ ap (λ w. split (draws (shape_at built0) (all_numbered w (shapes_of ts)))) len
       ∙ ap (λ w. split (draws (shape_at built0) (all_numbered (length built0 - open_count (shape_of tree)) (shapes_of w)))) (sym same)
-      ∙ sym (ap (λ w. draw (shape_at built0) (numbered (length built0 - open_count (shape_of tree)) w)) (ap shape_of is ∙ shape_of-Split trees))
+      ∙ sym (ap (λ w. draw (shape_at built0) (numbered (length built0 - open_count (shape_of tree)) w)) is)

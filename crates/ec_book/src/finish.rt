@@ -32,9 +32,9 @@ pub(crate) fn assembled(given: Tree, reports: Vec<Report>, built: Vec<Tree>) -> 
     let mut reports = reports;
     let mut built = built;
     while let Some(report) = reports.pop() {
-        let Report { piece, tree, .. } = report;
-        let sub = filled(tree, &mut built);
+        let Report { piece, first, tree } = report;
+        let sub = filled(tree, first, &mut built);
         built[piece] = sub;
     }
-    filled(given, &mut built)
+    filled(given, 0, &mut built)
 }

@@ -18,6 +18,7 @@ pub(crate) fn node_count(tree: &Tree) -> u64
 {
     match tree {
         Tree::Split(trees) => {
+            let trees = trees.as_ref();
             let mut count = 1u64;
             for i in 0..trees.len() {
                 count = count.saturating_add(node_count(&trees[i]));

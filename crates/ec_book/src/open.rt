@@ -29,6 +29,7 @@ pub(crate) fn add_open(
 {
     match tree {
         Tree::Split(trees) => {
+            let trees = trees.as_ref();
             if path.len() >= order.len() {
                 return Ok(());
             }

@@ -23,23 +23,27 @@ pub(crate) fn is_closed_leaf(tree: &Tree) -> bool
     }
 }
 
-/// The last trees take the places of the open leaves. What is closed stays where it lies.
-pub(crate) fn filled(tree: Tree, built: &mut Vec<Tree>) -> Tree
-    requires { open_count (shape_of tree) ≤ length built.old.items }
+/// The last trees, which lie from `floor` on, take the places of the open leaves. What is closed stays where it lies, and
+/// where no tree is left from `floor` on, none is looked for.
+pub(crate) fn filled(tree: Tree, floor: usize, built: &mut Vec<Tree>) -> Tree
+    requires { floor + open_count (shape_of tree) ≤ length built.old.items }
     ensures left { built.new.items ≡ take (length built.old.items - open_count (shape_of tree)) built.old.items }
     ensures tree { shape_of result ≡ draw (shape_at built.old.items) (numbered (length built.old.items - open_count (shape_of tree)) (shape_of tree)) }
 {
     match tree {
-        Tree::Split(mut trees) => {
+        Tree::Split(mut room) => {
+            let empty = Vec::new(*room.allocator());
+            let mut trees = Box::replace(&mut room, empty);
             let mut i = trees.len();
-            while i > 0 {
+            while i > 0 && built.len() > floor {
                 i -= 1;
                 if !is_closed_leaf(&trees[i]) {
                     let child = mem::replace(&mut trees[i], Tree::OpenLeaf);
-                    trees[i] = filled(child, built);
+                    trees[i] = filled(child, floor, built);
                 }
             }
-            Tree::Split(trees)
+            Box::replace(&mut room, trees);
+            Tree::Split(room)
         }
         Tree::OpenLeaf => match built.pop() {
             Some(tree) => tree,

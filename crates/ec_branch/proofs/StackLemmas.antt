@@ -1,5 +1,5 @@
 -- A walk with a stack of its own: what each of its steps keeps.
-use Rattle.std.proofs.Common.{rules, ◌≡◌, ℕ, zero, suc, ◌+◌, ◌-◌, ◌*◌, ◌<◌, ◌≤◌, ◌++◌, Vec, Global, vec_capacity, ◌⊎◌, inl, inr, Bool, true, false, List, [], ◌∷◌, length, set, get_or, take, drop, reverse, replicate, Option, Some, None, refl, sym, ap, ◌∙◌, subst, arith, take_all, length-drop}
+use Rattle.std.proofs.Common.{rules, ◌≡◌, ℕ, zero, suc, ◌+◌, ◌-◌, ◌*◌, ◌<◌, ◌≤◌, ◌++◌, Box, Vec, Global, vec_capacity, ◌⊎◌, inl, inr, Bool, true, false, List, [], ◌∷◌, length, set, get_or, take, drop, reverse, replicate, Option, Some, None, refl, sym, ap, ◌∙◌, subst, arith, take_all, length-drop}
 use Rattle.std.proofs.lemmas.List.{append_assoc, append-nil, reverse-append, length-reverse, length-set, length-append}
 use Rattle.std.proofs.lemmas.Option.{slice_get_within}
 use Rattle.ec_units.specs.declared.slave.Place.{Place}
@@ -157,7 +157,7 @@ pub among_more :
     (line : Line) (floor : ℕ) (ps : Prefix) (later : List ℕ) (done : List Place) (from before now : State) (level : Level) (p : Place) (places : List Place) (t : Tree) (v : Vec Tree Global) →
     IsAmong line floor ps later done from before level → level.places ≡ p ∷ places → IsExplored line floor (set ps level.unit (Some p)) later before now (shape_of t) →
     v.items ≡ level.trees.items ++ t ∷ [] → vec_capacity v ≡ vec_capacity level.trees →
-    IsAmong line floor ps later (done ++ p ∷ []) from now (record { unit = level.unit; places = places; trees = v })
+    IsAmong line floor ps later (done ++ p ∷ []) from now (record { unit = level.unit; places = places; trees = v; room = level.room })
 among_more line floor ps later done from before now level p places t v among steps explored pushed room =
     let under = under_more line floor ps level.unit later done p from before now level.trees.items t among.under explored in
     let longer = ap length pushed ∙ length-append level.trees.items (t ∷ []) in
@@ -181,11 +181,11 @@ among_place line floor ps later done from now level p places among steps =
 
 -- all children have their trees
 pub under_all :
-    (line : Line) (floor : ℕ) (ps : Prefix) (u : ℕ) (order : List ℕ) (from now : State) (v : Vec Tree Global) →
-    IsUnderWay line floor ps u order (children line ps u) from now v.items → IsExplored line floor ps (u ∷ order) from now (shape_of (Split v))
-under_all line floor ps u order from now v under =
+    (line : Line) (floor : ℕ) (ps : Prefix) (u : ℕ) (order : List ℕ) (from now : State) (b : Box (Vec Tree Global) Global) →
+    IsUnderWay line floor ps u order (children line ps u) from now b.value.items → IsExplored line floor ps (u ∷ order) from now (shape_of (Split b))
+under_all line floor ps u order from now b under =
     let all = under.walking in
-    subst (IsExplored line floor ps (u ∷ order) from now) (sym (shape_of-Split v))
+    subst (IsExplored line floor ps (u ∷ order) from now) (sym (shape_of-Split b))
     (record {
       walked = record {
         holds = λ w low. all.holds w low;
@@ -337,11 +337,11 @@ among_paused task ls held left old now level level2 floor done paused floor_is u
 
 -- no child is left to be explored
 pub paused_up :
-    (task : Task) (ls : Vec Level Global) (held : Held) (left : Left) (now : State) (level : Level) (v : Vec Tree Global) →
+    (task : Task) (ls : Vec Level Global) (held : Held) (left : Left) (now : State) (level : Level) (b : Box (Vec Tree Global) Global) →
     (paused : IsPaused task ls held left now level) →
-    IsUnderWay task.line task.floor held.places level.unit paused.later (children task.line held.places level.unit) paused.from now v.items →
-    IsOn task ls held left now (Up (Split v))
-paused_up task ls held left now level v paused under = record {
+    IsUnderWay task.line task.floor held.places level.unit paused.later (children task.line held.places level.unit) paused.from now b.value.items →
+    IsOn task ls held left now (Up (Split b))
+paused_up task ls held left now level b paused under = record {
   line = paused.line;
   rest = paused.rest;
   later = level.unit ∷ paused.later;
@@ -349,16 +349,16 @@ paused_up task ls held left now level v paused under = record {
   room = paused.room;
   from = paused.from;
   stack = paused.stack;
-  entered = under_all task.line task.floor held.places level.unit paused.later paused.from now v under;
+  entered = under_all task.line task.floor held.places level.unit paused.later paused.from now b under;
 }
 
 pub paused_open :
-    (task : Task) (ls : Vec Level Global) (held : Held) (left : Left) (now : State) (level : Level) (v : Vec Tree Global) →
-    IsPaused task ls held left now level → (length level.places ≡ 0) ⊎ IsSpent now → v.items ≡ level.trees.items ++ replicate (length level.places) OpenLeaf →
-    IsOn task ls held left now (Up (Split v))
-paused_open task ls held left now level v paused why made =
+    (task : Task) (ls : Vec Level Global) (held : Held) (left : Left) (now : State) (level : Level) (b : Box (Vec Tree Global) Global) →
+    IsPaused task ls held left now level → (length level.places ≡ 0) ⊎ IsSpent now → b.value.items ≡ level.trees.items ++ replicate (length level.places) OpenLeaf →
+    IsOn task ls held left now (Up (Split b))
+paused_open task ls held left now level b paused why made =
     let under = under_open task.line task.floor held.places level.unit paused.later paused.done level.places paused.from now level.trees.items why paused.under in
-    paused_up task ls held left now level v paused
+    paused_up task ls held left now level b paused
     (subst (λ ts. IsUnderWay task.line task.floor held.places level.unit paused.later (children task.line held.places level.unit) paused.from now ts) (sym made)
     (subst (λ k. IsUnderWay task.line task.floor held.places level.unit paused.later k paused.from now (level.trees.items ++ replicate (length level.places) OpenLeaf)) paused.kids under))
 
@@ -370,12 +370,12 @@ length-last (y ∷ xs) x = let rest = length-last xs x in omega (arith, rest)
 pub paused_next :
     (task : Task) (ls ls2 : Vec Level Global) (held held2 : Held) (left left2 : Left) (now asked : State) (level : Level) (p : Place) (places : List Place) →
     IsPaused task ls held left now level → IsAsked task.floor now asked → level.places ≡ p ∷ places →
-    ls2.items ≡ ls.items ++ record { unit = level.unit; places = places; trees = level.trees } ∷ [] → vec_capacity ls2 ≡ vec_capacity ls →
+    ls2.items ≡ ls.items ++ record { unit = level.unit; places = places; trees = level.trees; room = level.room } ∷ [] → vec_capacity ls2 ≡ vec_capacity ls →
     held2 ≡ with_place held level.unit (Some p) → left2 ≡ with_flag left level.unit false →
     IsOn task ls2 held2 left2 asked Enter
 paused_next task ls ls2 held held2 left left2 now asked level p places paused entered steps pushed same made flagged =
     let u = level.unit in
-    let level2 : Level = record { unit = level.unit; places = places; trees = level.trees } in
+    let level2 : Level = record { unit = level.unit; places = places; trees = level.trees; room = level.room } in
     let kids : paused.done ++ p ∷ places ≡ children task.line held.places u = ap (λ w. paused.done ++ w) (sym steps) ∙ paused.kids in
     let range = children-In task.line held.places u p (subst (In p) kids (In-mid paused.done p places)) in
     let at : held2.places ≡ set held.places u (Some p) = ap (λ (h : Held). h.places) made in
@@ -431,7 +431,7 @@ pub on_rise :
     IsOn task ls held left now (Up tree) → ls.items ≡ ls2.items ++ level ∷ [] → vec_capacity ls2 ≡ vec_capacity ls →
     held2 ≡ with_place held level.unit None → left2 ≡ with_flag left level.unit true →
     v.items ≡ level.trees.items ++ tree ∷ [] → vec_capacity v ≡ vec_capacity level.trees →
-    IsPaused task ls2 held2 left2 now (record { unit = level.unit; places = level.places; trees = v })
+    IsPaused task ls2 held2 left2 now (record { unit = level.unit; places = level.places; trees = v; room = level.room })
 on_rise task ls ls2 held held2 left left2 now tree level v on popped same made flagged trees_are room_is =
     let u = level.unit in
     let stack : IsStack task (level ∷ reverse ls2.items) held.places on.later on.from = subst (λ w. IsStack task w held.places on.later on.from) (ap reverse popped ∙ reverse-push ls2.items level) on.stack in

@@ -17,13 +17,14 @@ use ec_loads::Loads;
 use ec_symmetry::Children;
 use ec_units::Place;
 
-/// A split that is under way: its unit, the places of its children that aren't explored yet, and the trees of those
-/// that are, with room for all.
+/// A split that is under way: its unit, the places of its children that aren't explored yet, the trees of those that
+/// are, with room for all, and where these lie in the end, so that no memory is asked for then.
 #[derive(Drop)]
 pub(crate) struct Level {
     pub unit: usize,
     pub places: Children,
     pub trees: Vec<Tree>,
+    pub room: Box<Vec<Tree>>,
 }
 
 /// What comes next: the node at the places so far, or, with the tree below them, the split above.
@@ -36,19 +37,21 @@ pub(crate) enum Turn {
 }
 
 /// The trees of a split whose other children stay open.
-fn left_open(level: Level) -> Vec<Tree>
+fn left_open(level: Level) -> Box<Vec<Tree>>
     requires { length level.trees.items + length level.places ≤ vec_capacity level.trees }
-    ensures { result.items ≡ level.trees.items ++ replicate (length level.places) OpenLeaf }
+    ensures { result.value.items ≡ level.trees.items ++ replicate (length level.places) OpenLeaf }
 {
     let Level {
         mut places,
         mut trees,
+        mut room,
         ..
     } = level;
     while let Some(_) = places.next() {
         trees.push_reserved(Tree::OpenLeaf);
     }
-    trees
+    Box::replace(&mut room, trees);
+    room
 }
 
 /// Closes the next children of a split, as long as each would have too large a payload or a tick that costs at least

@@ -69,10 +69,12 @@ pub(crate) fn enter<G: Guide>(
             search.left -= 1;
             let places = children_of(loads, unit, true);
             let trees = Vec::with_capacity(alloc, places.len())?;
+            let room = Box::new(alloc, Vec::new(alloc))?;
             Ok(Entered::Split(Level {
                 unit,
                 places,
                 trees,
+                room,
             }))
         }
     }

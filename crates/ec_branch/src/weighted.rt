@@ -71,7 +71,8 @@ pub(crate) fn weighted_leaf(
         Some(least) if may_hold(loads, rest, least) => {
             let weights = costs_of(alloc, loads)?;
             if weight_bound(loads, rest, weights.as_slice(), value) {
-                return Ok(Some(Tree::Weights(Weights::new(weights))));
+                let held = Weights::new(alloc, weights)?;
+                return Ok(Some(Tree::Weights(held)));
             }
             Ok(None)
         }

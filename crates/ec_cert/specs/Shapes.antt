@@ -12,7 +12,7 @@ shapes [] = no_shapes
 shapes (s ∷ ss) = more s (shapes ss)
 
 abbrev pub shape_step : Tree-F Shape → Shape
-shape_step (Tree-F.Split trees) = split (shapes trees.items)
+shape_step (Tree-F.Split trees) = split (shapes trees.value.items)
 shape_step (Tree-F.TickLeaf t) = leaf (tick t)
 shape_step (Tree-F.FullLeaf t s) = leaf (full t s)
 shape_step Tree-F.Average = leaf average

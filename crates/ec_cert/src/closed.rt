@@ -13,6 +13,7 @@ pub fn is_closed(tree: &Tree) -> bool
 {
     match tree {
         Tree::Split(trees) => {
+            let trees = trees.as_ref();
             let mut i = trees.len();
             while i > 0 {
                 i -= 1;

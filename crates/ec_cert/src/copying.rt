@@ -3,6 +3,7 @@
 ghost use Rattle.std.specs.Prelude.{◌≡◌, IfOk};
 ghost use Rattle.ec_cert.specs.Shapes.{shape_of};
 
+use crate::splitting::split_of;
 use crate::tree::Tree;
 use crate::weights::Weights;
 use std::alloc::{AllocError, Global};
@@ -17,14 +18,14 @@ pub fn copy_of(alloc: Global, tree: &Tree) -> Result<Tree, AllocError>
             for i in 0..trees.len() {
                 copies.push(copy_of(alloc, &trees[i])?)?;
             }
-            Ok(Tree::Split(copies))
+            split_of(alloc, copies)
         }
         Tree::TickLeaf(tick) => Ok(Tree::TickLeaf(*tick)),
         Tree::FullLeaf(tick, slot) => Ok(Tree::FullLeaf(*tick, *slot)),
         Tree::Average => Ok(Tree::Average),
         Tree::Weights(weights) => {
             let copy = Vec::from_slice(alloc, weights.as_slice())?;
-            Ok(Tree::Weights(Weights::new(copy)))
+            Ok(Tree::Weights(Weights::new(alloc, copy)?))
         }
         Tree::OpenLeaf => Ok(Tree::OpenLeaf),
     }

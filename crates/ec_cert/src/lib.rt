@@ -7,6 +7,7 @@ mod copying;
 mod lists;
 mod order;
 mod ranges;
+mod splitting;
 mod tree;
 mod weights;
 
@@ -16,5 +17,6 @@ pub use copying::copy_of;
 pub use lists::{UnitLine, UnitLines};
 pub use order::Order;
 pub use ranges::{LEVELS, is_name, well_formed};
+pub use splitting::split_of;
 pub use tree::Tree;
 pub use weights::Weights;

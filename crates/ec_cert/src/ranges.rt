@@ -107,8 +107,10 @@ fn has_levels(version: u8, tree: &Tree, levels: u8) -> bool
         return false;
     }
     match tree {
-        Tree::Split(trees) => is_child_count(trees.len())
-            && have_levels(version, trees, levels - 1),
+        Tree::Split(trees) => {
+            let trees = trees.as_ref();
+            is_child_count(trees.len()) && have_levels(version, trees, levels - 1)
+        }
         Tree::TickLeaf(tick) => *tick <= 1023,
         Tree::FullLeaf(tick, slot) => *tick <= 1023 && *slot <= 7,
         Tree::Average => true,

@@ -2,11 +2,12 @@
 
 use crate::weights::Weights;
 
-/// A search tree (own profile). Ticks and slots are numbered from 0.
+/// A search tree (own profile). Ticks and slots are numbered from 0. A node takes 16 bytes: what needs more lies behind
+/// a `Box`.
 #[derive(Debug, Drop)]
 pub enum Tree {
     /// A tree for each child, in the order of the children.
-    Split(Vec<Tree>),
+    Split(Box<Vec<Tree>>),
     /// Closed: this tick costs at least the value.
     TickLeaf(u32),
     /// Closed: the payload of this slot in this tick is too large.

@@ -1,13 +1,15 @@
 //! The weights of a leaf.
 
-ghost use Rattle.std.specs.Prelude.{◌≡◌};
+ghost use Rattle.std.specs.Prelude.{◌≡◌, IfOk};
 
+use std::alloc::{AllocError, Global};
 use std::marker::Model;
 
-/// A weight for each tick of the hyperperiod, from tick 0 on (own profile). A contract sees them as their list.
+/// A weight for each tick of the hyperperiod, from tick 0 on (own profile). A contract sees them as their list. They lie
+/// behind a `Box`, so that a leaf takes no more room in a tree for them.
 #[derive(Debug, Drop)]
 pub struct Weights {
-    items: Vec<u16>,
+    items: Box<Vec<u16>>,
 }
 
 impl Model for Weights {
@@ -15,15 +17,16 @@ impl Model for Weights {
 
     ghost Value = { List ℕ };
 
-    ghost view = { λ s. s.items.items };
+    ghost view = { λ s. s.items.value.items };
 }
 
 impl Weights {
-    /// These weights; takes no memory.
-    pub fn new(items: Vec<u16>) -> Weights
-        ensures { result ≡ items.items }
+    /// These weights.
+    pub fn new(alloc: Global, items: Vec<u16>) -> Result<Weights, AllocError>
+        ensures { IfOk result (λ weights. weights ≡ items.items) }
     {
-        Weights { items }
+        let items = Box::new(alloc, items)?;
+        Ok(Weights { items })
     }
 
     /// The weights as a slice.
@@ -38,6 +41,6 @@ impl Weights {
         ensures { result.items ≡ self }
     {
         let Weights { items } = self;
-        items
+        Box::into_inner(items)
     }
 }

@@ -6,11 +6,12 @@ use Rattle.std.specs.List.{flat_map}
 use Rattle.std.specs.Io.KnownBytes.{Appends}
 use Rattle.std.proofs.KnownBytes.{Appends-trans, Appends-nil}
 use Rattle.ec_wire.specs.Stream.{WritesFront}
+use Rattle.ec_loads.specs.Shape.{split}
 use Rattle.ec_cert.specs.Shapes.{shape_of, shapes_of}
 use Rattle.ec_cert_text.specs.Text.{node_lines, row_lines, split_line}
 use Rattle.ec_cert_text.specs.Waiting.{Gathers, GathersFront}
-use Rattle.ec_cert.specs.declared.tree.Tree.{Tree, Split}
-use Rattle.ec_cert.proofs.TreeLemmas.{shape_of-Split, shape_count-shapes_of, shapes_of-drop}
+use Rattle.ec_cert.specs.declared.tree.Tree.{Tree}
+use Rattle.ec_cert.proofs.TreeLemmas.{shape_count-shapes_of, shapes_of-drop}
 
 -- a, b and c are what the writer holds, p, q and r what waits, x, y and z texts
 
@@ -76,16 +77,16 @@ on_ok (Err e) P Q f p = tt
 
 -- ---- a split: its line, and then its children
 
-pub node_lines-split : (t : Tree) (v : Vec Tree Global) → t ≡ Split v → node_lines (shape_of t) ≡ split_line (length v.items) ++ row_lines (shapes_of v.items)
-node_lines-split t v e = ap (λ s. node_lines (shape_of s)) e ∙ ap node_lines (shape_of-Split v) ∙ ap (λ n. split_line n ++ row_lines (shapes_of v.items)) (shape_count-shapes_of v.items)
+pub node_lines-split : (t : Tree) (v : Vec Tree Global) → shape_of t ≡ split (shapes_of v.items) → node_lines (shape_of t) ≡ split_line (length v.items) ++ row_lines (shapes_of v.items)
+node_lines-split t v e = ap node_lines e ∙ ap (λ n. split_line n ++ row_lines (shapes_of v.items)) (shape_count-shapes_of v.items)
 
-pub split_front : {a b : Option (List ℕ)} {p : List ℕ} (t : Tree) (v : Vec Tree Global) (line : List ℕ) → t ≡ Split v → line ≡ split_line (length v.items) → GathersFront a p b line → GathersFront a p b (node_lines (shape_of t))
+pub split_front : {a b : Option (List ℕ)} {p : List ℕ} (t : Tree) (v : Vec Tree Global) (line : List ℕ) → shape_of t ≡ split (shapes_of v.items) → line ≡ split_line (length v.items) → GathersFront a p b line → GathersFront a p b (node_lines (shape_of t))
 split_front {a} {b} {p} t v line e l f = subst (λ x. GathersFront a p b x) (sym (node_lines-split t v e)) (front_more _ (subst (λ x. GathersFront a p b x) l f))
 
-pub split_then : {a b c : Option (List ℕ)} {p q : List ℕ} (t : Tree) (v : Vec Tree Global) (line : List ℕ) → t ≡ Split v → line ≡ split_line (length v.items) → Gathers a p b q line → GathersFront b q c (row_lines (shapes_of v.items)) → GathersFront a p c (node_lines (shape_of t))
+pub split_then : {a b c : Option (List ℕ)} {p q : List ℕ} (t : Tree) (v : Vec Tree Global) (line : List ℕ) → shape_of t ≡ split (shapes_of v.items) → line ≡ split_line (length v.items) → Gathers a p b q line → GathersFront b q c (row_lines (shapes_of v.items)) → GathersFront a p c (node_lines (shape_of t))
 split_then {a} {b} {c} {p} {q} t v line e l g f = subst (λ x. GathersFront a p c x) (sym (node_lines-split t v e)) (front_then (subst (Gathers a p b q) l g) f)
 
-pub split_all : {a b c : Option (List ℕ)} {p q r : List ℕ} (t : Tree) (v : Vec Tree Global) (line : List ℕ) → t ≡ Split v → line ≡ split_line (length v.items) → Gathers a p b q line → Gathers b q c r (row_lines (shapes_of v.items)) → Gathers a p c r (node_lines (shape_of t))
+pub split_all : {a b c : Option (List ℕ)} {p q r : List ℕ} (t : Tree) (v : Vec Tree Global) (line : List ℕ) → shape_of t ≡ split (shapes_of v.items) → line ≡ split_line (length v.items) → Gathers a p b q line → Gathers b q c r (row_lines (shapes_of v.items)) → Gathers a p c r (node_lines (shape_of t))
 split_all {a} {b} {c} {p} {q} {r} t v line e l g h = subst (Gathers a p c r) (sym (node_lines-split t v e)) (gathers_then (subst (Gathers a p b q) l g) h)
 
 -- ---- children, one after the other

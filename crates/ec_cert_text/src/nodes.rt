@@ -12,7 +12,7 @@ use crate::place::TextPlace;
 use crate::spelled::{spelled_node, spelled_tick};
 use crate::weights::weights_on;
 use crate::words::{Wrong, number, pair};
-use ec_cert::{Tree, Weights};
+use ec_cert::{Tree, Weights, split_of};
 use std::alloc::Global;
 
 /// What a line of a node says.
@@ -55,7 +55,7 @@ fn node_on(alloc: Global, version: u8, number: u32, line: &[u8]) -> Result<Node,
 {
     if line.starts_with(b"W ") && 2 <= version {
         let weights = weights_on(alloc, number, &line[2..])?;
-        return Ok(Node::Weights(Weights::new(weights)));
+        return Ok(Node::Weights(Weights::new(alloc, weights)?));
     }
     if line == b"O".as_slice() && 3 <= version {
         return Ok(Node::OpenLeaf);
@@ -142,7 +142,7 @@ pub(crate) fn tree_of(
     match node {
         Node::Split(count) => {
             let (trees, rest) = trees_of(alloc, version, levels - 1, count, rest)?;
-            Ok((Tree::Split(trees), rest))
+            Ok((split_of(alloc, trees)?, rest))
         }
         Node::TickLeaf(tick) => Ok((Tree::TickLeaf(tick), rest)),
         Node::FullLeaf(tick, slot) => Ok((Tree::FullLeaf(tick, slot), rest)),

@@ -199,6 +199,7 @@ fn write_node<W: Write>(
 {
     match tree {
         Tree::Split(trees) => {
+            let trees = trees.as_ref();
             write_number(b"S ", trees.len(), io, waiting)?;
             write_nodes(trees, io, waiting)
         }

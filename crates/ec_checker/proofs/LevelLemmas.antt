@@ -10,9 +10,9 @@ use Rattle.ec_loads.specs.Line.{Line, turned_time, line_of, line_by}
 use Rattle.ec_loads.specs.Search.{Prefix, children, TickHolds, AverageHolds, LevelHolds, TreeWith, TreesWith, IsPartialTree, IsAtMost, open_count, open_counts}
 use Rattle.ec_loads.specs.Shape.{Shape, Shapes, split, leaf, open_leaf, no_shapes, more}
 use Rattle.ec_bounds.proofs.HeldLemmas.{with_place}
-use Rattle.ec_cert.specs.declared.tree.Tree.{Tree, Split, OpenLeaf, the_lemmas}
+use Rattle.ec_cert.specs.declared.tree.Tree.{Tree, OpenLeaf, the_lemmas}
 use Rattle.ec_cert.specs.Shapes.{shape_of, shapes_of}
-use Rattle.ec_cert.proofs.TreeLemmas.{shape_of-Split, shapes_of-drop}
+use Rattle.ec_cert.proofs.TreeLemmas.{shapes_of-drop}
 use Rattle.ec_checker.specs.Judged.{tick_reaches}
 use Rattle.ec_checker.specs.Levels.{IsGreatestLevel, IsLowered}
 use Rattle.ec_checker.proofs.FoundLemmas.{reaches_from, reaches_to}
@@ -127,13 +127,12 @@ lowered_no_tree held ts u order ps i most h =
     subst (λ w. lowered_from held w u order ps most most) (sym (drop_all i ts h)) (no_trees_left (line_of turned_time held) held.places u order ps most)
 
 -- a split, by its trees
-pub lowered_split : (held : Held) (tree : Tree) (trees : Vec Tree Global) (order later : List ℕ) (u most least : ℕ) → tree ≡ Split trees → order ≡ u ∷ later → lowered_from held trees.items u later (turned_kids held u) most least
+pub lowered_split : (held : Held) (tree : Tree) (trees : Vec Tree Global) (order later : List ℕ) (u most least : ℕ) → shape_of tree ≡ split (shapes_of trees.items) → order ≡ u ∷ later → lowered_from held trees.items u later (turned_kids held u) most least
     → IsLowered (line_of turned_time held) (shape_of tree) held.places order most least
 lowered_split held tree trees order later u most least is from all =
     let line = line_of turned_time held in
-    let whole : shape_of tree ≡ split (shapes_of trees.items) = ap shape_of is ∙ shape_of-Split trees in
     let own : IsLowered line (split (shapes_of trees.items)) held.places (u ∷ later) most least = all in
-    subst (λ s. IsLowered line s held.places order most least) (sym whole) (subst (λ w. IsLowered line (split (shapes_of trees.items)) held.places w most least) (sym from) own)
+    subst (λ s. IsLowered line s held.places order most least) (sym is) (subst (λ w. IsLowered line (split (shapes_of trees.items)) held.places w most least) (sym from) own)
 
 -- an open leaf lowers the level to its own
 pub lowered_open : (held : Held) (tree : Tree) (order : List ℕ) (most own least : ℕ) → shape_of tree ≡ open_leaf → ((m : ℕ) → (m ≤ own) ↔ LevelHolds (line_of turned_time held) (Some m) held.places) → least ≡ min most own

@@ -7,9 +7,9 @@ use Rattle.ec_loads.specs.Held.{Held}
 use Rattle.ec_loads.specs.Line.{Rules, line_of}
 use Rattle.ec_loads.specs.Search.{Prefix, children}
 use Rattle.ec_bounds.proofs.HeldLemmas.{with_place}
-use Rattle.ec_cert.specs.declared.tree.Tree.{Tree, Split}
+use Rattle.ec_cert.specs.declared.tree.Tree.{Tree}
 use Rattle.ec_cert.specs.Shapes.{shape_of, shapes_of}
-use Rattle.ec_cert.proofs.TreeLemmas.{shape_of-Split, shape_count-shapes_of, shapes_of-drop}
+use Rattle.ec_cert.proofs.TreeLemmas.{shape_count-shapes_of, shapes_of-drop}
 use Rattle.ec_loads.specs.Shape.{Shape, split, more, shape_count}
 use Rattle.ec_checker.specs.declared.fault.CheckFault.{CheckFault}
 use Rattle.ec_checker.specs.declared.fault.CheckFault.TheVariants as fault
@@ -48,22 +48,20 @@ no_more_children rules held v level [] u order ps k e = refl
 no_more_children rules held v level (t ∷ ts) u order ps k e = ap (λ w. judged_from rules held v level (t ∷ ts) u order w k) e
 
 -- a split whose trees are as many as the children
-pub split_is : (rules : Rules) (held : Held) (v level : Option ℕ) (tree : Tree) (trees : Vec Tree Global) (order later : List ℕ) (u k : ℕ) → tree ≡ Split trees → order ≡ u ∷ later → length trees.items ≡ length (kids rules held u)
+pub split_is : (rules : Rules) (held : Held) (v level : Option ℕ) (tree : Tree) (trees : Vec Tree Global) (order later : List ℕ) (u k : ℕ) → shape_of tree ≡ split (shapes_of trees.items) → order ≡ u ∷ later → length trees.items ≡ length (kids rules held u)
     → tree_at rules held v level (shape_of tree) order k ≡ judged_from rules held v level trees.items u later (kids rules held u) (next k)
 split_is rules held v level tree trees order later u k is from count =
-    let whole : shape_of tree ≡ split (shapes_of trees.items) = ap shape_of is ∙ shape_of-Split trees in
     let same : (shape_count (shapes_of trees.items) == length (kids rules held u)) ≡ true = eq-eqb (shape_count (shapes_of trees.items)) (length (kids rules held u)) (shape_count-shapes_of trees.items ∙ count) in
-    (λ j. tree_at rules held v level (whole j) (from j) k)
+    (λ j. tree_at rules held v level (is j) (from j) k)
     ∙ ap (λ b. if b then judged_from rules held v level trees.items u later (kids rules held u) (next k) else Err (fault.Children k (length (kids rules held u)) (shape_count (shapes_of trees.items)))) same
 
 -- a split with another count of trees
-pub split_wrong : (rules : Rules) (held : Held) (v level : Option ℕ) (tree : Tree) (trees : Vec Tree Global) (order later : List ℕ) (u k : ℕ) → tree ≡ Split trees → order ≡ u ∷ later → (length trees.items ≡ length (kids rules held u) → ⊥)
+pub split_wrong : (rules : Rules) (held : Held) (v level : Option ℕ) (tree : Tree) (trees : Vec Tree Global) (order later : List ℕ) (u k : ℕ) → shape_of tree ≡ split (shapes_of trees.items) → order ≡ u ∷ later → (length trees.items ≡ length (kids rules held u) → ⊥)
     → tree_at rules held v level (shape_of tree) order k ≡ Err (fault.Children k (length (kids rules held u)) (length trees.items))
 split_wrong rules held v level tree trees order later u k is from other =
-    let whole : shape_of tree ≡ split (shapes_of trees.items) = ap shape_of is ∙ shape_of-Split trees in
     let count = shape_count-shapes_of trees.items in
     let differs : (shape_count (shapes_of trees.items) == length (kids rules held u)) ≡ false = ne_eqb (shape_count (shapes_of trees.items)) (length (kids rules held u)) (λ e. other (sym count ∙ e)) in
-    (λ j. tree_at rules held v level (whole j) (from j) k)
+    (λ j. tree_at rules held v level (is j) (from j) k)
     ∙ ap (λ b. if b then judged_from rules held v level trees.items u later (kids rules held u) (next k) else Err (fault.Children k (length (kids rules held u)) (shape_count (shapes_of trees.items)))) differs
     ∙ ap (λ c. Err (fault.Children k (length (kids rules held u)) c)) count
 

@@ -56,6 +56,7 @@ fn lowered(loads: &mut Loads, rest: &mut Rest, level: u64, order: &[u8], tree: &
         Tree::Split(trees) => match order.split_first() {
             None => level,
             Some((unit, later)) => {
+                let trees = trees.as_ref();
                 let unit = usize::from(*unit);
                 let mut places = children_of(loads, unit, true);
                 let mut least = level;

@@ -36,6 +36,7 @@ pub(crate) fn walk(
         Tree::Split(trees) => match order.split_first() {
             None => Err(CheckFault::Depth(number)),
             Some((unit, later)) => {
+                let trees = trees.as_ref();
                 let unit = usize::from(*unit);
                 let mut places = children_of(loads, unit, turned);
                 if trees.len() != places.len() {

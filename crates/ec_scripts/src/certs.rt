@@ -3,7 +3,7 @@
 ghost use Rattle.std.specs.Prelude.{Some};
 
 use crate::call::Call;
-use ec_cert::{Cert, Tree, well_formed};
+use ec_cert::{Cert, Tree, split_of, well_formed};
 use ec_cert_text::{read_cert, write_cert};
 use ec_checker::check;
 use ec_units::Units;
@@ -131,7 +131,7 @@ fn towered(alloc: Global, units: &Units, text: &[u8], splits: usize) -> Result<S
     for _ in 0..splits.min(60) {
         let mut children = Vec::new(alloc);
         children.push(mem::replace(&mut cert.tree, Tree::OpenLeaf))?;
-        cert.tree = Tree::Split(children);
+        cert.tree = split_of(alloc, children)?;
     }
     format!(in alloc; "{:?}", check(alloc, units, &cert))
 }

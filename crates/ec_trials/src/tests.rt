@@ -2,7 +2,7 @@
 
 mod placing;
 
-use ec_cert::{Best, Cert, Order, Tree, UnitLine, UnitLines, Weights, well_formed};
+use ec_cert::{Best, Cert, Order, Tree, UnitLine, UnitLines, Weights, split_of, well_formed};
 use ec_cert_text::{CertFault, one_text_each, read_cert, write_cert};
 use ec_loads::{Places, Plan};
 use ec_unit_text::{UnitFault, read_units};
@@ -43,7 +43,7 @@ fn which_leaves_are_well_formed(rt: HostRuntime) -> Result<(), Fail> {
     let whole = stands(alloc, Tree::FullLeaf(1023, 7))?;
     let open = stands(alloc, Tree::OpenLeaf)?;
     let late = stands(alloc, Tree::TickLeaf(1024))?;
-    let none = stands(alloc, Tree::Split(Vec::new(alloc)))?;
+    let none = stands(alloc, split_of(alloc, Vec::new(alloc))?)?;
     assert_eq!(rt; (whole, open, late, none), (true, false, false, false));
     Ok(())
 }
@@ -54,7 +54,7 @@ fn stands_by_weights(alloc: Global, version: u8, count: u16) -> Result<bool, All
     for weight in 0..count {
         weights.push(65_535 - weight)?;
     }
-    let mut cert = small(alloc, Tree::Weights(Weights::new(weights)))?;
+    let mut cert = small(alloc, Tree::Weights(Weights::new(alloc, weights)?))?;
     cert.version = version;
     cert.level = if version < 3 { None } else { Some(0) };
     Ok(well_formed(&cert))
@@ -177,7 +177,7 @@ fn first_too_deep(alloc: Global) -> Result<u32, AllocError> {
     for splits in 1..60 {
         let mut children = Vec::new(alloc);
         children.push(tree)?;
-        let cert = small(alloc, Tree::Split(children))?;
+        let cert = small(alloc, split_of(alloc, children)?)?;
         if !well_formed(&cert) {
             return Ok(splits);
         }

@@ -1,18 +1,18 @@
 use Rattle.std.proofs.Common.{ap, arith, ◌∙◌, take_all}
 use Rattle.ec_loads.specs.Search.{node_count, node_counts}
 use Rattle.ec_cert.specs.Shapes.{shape_of, shapes_of}
-use Rattle.ec_cert.proofs.TreeLemmas.{shape_of-Split}
+use Rattle.ec_cert.proofs.TreeLemmas.{shape_of-trees}
 use Rattle.ec_book.proofs.DrawLemmas.{nodes_step}
 use Rattle.ec_book.proofs.judge.+node_count.Goals as goal
 
 pub loop-i-preserved : goal.loop-i-preserved
 loop-i-preserved t c =
-    let step = nodes_step c.in-Split.trees.items c.loop-i.i c.index.result.now (omega (arith, c.loop-i-test.true, c.len-i-end.ensures)) c.index.ensures in
+    let step = nodes_step c.as_ref-trees.result.now.items c.loop-i.i c.index.result.now (omega (arith, c.loop-i-test.true, c.len-i-end.ensures)) c.index.ensures in
     omega (arith, step, c.loop-i.invariant, c.node_count.ensures, c.saturating_add-count.ensures)
 
 pub returns-after-loop-i : goal.returns-after-loop-i
 returns-after-loop-i t c =
-    let ts = c.in-Split.trees.items in
+    let ts = c.as_ref-trees.result.now.items in
     let all = ap (λ w. node_counts (shapes_of w)) (take_all c.loop-i.i ts (omega (arith, c.loop-i-test.false, c.len-i-end.ensures))) in
-    let whole = ap node_count (ap shape_of c.in-Split.is ∙ shape_of-Split c.in-Split.trees) in
+    let whole = ap node_count (shape_of-trees c.args.tree.now c.in-Split.trees c.as_ref-trees.result.now c.in-Split.is c.as_ref-trees.ensures) in
     omega (arith, all, whole, c.loop-i.invariant)

@@ -1,6 +1,7 @@
 use Rattle.std.proofs.Common.{◌≡◌, rules, refl, ◌+◌, ◌<◌, ◌++◌, ◌∷◌, [], length, vec_len, drop, get_or, arith, ap, ◌∙◌, sym}
 use Rattle.ec_loads.specs.Line.{turned_time, line_by}
 use Rattle.ec_cert.specs.Shapes.{shape_of}
+use Rattle.ec_cert.proofs.TreeLemmas.{shape_of-trees}
 use Rattle.ec_symmetry.specs.Orders.{prefix_of}
 use Rattle.ec_book.specs.Open.{leaf_places, open_places}
 use Rattle.ec_book.proofs.DrawLemmas.{shape_of-OpenLeaf}
@@ -19,7 +20,7 @@ loop-i-init t c =
     record {
       path = refl;
       out =
-          opened_first (line_by turned_time loads.loads loads.slots) order c.in-Split.trees.items u _ path c.as_slice.result.now c.children_after-places.result c.args.out.now.items
+          opened_first (line_by turned_time loads.loads loads.slots) order c.as_ref-trees.result.now.items u _ path c.as_slice.result.now c.children_after-places.result c.args.out.now.items
           c.as_slice.ensures.value next c.children_after-places.ensures;
     }
 
@@ -32,8 +33,8 @@ returns-in_default-next-clause-out t c =
     let long : c.len-in-Split.result ≡ length q = omega (arith, c.len-in-Split.ensures) in
     let short : length q < length order = omega (arith, c.if-len-order.false, c.len.ensures) in
     let at : u ≡ get_or order (length q) 0 = c.from-unit.ensures ∙ ap (λ w. get_or order w 0) long in
-    let whole = split_opened (line_by turned_time loads.loads loads.slots) order c.args.tree.now c.in-Split.trees u q c.in-Split.is short at in
-    let none = no_kids (line_by turned_time loads.loads loads.slots) order (drop c.loop-i.i c.in-Split.trees.items) u q c.loop-i.places c.in_default-next.ensures.steps.0 in
+    let whole = split_opened (line_by turned_time loads.loads loads.slots) order c.args.tree.now c.as_ref-trees.result.now u q (shape_of-trees c.args.tree.now c.in-Split.trees c.as_ref-trees.result.now c.in-Split.is c.as_ref-trees.ensures) short at in
+    let none = no_kids (line_by turned_time loads.loads loads.slots) order (drop c.loop-i.i c.as_ref-trees.result.now.items) u q c.loop-i.places c.in_default-next.ensures.steps.0 in
     sym (append_none c.loop-i.out.items) ∙ ap (λ w. c.loop-i.out.items ++ w) (sym none) ∙ c.loop-i.invariant.out ∙ ap (λ w. c.args.out.now.items ++ w) (sym whole)
 
 pub returns-after-loop-i-clause-out : goal.returns-after-loop-i-clause-out
@@ -45,8 +46,8 @@ returns-after-loop-i-clause-out t c =
     let long : c.len-in-Split.result ≡ length q = omega (arith, c.len-in-Split.ensures) in
     let short : length q < length order = omega (arith, c.if-len-order.false, c.len.ensures) in
     let at : u ≡ get_or order (length q) 0 = c.from-unit.ensures ∙ ap (λ w. get_or order w 0) long in
-    let whole = split_opened (line_by turned_time loads.loads loads.slots) order c.args.tree.now c.in-Split.trees u q c.in-Split.is short at in
-    let none = opened_end (line_by turned_time loads.loads loads.slots) order c.in-Split.trees.items u q c.loop-i.places c.loop-i.i (omega (arith, c.loop-i-test.false, c.len-i-end.ensures)) in
+    let whole = split_opened (line_by turned_time loads.loads loads.slots) order c.args.tree.now c.as_ref-trees.result.now u q (shape_of-trees c.args.tree.now c.in-Split.trees c.as_ref-trees.result.now c.in-Split.is c.as_ref-trees.ensures) short at in
+    let none = opened_end (line_by turned_time loads.loads loads.slots) order c.as_ref-trees.result.now.items u q c.loop-i.places c.loop-i.i (omega (arith, c.loop-i-test.false, c.len-i-end.ensures)) in
     sym (append_none c.loop-i.out.items) ∙ ap (λ w. c.loop-i.out.items ++ w) (sym none) ∙ c.loop-i.invariant.out ∙ ap (λ w. c.args.out.now.items ++ w) (sym whole)
 
 pub loop-i-preserved : goal.loop-i-preserved
@@ -59,7 +60,7 @@ loop-i-preserved t c =
     let long : c.len-in-Split.result ≡ length q = omega (arith, c.len-in-Split.ensures) in
     let short : length q < length order = omega (arith, c.if-len-order.false, c.len.ensures) in
     let at : u ≡ get_or order (length q) 0 = c.from-unit.ensures ∙ ap (λ w. get_or order w 0) long in
-    let ts = c.in-Split.trees.items in
+    let ts = c.as_ref-trees.result.now.items in
     let i = c.loop-i.i in
     let p = c.in-Some.place in
     let rest = opened_from line order (drop (i + 1) ts) u q c.next.new.self in

@@ -1,15 +1,18 @@
-use Rattle.std.proofs.Common.{◌≡◌, ◌∙◌, ap, sym, arith, rules, ◌+◌, ◌-◌, ◌<◌, refl, length, subst, get_or, length-append, ◌++◌, ◌∷◌, []}
-use Rattle.ec_loads.specs.Search.{open_count}
+use Rattle.std.proofs.Common.{◌≡◌, ◌∙◌, ap, sym, arith, rules, ◌+◌, ◌-◌, ◌<◌, refl, length, subst, take, get_or, length-append, ◌++◌, ◌∷◌, []}
+use Rattle.ec_loads.specs.Search.{open_count, open_counts}
+use Rattle.ec_cert.specs.Shapes.{shapes_of}
 use Rattle.ec_cert.specs.declared.tree.Tree.{the_lemmas}
+use Rattle.ec_cert.proofs.TreeLemmas.{shape_of-trees}
 use Rattle.ec_book.specs.Numbered.{numbered, draw}
 use Rattle.ec_book.specs.Grown.{shape_at}
 use Rattle.ec_book.proofs.DrawLemmas.{shape_at-last, shape_of-OpenLeaf}
-use Rattle.ec_book.proofs.PartLemmas.{opens_all, IsPart, child_at, child_get, child_fits, part-step, part-skip, part-start, part-left, part-tree}
+use Rattle.ec_book.proofs.PartLemmas.{opens_all, IsPart, child_at, child_get, child_above, part-step, part-skip, part-start, part-rest, part-tree, none_taken}
+use Rattle.ec_book.proofs.tree.+filled.Goals.{then-loop-i-test+else-len-floor, else-loop-i-test}
 use Rattle.ec_book.proofs.tree.+filled.Goals as goal
 
 pub filled-requires : goal.filled-requires
 filled-requires t c =
-    let ts = c.in-Split.trees.items in
+    let ts = c.replace-trees.result.items in
     let ls = c.loop-i.trees.items in
     let j = c.loop-i.i - 1 in
     let x = c.replace-child.result in
@@ -18,57 +21,69 @@ filled-requires t c =
     let get : x ≡ get_or ts j x = child_get ts ls c.args.built.now.items c.loop-i.built.items c.loop-i.i j c.loop-i.invariant j_is x at in
     let within : j < length ts = omega (arith, j_is, c.loop-i.invariant.within) in (
       search (rules, the_lemmas, get, within),
-      child_fits ts ls c.args.built.now.items c.loop-i.built.items c.loop-i.i j c.loop-i.invariant j_is x at (omega (arith, c.requires, opens_all c.args.tree c.in-Split.trees c.in-Split.is)),
+      child_above ts ls c.args.built.now.items c.loop-i.built.items c.loop-i.i j c.loop-i.invariant j_is c.args.floor x at (omega (arith, c.requires, opens_all c.args.tree c.replace-trees.result (shape_of-trees c.args.tree c.in-Split.room c.replace-trees.result c.in-Split.is c.replace-trees.ensures.value))),
     )
 
 pub loop-i-preserved-then-not-is_closed_leaf-2 : goal.loop-i-preserved-then-not-is_closed_leaf-2
 loop-i-preserved-then-not-is_closed_leaf-2 t c =
-    let ts = c.in-Split.trees.items in
+    let ts = c.replace-trees.result.items in
     let ls = c.loop-i.trees.items in
     let j = c.loop-i.i - 1 in
     let x = c.replace-child.result in
     let j_is : j + 1 ≡ c.loop-i.i = omega (arith, c.loop-i-test.true) in
     let at = child_at ts ls c.args.built.now.items c.loop-i.built.items c.loop-i.i j c.loop-i.invariant j_is c.index_mut.result.now x c.index_mut.ensures.value c.replace-child.ensures.value in
     part-step ts ls c.args.built.now.items c.loop-i.built.items c.loop-i.i j c.loop-i.invariant j_is x c.replace-child.new.dest c.filled.result c.filled.new.built.items at
-    (omega (arith, c.requires, opens_all c.args.tree c.in-Split.trees c.in-Split.is)) c.filled.ensures.left c.filled.ensures.tree
+    (omega (arith, c.requires, opens_all c.args.tree c.replace-trees.result (shape_of-trees c.args.tree c.in-Split.room c.replace-trees.result c.in-Split.is c.replace-trees.ensures.value))) c.filled.ensures.left c.filled.ensures.tree
 
 pub loop-i-preserved-then-not-is_closed_leaf-3 : goal.loop-i-preserved-then-not-is_closed_leaf-3
 loop-i-preserved-then-not-is_closed_leaf-3 t c =
-    let ts = c.in-Split.trees.items in
+    let ts = c.replace-trees.result.items in
     let ls = c.loop-i.trees.items in
     let j = c.loop-i.i - 1 in
     let x = c.replace-child.result in
     let j_is : j + 1 ≡ c.loop-i.i = omega (arith, c.loop-i-test.true) in
     let at = child_at ts ls c.args.built.now.items c.loop-i.built.items c.loop-i.i j c.loop-i.invariant j_is c.index_mut.result.now x c.index_mut.ensures.value c.replace-child.ensures.value in
     part-step ts ls c.args.built.now.items c.loop-i.built.items c.loop-i.i j c.loop-i.invariant j_is x c.replace-child.new.dest c.filled.result c.filled.new.built.items at
-    (omega (arith, c.requires, opens_all c.args.tree c.in-Split.trees c.in-Split.is)) c.filled.ensures.left c.filled.ensures.tree
+    (omega (arith, c.requires, opens_all c.args.tree c.replace-trees.result (shape_of-trees c.args.tree c.in-Split.room c.replace-trees.result c.in-Split.is c.replace-trees.ensures.value))) c.filled.ensures.left c.filled.ensures.tree
 
 pub loop-i-preserved : goal.loop-i-preserved
 loop-i-preserved t c =
-    let ts = c.in-Split.trees.items in
+    let ts = c.replace-trees.result.items in
     let ls = c.loop-i.trees.items in
     let j = c.loop-i.i - 1 in
     let x = c.index.result.now in
     let j_is : j + 1 ≡ c.loop-i.i = omega (arith, c.loop-i-test.true) in
     let at = child_at ts ls c.args.built.now.items c.loop-i.built.items c.loop-i.i j c.loop-i.invariant j_is x x c.index.ensures refl in
     let closed = c.if-not-is_closed_leaf.ensures.0 (search rules) in
-    part-skip ts ls c.args.built.now.items c.loop-i.built.items c.loop-i.i j c.loop-i.invariant j_is x closed.0 at closed.1 (omega (arith, c.requires, opens_all c.args.tree c.in-Split.trees c.in-Split.is))
+    part-skip ts ls c.args.built.now.items c.loop-i.built.items c.loop-i.i j c.loop-i.invariant j_is x at (ap open_count closed.1) (omega (arith, c.requires, opens_all c.args.tree c.replace-trees.result (shape_of-trees c.args.tree c.in-Split.room c.replace-trees.result c.in-Split.is c.replace-trees.ensures.value)))
 
 pub loop-i-init : goal.loop-i-init
 loop-i-init t c =
-    let ts = c.in-Split.trees.items in
+    let ts = c.replace-trees.result.items in
     let len : length ts ≡ c.len-i.result = omega (arith, c.len-i.ensures) in
     subst (λ w. IsPart ts ts c.args.built.now.items c.args.built.now.items w) len (part-start ts c.args.built.now.items)
 
-pub returns-after-loop-i-clause-left : goal.returns-after-loop-i-clause-left
-returns-after-loop-i-clause-left t c =
-    let zero_is : c.loop-i.i ≡ 0 = omega (arith, c.loop-i-test.false) in
-    part-left c.in-Split.trees.items c.loop-i.trees.items c.args.built.now.items c.loop-i.built.items (rw zero_is at c.loop-i.invariant) c.args.tree c.in-Split.trees c.in-Split.is refl c.requires
-
 pub returns-after-loop-i-clause-tree : goal.returns-after-loop-i-clause-tree
 returns-after-loop-i-clause-tree t c =
-    let zero_is : c.loop-i.i ≡ 0 = omega (arith, c.loop-i-test.false) in
-    part-tree c.in-Split.trees.items c.loop-i.trees.items c.args.built.now.items c.loop-i.built.items (rw zero_is at c.loop-i.invariant) c.args.tree c.in-Split.trees c.loop-i.trees c.in-Split.is refl refl c.requires
+    let ts = c.replace-trees.result.items in
+    let ls = c.loop-i.trees.items in
+    let built0 = c.args.built.now.items in
+    let built = c.loop-i.built.items in
+    let whole = shape_of-trees c.args.tree c.in-Split.room c.replace-trees.result c.in-Split.is c.replace-trees.ensures.value in
+    let opens = opens_all c.args.tree c.replace-trees.result whole in
+    let end : IsPart ts ls built0 built 0 = elim c.loop-i-test.branch [
+      | then-loop-i-test+else-len-floor w ↦
+          let none : open_counts (shapes_of (take c.loop-i.i ts)) ≡ 0 = omega (arith, w.if-len-floor.false, w.len.ensures, c.requires, opens, c.loop-i.invariant.left) in
+          part-rest ts ls built0 built c.loop-i.i c.loop-i.invariant none (omega (arith, c.requires, opens))
+      | else-loop-i-test w ↦ let zero_is : c.loop-i.i ≡ 0 = omega (arith, w.loop-i-test.false) in subst (IsPart ts ls built0 built) zero_is c.loop-i.invariant
+    ] in
+    part-tree ts ls built0 built end c.args.tree c.replace-trees.result c.replace.new.b whole refl (ap (λ v. v.items) c.replace.ensures.after) (omega (arith, c.requires))
+
+pub returns-in-Weights-clause-left : goal.returns-in-Weights-clause-left
+returns-in-Weights-clause-left t c = none_taken c.args.tree c.args.built.now.items (search (rules, the_lemmas))
+
+pub returns-in_default-clause-left : goal.returns-in_default-clause-left
+returns-in_default-clause-left t c = none_taken c.args.tree c.args.built.now.items (search (rules, the_lemmas))
 
 pub returns-in-Some-clause-tree : goal.returns-in-Some-clause-tree
 returns-in-Some-clause-tree t c =

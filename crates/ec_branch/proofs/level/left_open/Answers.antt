@@ -29,4 +29,4 @@ loop-trees-preserved c =
 pub returns : goal.returns
 returns c =
     let none = c.in_default.ensures.steps.0 in
-    sym (append-nil c.loop-trees.trees.items) ∙ ap (λ w. c.loop-trees.trees.items ++ replicate (length w) OpenLeaf) (sym none) ∙ c.loop-trees.invariant.items
+    ap (λ v. v.items) c.replace.ensures.after ∙ sym (append-nil c.loop-trees.trees.items) ∙ ap (λ w. c.loop-trees.trees.items ++ replicate (length w) OpenLeaf) (sym none) ∙ c.loop-trees.invariant.items

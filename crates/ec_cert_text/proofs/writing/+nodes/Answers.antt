@@ -1,18 +1,19 @@
 use Rattle.std.proofs.Common.{◌≡◌, length, rules}
+use Rattle.ec_cert.proofs.TreeLemmas.{shape_of-trees}
 use Rattle.ec_cert_text.specs.Text.{split_line}
 use Rattle.ec_cert_text.proofs.WriteLemmas.{on_ok, front_all, split_front, split_then, split_all, children_none, children_more, children_front, children_all}
 use Rattle.ec_cert_text.proofs.writing.+nodes.Goals as goal
 
 pub write_node-returns-in_err-write_number-in-Split-clause-front : goal.write_node-returns-in_err-write_number-in-Split-clause-front
-write_node-returns-in_err-write_number-in-Split-clause-front g t c = split_front _ c.in-Split.trees _ c.in-Split.is (search rules) c.write_number.ensures.front
+write_node-returns-in_err-write_number-in-Split-clause-front g t c = split_front _ c.as_ref-trees.result.now _ (shape_of-trees c.args.tree.now c.in-Split.trees c.as_ref-trees.result.now c.in-Split.is c.as_ref-trees.ensures) (search rules) c.write_number.ensures.front
 
 pub write_node-returns-in_ok-write_number-in-Split-clause-all : goal.write_node-returns-in_ok-write_number-in-Split-clause-all
 write_node-returns-in_ok-write_number-in-Split-clause-all g t c =
-    on_ok c.write_nodes.result _ _ (split_all _ c.in-Split.trees _ c.in-Split.is (search rules) c.in_ok-write_number-in-Split.ensures.all) c.write_nodes.ensures.all
+    on_ok c.write_nodes.result _ _ (split_all _ c.as_ref-trees.result.now _ (shape_of-trees c.args.tree.now c.in-Split.trees c.as_ref-trees.result.now c.in-Split.is c.as_ref-trees.ensures) (search rules) c.in_ok-write_number-in-Split.ensures.all) c.write_nodes.ensures.all
 
 pub write_node-returns-in_ok-write_number-in-Split-clause-front : goal.write_node-returns-in_ok-write_number-in-Split-clause-front
 write_node-returns-in_ok-write_number-in-Split-clause-front g t c =
-    split_then _ c.in-Split.trees _ c.in-Split.is (search rules) c.in_ok-write_number-in-Split.ensures.all c.write_nodes.ensures.front
+    split_then _ c.as_ref-trees.result.now _ (shape_of-trees c.args.tree.now c.in-Split.trees c.as_ref-trees.result.now c.in-Split.is c.as_ref-trees.ensures) (search rules) c.in_ok-write_number-in-Split.ensures.all c.write_nodes.ensures.front
 
 pub write_nodes-children-init : goal.write_nodes-children-init
 write_nodes-children-init g t c = record {

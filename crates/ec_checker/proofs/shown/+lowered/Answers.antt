@@ -4,6 +4,7 @@ use Rattle.std.proofs.lemmas.Option.{slice_get_within}
 use Rattle.ec_loads.specs.Held.{Held}
 use Rattle.ec_bounds.proofs.HeldLemmas.{with_place, restored, rest_follows, flags_count, still_within}
 use Rattle.ec_cert.specs.Shapes.{shape_of}
+use Rattle.ec_cert.proofs.TreeLemmas.{shape_of-trees}
 use Rattle.ec_checker.specs.Judged.{IsReady}
 use Rattle.ec_checker.proofs.LevelLemmas.{lowered_from, lowered_step, lowered_skip, lowered_no_child, lowered_no_tree, lowered_split, lowered_open, shape_of-OpenLeaf}
 use Rattle.ec_checker.proofs.WalkLemmas.{ready_at}
@@ -16,14 +17,14 @@ loop-i-init t c =
     record {
       same = refl;
       left = c.requires.left;
-      lowers = λ least all. subst (λ w. lowered_from args c.in-Split.trees.items c.from-unit.result c.in-Some.later.now w c.args.level least) c.children_of-places.ensures all;
+      lowers = λ least all. subst (λ w. lowered_from args c.as_ref-trees.result.now.items c.from-unit.result c.in-Some.later.now w c.args.level least) c.children_of-places.ensures all;
     }
 
 pub returns-in_default-clause-lowered : goal.returns-in_default-clause-lowered
 returns-in_default-clause-lowered t c =
     let args = c.args.loads.now in
     let from = c.in-Some.ensures.cases.0 ∙ ap (λ w. w ∷ c.in-Some.later.now) (sym c.from-unit.ensures) in
-    lowered_split args c.args.tree.now c.in-Split.trees c.args.order.now c.in-Some.later.now c.from-unit.result c.args.level c.loop-i.least c.in-Split.is from
+    lowered_split args c.args.tree.now c.as_ref-trees.result.now c.args.order.now c.in-Some.later.now c.from-unit.result c.args.level c.loop-i.least (shape_of-trees c.args.tree.now c.in-Split.trees c.as_ref-trees.result.now c.in-Split.is c.as_ref-trees.ensures) from
     (c.loop-i.invariant.lowers c.loop-i.least (lowered_no_child args _ c.from-unit.result c.in-Some.later.now c.loop-i.places c.loop-i.least c.in_default.ensures.steps.0))
 
 pub place-requires : goal.place-requires
@@ -73,7 +74,7 @@ loop-i-preserved t c =
     let args = c.args.loads.now in
     let u = c.from-unit.result in
     let later = c.in-Some.later.now in
-    let trees = c.in-Split.trees.items in
+    let trees = c.as_ref-trees.result.now.items in
     let i = c.loop-i.i in
     let p = c.in-Some-next.place in
     let at = c.loop-i.invariant.same in
@@ -111,8 +112,8 @@ pub returns-after-loop-i-clause-lowered : goal.returns-after-loop-i-clause-lower
 returns-after-loop-i-clause-lowered t c =
     let args = c.args.loads.now in
     let from = c.in-Some.ensures.cases.0 ∙ ap (λ w. w ∷ c.in-Some.later.now) (sym c.from-unit.ensures) in
-    lowered_split args c.args.tree.now c.in-Split.trees c.args.order.now c.in-Some.later.now c.from-unit.result c.args.level c.loop-i.least c.in-Split.is from
-    (c.loop-i.invariant.lowers c.loop-i.least (lowered_no_tree args c.in-Split.trees.items c.from-unit.result c.in-Some.later.now c.loop-i.places c.loop-i.i c.loop-i.least (omega (arith, c.loop-i-test.false, c.len-i-end.ensures))))
+    lowered_split args c.args.tree.now c.as_ref-trees.result.now c.args.order.now c.in-Some.later.now c.from-unit.result c.args.level c.loop-i.least (shape_of-trees c.args.tree.now c.in-Split.trees c.as_ref-trees.result.now c.in-Split.is c.as_ref-trees.ensures) from
+    (c.loop-i.invariant.lowers c.loop-i.least (lowered_no_tree args c.as_ref-trees.result.now.items c.from-unit.result c.in-Some.later.now c.loop-i.places c.loop-i.i c.loop-i.least (omega (arith, c.loop-i-test.false, c.len-i-end.ensures))))
 
 pub returns-in-OpenLeaf-clause-lowered : goal.returns-in-OpenLeaf-clause-lowered
 returns-in-OpenLeaf-clause-lowered t c =

@@ -7,6 +7,7 @@ use Rattle.ec_checker.specs.declared.fault.CheckFault.{CheckFault}
 use Rattle.ec_checker.specs.declared.fault.CheckFault.TheVariants as fault
 use Rattle.ec_checker.specs.Judged.{IsReady, then_judged}
 use Rattle.ec_bounds.proofs.HeldLemmas.{with_place, restored, rest_follows, flags_count, still_within}
+use Rattle.ec_cert.proofs.TreeLemmas.{shape_of-trees}
 use Rattle.ec_checker.proofs.WalkLemmas.{judged_from, kids, child_step, no_more_trees, no_more_children, split_is, split_wrong, ready_at}
 use Rattle.ec_checker.proofs.walk.+walk.Goals as goal
 
@@ -18,12 +19,12 @@ returns-then-len-clause-judged t c =
     let from = c.in-Some.ensures.cases.0 ∙ ap (λ w. w ∷ c.in-Some.later.now) (sym c.from-unit.ensures) in
     let places : length c.children_of-places.result ≡ length (kids rules args u) = ap length c.children_of-places.ensures in
     let want : c.len-then-len.result ≡ length (kids rules args u) = c.len-then-len.ensures.value ∙ places in
-    let got : c.len-then-len-2.result ≡ length c.in-Split.trees.items = omega (arith, c.len-then-len-2.ensures) in
-    let here : c.len.result ≡ length c.in-Split.trees.items = omega (arith, c.len.ensures) in
-    let other : length c.in-Split.trees.items ≡ length (kids rules args u) → ⊥ =
+    let got : c.len-then-len-2.result ≡ length c.as_ref-trees.result.now.items = omega (arith, c.len-then-len-2.ensures) in
+    let here : c.len.result ≡ length c.as_ref-trees.result.now.items = omega (arith, c.len.ensures) in
+    let other : length c.as_ref-trees.result.now.items ≡ length (kids rules args u) → ⊥ =
     λ e. c.if-len.true (here ∙ e ∙ sym places ∙ sym c.len-in-Some.ensures.value) in
     (λ j. Err (fault.Children c.args.number (want j) (got j)))
-    ∙ sym (split_wrong rules args c.args.value c.args.level c.args.tree.now c.in-Split.trees c.args.order.now c.in-Some.later.now u c.args.number c.in-Split.is from other)
+    ∙ sym (split_wrong rules args c.args.value c.args.level c.args.tree.now c.as_ref-trees.result.now c.args.order.now c.in-Some.later.now u c.args.number (shape_of-trees c.args.tree.now c.in-Split.trees c.as_ref-trees.result.now c.in-Split.is c.as_ref-trees.ensures) from other)
 
 pub returns-in_default-clause-judged : goal.returns-in_default-clause-judged
 returns-in_default-clause-judged t c =
@@ -32,10 +33,10 @@ returns-in_default-clause-judged t c =
     let u = c.from-unit.result in
     let from = c.in-Some.ensures.cases.0 ∙ ap (λ w. w ∷ c.in-Some.later.now) (sym c.from-unit.ensures) in
     let places : length c.children_of-places.result ≡ length (kids rules args u) = ap length c.children_of-places.ensures in
-    let count : length c.in-Split.trees.items ≡ length (kids rules args u) = omega (arith, c.if-len.false, c.len.ensures, c.len-in-Some.ensures.value, places) in
-    sym (no_more_children rules args c.args.value c.args.level (drop c.loop-i.i c.in-Split.trees.items) u c.in-Some.later.now c.loop-i.places c.loop-i.at c.in_default.ensures.steps.0)
+    let count : length c.as_ref-trees.result.now.items ≡ length (kids rules args u) = omega (arith, c.if-len.false, c.len.ensures, c.len-in-Some.ensures.value, places) in
+    sym (no_more_children rules args c.args.value c.args.level (drop c.loop-i.i c.as_ref-trees.result.now.items) u c.in-Some.later.now c.loop-i.places c.loop-i.at c.in_default.ensures.steps.0)
     ∙ c.loop-i.invariant.judged
-    ∙ sym (split_is rules args c.args.value c.args.level c.args.tree.now c.in-Split.trees c.args.order.now c.in-Some.later.now u c.args.number c.in-Split.is from count)
+    ∙ sym (split_is rules args c.args.value c.args.level c.args.tree.now c.as_ref-trees.result.now c.args.order.now c.in-Some.later.now u c.args.number (shape_of-trees c.args.tree.now c.in-Split.trees c.as_ref-trees.result.now c.in-Split.is c.as_ref-trees.ensures) from count)
 
 pub place-requires : goal.place-requires
 place-requires t c =
@@ -100,7 +101,7 @@ returns-in_err-at-in-Some-clause-judged t c =
     let v = c.args.value in
     let u = c.from-unit.result in
     let later = c.in-Some.later.now in
-    let trees = c.in-Split.trees.items in
+    let trees = c.as_ref-trees.result.now.items in
     let i = c.loop-i.i in
     let e = c.in_err-at-in-Some.field-0.0 in
     let from = c.in-Some.ensures.cases.0 ∙ ap (λ w. w ∷ later) (sym c.from-unit.ensures) in
@@ -109,7 +110,7 @@ returns-in_err-at-in-Some-clause-judged t c =
     let made : c.place.new.self ≡ with_place args u (Some c.in-Some-next.place) = c.place.ensures ∙ ap (λ (w : Held). with_place w u (Some c.in-Some-next.place)) c.loop-i.invariant.same in
     let rest : ℕ → Result ℕ CheckFault = λ j. judged_from rules args v c.args.level (drop (i + 1) trees) u later c.next.new.self j in
     let whole =
-    split_is rules args v c.args.level c.args.tree.now c.in-Split.trees c.args.order.now later u c.args.number c.in-Split.is from count
+    split_is rules args v c.args.level c.args.tree.now c.as_ref-trees.result.now c.args.order.now later u c.args.number (shape_of-trees c.args.tree.now c.in-Split.trees c.as_ref-trees.result.now c.in-Split.is c.as_ref-trees.ensures) from count
     ∙ sym c.loop-i.invariant.judged
     ∙ child_step rules args c.place.new.self v c.args.level trees u later c.loop-i.places c.next.new.self c.in-Some-next.place i c.loop-i.at c.index.result.now c.walk-child.result
     (omega (arith, c.loop-i-test.true, c.len-i-end.ensures)) c.index.ensures c.in-Some-next.ensures.steps made c.walk-child.ensures.judged
@@ -124,7 +125,7 @@ loop-i-preserved t c =
     let v = c.args.value in
     let u = c.from-unit.result in
     let later = c.in-Some.later.now in
-    let trees = c.in-Split.trees.items in
+    let trees = c.as_ref-trees.result.now.items in
     let i = c.loop-i.i in
     let at = c.loop-i.invariant.same in
     let ready = ready_at args.places c.args.order.now later c.in-Some.unit.now u c.requires.ready c.in-Some.ensures.cases.0 c.from-unit.ensures in
@@ -148,10 +149,10 @@ returns-after-loop-i-clause-judged t c =
     let rules = rules_if c.args.turned in
     let args = c.args.loads.now in
     let u = c.from-unit.result in
-    let trees = c.in-Split.trees.items in
+    let trees = c.as_ref-trees.result.now.items in
     let from = c.in-Some.ensures.cases.0 ∙ ap (λ w. w ∷ c.in-Some.later.now) (sym c.from-unit.ensures) in
     let places : length c.children_of-places.result ≡ length (kids rules args u) = ap length c.children_of-places.ensures in
     let count : length trees ≡ length (kids rules args u) = omega (arith, c.if-len.false, c.len.ensures, c.len-in-Some.ensures.value, places) in
     sym (no_more_trees rules args c.args.value c.args.level trees u c.in-Some.later.now c.loop-i.places c.loop-i.i c.loop-i.at (omega (arith, c.loop-i-test.false, c.len-i-end.ensures)))
     ∙ c.loop-i.invariant.judged
-    ∙ sym (split_is rules args c.args.value c.args.level c.args.tree.now c.in-Split.trees c.args.order.now c.in-Some.later.now u c.args.number c.in-Split.is from count)
+    ∙ sym (split_is rules args c.args.value c.args.level c.args.tree.now c.as_ref-trees.result.now c.args.order.now c.in-Some.later.now u c.args.number (shape_of-trees c.args.tree.now c.in-Split.trees c.as_ref-trees.result.now c.in-Split.is c.as_ref-trees.ensures) from count)
