@@ -1,11 +1,12 @@
 -- Different slots, one place after the other, and the slots that a prefix uses.
-use Rattle.std.proofs.Common.{◌≡◌, ◌≢◌, get_or-set_same, get_or-set_other, subst, inl, inr, ℕ, zero, suc, ◌+◌, ◌<◌, ◌==◌, ◌||◌, Bool, true, false, List, [], ◌∷◌, ◌++◌, map, length, set, get_or, Option, Some, None, refl, ap, sym, ◌∙◌, add-one, append-nil, not-suc-le-zero, le_of_suc-le-suc, take, arith}
-use Rattle.std.proofs.lemmas.List.{take_more_set, map-append}
+use Rattle.std.proofs.Common.{◌≡◌, ◌≢◌, get_or-set_same, get_or-set_other, subst, inl, inr, ℕ, zero, suc, ◌+◌, ◌<◌, ◌==◌, ◌||◌, Bool, true, false, List, [], ◌∷◌, ◌++◌, map, length, set, get_or, Option, Some, None, refl, ap, sym, ◌∙◌, add-one, append-nil, not-suc-le-zero, le_of_suc-le-suc, take, drop, arith, ◌≤◌, ◌&&◌, if◌then◌else◌, min, max, flat_map}
+use Rattle.std.specs.List.{range_with_len}
+use Rattle.std.proofs.lemmas.List.{map-append, append_assoc}
 use Rattle.std.proofs.lemmas.List.Folds.{list_any-append}
 use Rattle.std.proofs.lemmas.Bool.{cases_eq, eq-eqb, ne_eqb, eqb-true, or_right, false≢true, true≢false}
 use Rattle.std.proofs.Math.Seq.{take-suc}
 use Rattle.ec_units.specs.declared.slave.Place.{Place}
-use Rattle.ec_loads.specs.Search.{Prefix, slots_in, different_numbers}
+use Rattle.ec_loads.specs.Search.{Prefix, slots_in, different_numbers, used, places_for}
 use Rattle.ec_symmetry.proofs.UsedLemmas.{member, once}
 
 -- the slots of places
@@ -59,35 +60,36 @@ seen_more seen now ns n flags here other = λ s below.
 slots_more : (ps : List Place) (i : ℕ) (d : Place) → i < length ps → slots_of (take (i + 1) ps) ≡ slots_of (take i ps) ++ (get_or ps i d).slot ∷ []
 slots_more ps i d h = rw add-one (ap slots_of (take-suc ps i d h) ∙ map-append (λ (q : Place). q.slot) (take i ps) (get_or ps i d ∷ []))
 
+-- a number that wasn't there
+pub number_new : (ns : List ℕ) (n : ℕ) (seen : List Bool) (count : ℕ) → n < length seen → n < 256 → AreSeen seen ns → count ≡ different_numbers ns → get_or seen n false ≡ false →
+    AreSeen (set seen n true) (ns ++ n ∷ []) × (count + 1 ≡ different_numbers (ns ++ n ∷ []))
+number_new ns n seen count room low flags so_far fresh =
+    let new = ap once (sym (flags n low) ∙ fresh) in
+    let size = different-append ns n in (
+      seen_more seen (set seen n true) ns n flags (get_or-set_same seen n true false room) (λ s ne. get_or-set_other seen n s true false ne),
+      omega (arith, so_far, new, size),
+    )
+
+-- a number that is there
+pub number_same : (ns : List ℕ) (n : ℕ) (seen : List Bool) (count : ℕ) → n < 256 → AreSeen seen ns → count ≡ different_numbers ns → get_or seen n false ≡ true →
+    AreSeen seen (ns ++ n ∷ []) × (count ≡ different_numbers (ns ++ n ∷ []))
+number_same ns n seen count low flags so_far there =
+    let old = ap once (sym (flags n low) ∙ there) in
+    let size = different-append ns n in (seen_more seen seen ns n flags there (λ s ne. refl), omega (arith, so_far, old, size))
+
 -- a place in a new slot
 pub slots_new : (ps : List Place) (i : ℕ) (d : Place) (seen : List Bool) (count : ℕ) → i < length ps → (get_or ps i d).slot < length seen → (get_or ps i d).slot < 256 →
     AreSeen seen (slots_of (take i ps)) → count ≡ different_numbers (slots_of (take i ps)) → get_or seen (get_or ps i d).slot false ≡ false →
     AreSeen (set seen (get_or ps i d).slot true) (slots_of (take (i + 1) ps)) × (count + 1 ≡ different_numbers (slots_of (take (i + 1) ps)))
 slots_new ps i d seen count h room low flags so_far fresh =
     let n = (get_or ps i d).slot in
-    let ns = slots_of (take i ps) in
-    let more = slots_more ps i d h in
-    let new = ap once (sym (flags n low) ∙ fresh) in
-    let size = different-append ns n in
-    let whole = ap different_numbers more in (
-      subst (λ w. AreSeen (set seen n true) w) (sym more) (seen_more seen (set seen n true) ns n flags (get_or-set_same seen n true false room) (λ s ne. get_or-set_other seen n s true false ne)),
-      omega (arith, so_far, new, size, whole),
-    )
+    rw (slots_more ps i d h) (number_new (slots_of (take i ps)) n seen count room low flags so_far fresh)
 
 -- a place in a slot that is in use
 pub slots_same : (ps : List Place) (i : ℕ) (d : Place) (seen : List Bool) (count : ℕ) → i < length ps → (get_or ps i d).slot < 256 →
     AreSeen seen (slots_of (take i ps)) → count ≡ different_numbers (slots_of (take i ps)) → get_or seen (get_or ps i d).slot false ≡ true →
     AreSeen seen (slots_of (take (i + 1) ps)) × (count ≡ different_numbers (slots_of (take (i + 1) ps)))
-slots_same ps i d seen count h low flags so_far there =
-    let n = (get_or ps i d).slot in
-    let ns = slots_of (take i ps) in
-    let more = slots_more ps i d h in
-    let old = ap once (sym (flags n low) ∙ there) in
-    let size = different-append ns n in
-    let whole = ap different_numbers more in (
-      subst (λ w. AreSeen seen w) (sym more) (seen_more seen seen ns n flags there (λ s ne. refl)),
-      omega (arith, so_far, old, size, whole),
-    )
+slots_same ps i d seen count h low flags so_far there = rw (slots_more ps i d h) (number_same (slots_of (take i ps)) (get_or ps i d).slot seen count low flags so_far there)
 
 -- what one unit adds
 abbrev one_slot : Option Place → List ℕ
@@ -102,13 +104,42 @@ slots-suc (None ∷ ps) (suc i) e h = slots-suc ps i e (le_of_suc-le-suc h)
 slots-suc (Some p ∷ ps) (suc i) e h = ap (λ w. p.slot ∷ w) (slots-suc ps i e (le_of_suc-le-suc h))
 
 -- one more unit, without a place
-pub gather_none : (ps : Prefix) (i : ℕ) (e : Option Place) → i < length ps → get_or ps i e ≡ None → slots_in (take (i + 1) ps) ≡ slots_in (take i ps)
-gather_none ps i e h none = rw add-one (slots-suc ps i e h ∙ (λ j. slots_in (take i ps) ++ one_slot (none j)) ∙ append-nil _)
+pub unit_none : (ps : Prefix) (i : ℕ) (e : Option Place) → i < length ps → get_or ps i e ≡ None → slots_in (take (i + 1) ps) ≡ slots_in (take i ps)
+unit_none ps i e h none = rw add-one (slots-suc ps i e h ∙ (λ j. slots_in (take i ps) ++ one_slot (none j)) ∙ append-nil _)
 
--- one more unit with a place, which is written into the table
-pub gather_some : (ps : Prefix) (table : List Place) (i n : ℕ) (e : Option Place) (p : Place) → i < length ps → n < length table → get_or ps i e ≡ Some p → slots_of (take n table) ≡ slots_in (take i ps) → slots_of (take (n + 1) (set table n p)) ≡ slots_in (take (i + 1) ps)
-gather_some ps table i n e p h room some so_far =
-    ap slots_of (take_more_set table n p room)
-    ∙ map-append (λ (q : Place). q.slot) (take n table) (p ∷ [])
-    ∙ ap (λ w. w ++ p.slot ∷ []) so_far
-    ∙ sym (rw add-one (slots-suc ps i e h ∙ (λ j. slots_in (take i ps) ++ one_slot (some j))))
+-- one more unit with a place
+pub unit_some : (ps : Prefix) (i : ℕ) (e : Option Place) (p : Place) → i < length ps → get_or ps i e ≡ Some p → slots_in (take (i + 1) ps) ≡ slots_in (take i ps) ++ p.slot ∷ []
+unit_some ps i e p h some = rw add-one (slots-suc ps i e h ∙ (λ j. slots_in (take i ps) ++ one_slot (some j)))
+
+slots_in-parts : (ps : Prefix) (i : ℕ) → slots_in ps ≡ slots_in (take i ps) ++ slots_in (drop i ps)
+slots_in-parts [] zero = refl
+slots_in-parts [] (suc i) = refl
+slots_in-parts (p ∷ ps) zero = refl
+slots_in-parts (None ∷ ps) (suc i) = slots_in-parts ps i
+slots_in-parts (Some p ∷ ps) (suc i) = ap (λ w. p.slot ∷ w) (slots_in-parts ps i)
+
+different-longer : (ns ms : List ℕ) → different_numbers ns ≤ different_numbers (ns ++ ms)
+different-longer ns [] = let same = ap different_numbers (append-nil ns) in omega (arith, same)
+different-longer ns (m ∷ ms) =
+    let one = different-append ns m in
+    let rest = different-longer (ns ++ m ∷ []) ms in
+    let whole = ap different_numbers (append_assoc ns (m ∷ []) ms) in
+    omega (arith, one, rest, whole)
+
+-- the first units use no more slots than all
+pub used-first : (ps : Prefix) (i : ℕ) → different_numbers (slots_in (take i ps)) ≤ used ps
+used-first ps i =
+    let longer = different-longer (slots_in (take i ps)) (slots_in (drop i ps)) in
+    let whole = ap different_numbers (slots_in-parts ps i) in
+    omega (arith, longer, whole)
+
+-- as many slots, up to the limit of a line, leave the next unit the same places
+pub places-enough : (turned : Bool) (period n k m : ℕ) → min k (max n 1) ≡ min m (max n 1) →
+    places_for (if turned && (k == 0) then 1 else period) n k ≡ places_for (if turned && (m == 0) then 1 else period) n m
+places-enough turned period n k m same =
+    let width : min (suc k) n ≡ min (suc m) n = omega (arith, same) in
+    let none : (k == 0) ≡ (m == 0) = elim (cases_eq k 0) [
+      | inl is ↦ eq-eqb k 0 is ∙ sym (eq-eqb m 0 (omega (arith, same, is)))
+      | inr some ↦ ne_eqb k 0 some ∙ sym (ne_eqb m 0 (λ is. some (omega (arith, same, is))))
+    ] in
+    λ j. flat_map (λ f. map (λ s. record { phase = f; slot = s }) (range_with_len 0 (width j))) (range_with_len 0 (if turned && none j then 1 else period))

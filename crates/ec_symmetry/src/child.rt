@@ -6,7 +6,7 @@ ghost use Rattle.ec_loads.specs.Line.{rules_if, line_of};
 ghost use Rattle.ec_loads.specs.Search.{places_for, children};
 ghost use Rattle.ec_symmetry.specs.Orders.{IsOrder, prefix_of};
 
-use crate::slots::{NO_PLACES, gather, used_slots};
+use crate::slots::{used_among, used_slots};
 use ec_loads::Loads;
 use ec_units::Place;
 use std::iter::FusedIterator;
@@ -82,14 +82,8 @@ pub fn children_of(loads: &Loads, unit: usize, turned: bool) -> Children
     requires { unit < length loads.now.places }
     ensures { result ≡ children (line_of (rules_if turned) loads.now) loads.now.places unit }
 {
-    let mut table = NO_PLACES;
-    let count = gather(loads.places(), &mut table);
-    places_after(
-        loads.loads()[unit].period,
-        loads.slots(),
-        used_slots(&table[..count]),
-        turned,
-    )
+    let used = used_among(loads.places(), loads.slots().max(1));
+    places_after(loads.loads()[unit].period, loads.slots(), used, turned)
 }
 
 impl Iterator for Children {

@@ -1,7 +1,7 @@
 //! The slots that places use.
 
-ghost use Rattle.std.specs.Prelude.{◌≡◌, ℕ, ◌≤◌, length, take, map};
-ghost use Rattle.ec_loads.specs.Search.{different_numbers, slots_in};
+ghost use Rattle.std.specs.Prelude.{◌≡◌, ℕ, ◌<◌, ◌≤◌, length, map, min};
+ghost use Rattle.ec_loads.specs.Search.{different_numbers, used};
 
 use ec_units::Place;
 
@@ -26,23 +26,32 @@ pub fn used_slots(places: &[Place]) -> u8
     count
 }
 
-/// The most units.
-const MOST_UNITS: usize = 48;
-
-/// A table with room for the place of each unit.
-pub(crate) const NO_PLACES: [Place; MOST_UNITS] = [Place { phase: 0, slot: 0 }; MOST_UNITS];
-
-/// Writes the places that are given into a table, in file order, and says how many.
-pub(crate) fn gather(places: &[Option<Place>], table: &mut [Place; MOST_UNITS]) -> usize
-    requires { length places.now ≤ 48 }
-    ensures slots { map (λ p. p.slot) (take result table.new) ≡ slots_in places.now }
-    ensures count { result ≤ length places.now }
+/// The number of a place's slot.
+fn number_of(place: Place) -> usize
+    ensures value { result ≡ place.slot }
+    ensures bound { result < 256 }
 {
-    let mut count = 0usize;
+    usize::from(place.slot)
+}
+
+/// The number of different slots of the places that are given, of at most 48 units, or one that is at least `most` where
+/// that number is: no more places are looked at then. Takes no memory.
+pub(crate) fn used_among(places: &[Option<Place>], most: u8) -> u8
+    requires { length places.now ≤ 48 }
+    ensures { min result most ≡ min (used places.now) most }
+{
+    let mut taken = [false; SLOTS];
+    let mut count = 0u8;
     for i in 0..places.len() {
+        if most <= count {
+            return count;
+        }
         if let Some(place) = places[i] {
-            table[count] = place;
-            count += 1;
+            let slot = number_of(place);
+            if !taken[slot] {
+                taken[slot] = true;
+                count += 1;
+            }
         }
     }
     count
