@@ -18,6 +18,10 @@ use std::{fs, io};
 const MEETING: &str =
     "tick_ns = 1000000\nslots = 1\n[[unit]]\nname = \"a\"\nperiod = 2\n[[unit.slave]]\nstation = 1001\nout_bytes = 200\nin_bytes = 0\n[[unit]]\nname = \"b\"\nperiod = 3\n[[unit.slave]]\nstation = 1002\nout_bytes = 200\nin_bytes = 0\n";
 
+/// The same units, with the places of the certificate's plan.
+const PLACED: &str =
+    "tick_ns = 1000000\nslots = 1\n[[unit]]\nname = \"a\"\nperiod = 2\nphase = 0\nslot = 0\n[[unit.slave]]\nstation = 1001\nout_bytes = 200\nin_bytes = 0\n[[unit]]\nname = \"b\"\nperiod = 3\nphase = 0\nslot = 0\n[[unit.slave]]\nstation = 1002\nout_bytes = 200\nin_bytes = 0\n";
+
 const CERT: &str =
     "ecplan 2\nslots 1\nunit a 200 2\nunit b 200 3\norder 0 1\nvalue 464\nplace 0 0\nplace 0 0\ntree\nS 1\nS 3\nT 0\nT 4\nT 2\nend\n";
 
@@ -48,10 +52,21 @@ fn said_by<F: Files>(
     alloc: Global,
     words: &str,
 ) -> Result<String, Fail> {
+    said_of(files, wait, alloc, MEETING, words)
+}
+
+/// What is written for these words and units, with the status, and how often the units were read.
+fn said_of<F: Files>(
+    files: &F,
+    wait: &(impl Threads + Wait + Sync),
+    alloc: Global,
+    line: &str,
+    words: &str,
+) -> Result<String, Fail> {
     let words = words_of(alloc, words)?;
     let asked = read_words(alloc, &words).ok().ok_or("a line")?;
     let mut bytes = Counted {
-        rest: MEETING.as_bytes(),
+        rest: line.as_bytes(),
         calls: 0,
     };
     let mut held = Slow::new(alloc, 999);
@@ -139,10 +154,10 @@ fn answers_of<F: Files>(
 #[test]
 fn a_path_that_cannot_be_opened(rt: HostRuntime) -> Result<(), Fail> {
     let lines =
-        "plan --out /tmp/no-such-directory-of-ecplan/c\nplan --nodes 4 --out /tmp/no-such-directory-of-ecplan/c\ncheck --cert /tmp/no-such-directory-of-ecplan/c\nframes --cert /tmp/no-such-directory-of-ecplan/c\nplay --cert /tmp/no-such-directory-of-ecplan/c\nresume --cert /tmp/no-such-directory-of-ecplan/c --out /tmp/no-such-directory-of-ecplan/d\nplay\n";
+        "plan --out /tmp/no-such-directory-of-ecplan/c\nplan --nodes 4 --out /tmp/no-such-directory-of-ecplan/c\ncheck --cert /tmp/no-such-directory-of-ecplan/c\nframes --cert /tmp/no-such-directory-of-ecplan/c\nplay --cert /tmp/no-such-directory-of-ecplan/c\ncost --cert /tmp/no-such-directory-of-ecplan/c\nresume --cert /tmp/no-such-directory-of-ecplan/c --out /tmp/no-such-directory-of-ecplan/d\nplay\n";
     let told = answers_of(&rt, &rt, rt.alloc(), lines)?;
     let shown = format!(in rt.alloc();
-        "refused E4 Write\nstatus 4, 2 reads\nrefused E4 Write\nstatus 4, 2 reads\nrefused E3 Read\nstatus 4, 0 reads\nrefused E3 Read\nstatus 4, 0 reads\nrefused E3 Read\nstatus 4, 0 reads\nrefused E3 Read\nstatus 4, 0 reads\nrefused E2 NoPlace 0\nstatus 3, 2 reads\n"
+        "refused E4 Write\nstatus 4, 2 reads\nrefused E4 Write\nstatus 4, 2 reads\nrefused E3 Read\nstatus 4, 0 reads\nrefused E3 Read\nstatus 4, 0 reads\nrefused E3 Read\nstatus 4, 0 reads\nrefused E3 Read\nstatus 4, 0 reads\nrefused E3 Read\nstatus 4, 0 reads\nrefused E2 NoPlace 0\nstatus 3, 2 reads\n"
     )?;
     assert_eq!(rt; told.as_str(), shown.as_str());
     Ok(())
@@ -152,14 +167,21 @@ fn a_path_that_cannot_be_opened(rt: HostRuntime) -> Result<(), Fail> {
 const PLAY: &str =
     "start 5\ntick 0 frames 1 bytes 464 counters 2,2\ntick 1 frames 0 bytes 0 counters -\ntick 2 frames 1 bytes 252 counters 2\ntick 3 frames 1 bytes 252 counters 2\ntick 4 frames 1 bytes 252 counters 2\ntick 5 frames 0 bytes 0 counters -\ndone\n";
 
+/// What is told of the costs of their plan.
+const COSTS: &str =
+    "hyperperiod 6\ntick 0 bytes 464 ns 37120\ntick 1 bytes 0 ns 0\ntick 2 bytes 252 ns 20160\ntick 3 bytes 252 ns 20160\ntick 4 bytes 252 ns 20160\ntick 5 bytes 0 ns 0\nbusiest 464 at 0\nfits yes\n";
+
 #[test]
-fn a_check_and_a_play_with_their_path(rt: HostRuntime) -> Result<(), Fail> {
+fn a_check_a_play_and_a_cost_with_their_path(rt: HostRuntime) -> Result<(), Fail> {
     let path = "/tmp/ecplan-check-in.cert";
     fs::write(&rt, path, CERT)?;
-    let lines = "check --cert /tmp/ecplan-check-in.cert\nplay --cert /tmp/ecplan-check-in.cert\n";
+    let lines =
+        "check --cert /tmp/ecplan-check-in.cert\nplay --cert /tmp/ecplan-check-in.cert\ncost --cert /tmp/ecplan-check-in.cert\n";
     let told = answers_of(&rt, &rt, rt.alloc(), lines)?;
     fs::remove_file(&rt, path)?;
-    let shown = format!(in rt.alloc(); "least 464\nstatus 0, 2 reads\n{PLAY}status 0, 2 reads\n")?;
+    let shown = format!(in rt.alloc();
+        "least 464\nstatus 0, 2 reads\n{PLAY}status 0, 2 reads\n{COSTS}status 0, 2 reads\n"
+    )?;
     assert_eq!(rt; told.as_str(), shown.as_str());
     Ok(())
 }
@@ -185,6 +207,32 @@ fn a_capture_with_its_path(rt: HostRuntime) -> Result<(), Fail> {
     fs::remove_file(&rt, path)?;
     fs::remove_file(&rt, "/tmp/ecplan-capture-out.pcap")?;
     let same = told.as_str() == alone.as_str() && told.as_str().ends_with("status 0, 2 reads\n");
+    let len = file.len();
+    let shown = format!(in rt.alloc(); "{same} {len}")?;
+    assert_eq!(rt; shown.as_str(), "true 1212");
+    Ok(())
+}
+
+/// The capture file of the units' own places is that of a certificate with the same plan.
+#[test]
+fn a_capture_of_own_places_with_its_path(rt: HostRuntime) -> Result<(), Fail> {
+    let from = "/tmp/ecplan-own-in.cert";
+    let to = "/tmp/ecplan-own-out.pcap";
+    fs::write(&rt, from, CERT)?;
+    let planned = said_by(
+        &rt,
+        &rt,
+        rt.alloc(),
+        "frames --cert /tmp/ecplan-own-in.cert --pcap /tmp/ecplan-own-out.pcap",
+    )?;
+    let wanted = fs::read(&rt, to)?;
+    fs::remove_file(&rt, from)?;
+    fs::remove_file(&rt, to)?;
+    let words = "frames --pcap /tmp/ecplan-own-out.pcap";
+    let own = said_of(&rt, &rt, rt.alloc(), PLACED, words)?;
+    let file = fs::read(&rt, to)?;
+    fs::remove_file(&rt, to)?;
+    let same = file.as_slice() == wanted.as_slice() && own.as_str() == planned.as_str();
     let len = file.len();
     let shown = format!(in rt.alloc(); "{same} {len}")?;
     assert_eq!(rt; shown.as_str(), "true 1212");
