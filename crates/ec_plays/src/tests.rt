@@ -2,7 +2,7 @@
 
 use crate::lines::{ONE, TWO, mapping_of, stations_of};
 use crate::slaves::{Cutter, Eater, Tiring, Wire};
-use ec_frames::FrameFault;
+use ec_frames::{Command, FrameFault, datagrams, parse};
 use ec_play::{PlayFault, Played, play_plain};
 use ec_slave::{Pass, SlaveBox};
 use ec_unit_text::read_units;
@@ -166,5 +166,26 @@ fn a_byte_is_cut_off(rt: HostRuntime) -> Result<(), Fail> {
         Some(Err(fault)) => assert!(rt; fault == PlayFault::Reply { frame: 0 }),
         _ => assert!(rt; false),
     }
+    Ok(())
+}
+
+/// The frame of one LRW of six zero bytes at 0x00010000, by hand. 26 zeros fill up to 60 bytes.
+const SIX_BYTES: [u8; 60] = [
+    0xFF, 0xFF, 0xFF, 0xFF, 0xFF, 0xFF, 0x02, 0x00, 0x00, 0x00, 0x00, 0x01, 0x88, 0xA4, 0x12, 0x10,
+    0x0C, 0x00, 0x00, 0x00, 0x01, 0x00, 0x06, 0x00, 0x00, 0x00, 0, 0, 0, 0, 0, 0, 0, 0, 0, 0, 0, 0,
+    0, 0, 0, 0, 0, 0, 0, 0, 0, 0, 0, 0, 0, 0, 0, 0, 0, 0, 0, 0, 0, 0,
+];
+
+#[test]
+fn fields_of_a_frame_of_six_bytes(rt: HostRuntime) -> Result<(), Fail> {
+    let parsed = parse(&SIX_BYTES)?;
+    let mut views = datagrams(&parsed);
+    let view = views.next().ok_or("a datagram")?;
+    assert!(rt; views.next().is_none());
+    assert_eq!(rt; view.command, Command::Lrw);
+    assert_eq!(rt; view.address, 0x0001_0000);
+    assert_eq!(rt; (view.index, view.event, view.counter), (0, 0, 0));
+    assert!(rt; !view.circulating);
+    assert_eq!(rt; view.bytes, [0, 0, 0, 0, 0, 0].as_slice());
     Ok(())
 }
