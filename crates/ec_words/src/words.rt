@@ -304,6 +304,7 @@ fn resume_line(alloc: Global, matches: &ArgMatches<'_>) -> Result<Line, LineFaul
 fn check_line(alloc: Global, matches: &ArgMatches<'_>) -> Result<Line, LineFault>
     ensures within { IfOk result (λ line. JobFits line.job) }
     ensures paths { IfOk result (λ line. HasPath line.job line.cert) }
+    ensures said { IfOk result (λ line. HasNumbersOf matches.now line.job) }
     ensures out { IfOk result (λ line. MayHaveOut line.job line.out) }
 {
     let Some(path) = matches.get_str("cert") else {
@@ -320,6 +321,7 @@ fn check_line(alloc: Global, matches: &ArgMatches<'_>) -> Result<Line, LineFault
 fn cost_line(alloc: Global, matches: &ArgMatches<'_>) -> Result<Line, LineFault>
     ensures within { IfOk result (λ line. JobFits line.job) }
     ensures paths { IfOk result (λ line. HasPath line.job line.cert) }
+    ensures said { IfOk result (λ line. HasNumbersOf matches.now line.job) }
     ensures out { IfOk result (λ line. MayHaveOut line.job line.out) }
 {
     let cert = match matches.get_str("cert") {
@@ -343,6 +345,7 @@ fn cost_line(alloc: Global, matches: &ArgMatches<'_>) -> Result<Line, LineFault>
 fn frames_line(alloc: Global, matches: &ArgMatches<'_>) -> Result<Line, LineFault>
     ensures within { IfOk result (λ line. JobFits line.job) }
     ensures paths { IfOk result (λ line. HasPath line.job line.cert) }
+    ensures said { IfOk result (λ line. HasNumbersOf matches.now line.job) }
     ensures out { IfOk result (λ line. MayHaveOut line.job line.out) }
 {
     let cert = match matches.get_str("cert") {
@@ -367,6 +370,7 @@ fn frames_line(alloc: Global, matches: &ArgMatches<'_>) -> Result<Line, LineFaul
 fn play_line(alloc: Global, matches: &ArgMatches<'_>) -> Result<Line, LineFault>
     ensures within { IfOk result (λ line. JobFits line.job) }
     ensures paths { IfOk result (λ line. HasPath line.job line.cert) }
+    ensures said { IfOk result (λ line. HasNumbersOf matches.now line.job) }
     ensures out { IfOk result (λ line. MayHaveOut line.job line.out) }
 {
     let cert = match matches.get_str("cert") {
@@ -384,6 +388,7 @@ fn play_line(alloc: Global, matches: &ArgMatches<'_>) -> Result<Line, LineFault>
 fn line_of(alloc: Global, command: &str, matches: &ArgMatches<'_>) -> Result<Line, LineFault>
     ensures within { IfOk result (λ line. JobFits line.job) }
     ensures paths { IfOk result (λ line. HasPath line.job line.cert) }
+    ensures said { IfOk result (λ line. HasNumbersOf matches.now line.job) }
     ensures out { IfOk result (λ line. MayHaveOut line.job line.out) }
 {
     match command {
