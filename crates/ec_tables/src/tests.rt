@@ -14,6 +14,7 @@ use std::test::Fail;
 
 mod doing;
 mod late;
+mod threes;
 mod words;
 
 /// A reader that never ends, and counts what it gave.
