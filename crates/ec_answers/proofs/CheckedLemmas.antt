@@ -14,7 +14,7 @@ use Rattle.ec_checker.specs.Certified.{IsCertified, IsFaultOf, verdict_of}
 use Rattle.ec_lines.specs.declared.answer.Answer.{Answer}
 use Rattle.ec_lines.specs.declared.refusal.Refusal.{Refusal}
 use Rattle.ec_lines.specs.declared.refusal.Refusal.TheVariants as refusal
-use Rattle.ec_lines.specs.declared.job.Job.TheVariants as job
+use Rattle.ec_command.specs.declared.job.Job.TheVariants as job
 use Rattle.ec_answers.specs.Input.{AnswersUnits, ReadsTooMany}
 use Rattle.ec_lines.specs.Output.{IsCheckedOutput, IsCheckOutput, IsOutput, Answers, shown, refused, verdict_output}
 use Rattle.ec_lines.specs.Refusals.{out_of_memory, IsMemory}

@@ -18,7 +18,7 @@ use Rattle.ec_frame_lines.specs.Lines.{IsFramesText}
 use Rattle.ec_lines.specs.declared.answer.Answer.{Answer}
 use Rattle.ec_lines.specs.declared.refusal.Refusal.{Refusal}
 use Rattle.ec_lines.specs.declared.refusal.Refusal.TheVariants as refusal
-use Rattle.ec_lines.specs.declared.job.Job.TheVariants as job
+use Rattle.ec_command.specs.declared.job.Job.TheVariants as job
 use Rattle.ec_lines.specs.Framed.{IsPlacedPlan, IsBestPlanOf, IsCertPlan, IsFramedPlan}
 use Rattle.ec_lines.specs.Output.{Written, IsBestText, IsOwnText, IsCertText, IsReadText, IsTextFor, IsOutput, Answers, refused, shown}
 use Rattle.ec_lines.specs.Refusals.{out_of_memory, IsFramesMemory}

@@ -7,7 +7,7 @@ use Rattle.ec_lines.specs.declared.answer.Answer.{Answer}
 use Rattle.ec_lines.specs.declared.refusal.Refusal.{Refusal}
 use Rattle.ec_lines.specs.Output.{Written, shown, refused, written_of}
 use Rattle.ec_answers.specs.Input.{AnswersUnits}
-use Rattle.ec_answers.specs.Planned.{IsPlanOf, IsPlanFault, PlansFrom, AnswersPlan, GetsCertFront, AnswersSearch, GetsFront, GetsSearchFront, outcome_cert}
+use Rattle.ec_answers.specs.Planned.{Any, IsPlanOf, IsPlanFault, PlansFrom, AnswersPlan, GetsCertFront, AnswersSearch, GetsFront, GetsSearchFront, outcome_cert}
 use Rattle.ec_wire.specs.declared.io.Io.{Io}
 use Rattle.ec_wire.specs.Stream.{stream, WritesFront}
 use Rattle.ec_lines.specs.Outcomes.{outcome_output, IsLevelOf}
@@ -28,6 +28,13 @@ pub answered : (is : Units → Outcome → Type 0) (fault : Refusal → Type 0) 
 answered is fault us o level (Ok a) gets found may proved ok err got =
     (outcome_cert us o level, inl (record { units = us; found = o; answer = found; level = level; shown = proved; text = ok; certificate = refl }), got)
 answered is fault us o level (Err r) gets found may proved ok err got = (None, inr (record { refusal = r; why = subst fault (sym err.0) may; line = refl; certificate = refl }), err.1)
+
+-- what is answered without a writer of the certificate
+pub told_of : (is : Units → Outcome → Type 0) (fault : Refusal → Type 0) (us : Units) (o : Outcome) (answer : Result Answer Refusal) → is us o → fault out_of_memory → fault level_memory
+    → IfOk answer (λ a. (level : Option ℕ) × IsLevelOf us.units us.slots o level × (shown a ≡ outcome_output us.units o level)) → IfErr answer (λ r. (r ≡ out_of_memory) ⊎ (r ≡ level_memory)) → AnswersSearch is fault Any answer
+told_of is fault us o (Ok a) found may level ok err = answered is fault us o ok.0 (Ok a) Any found may ok.1 ok.2 tt tt
+told_of is fault us o (Err r) found may level ok (inl memory) = (None, inr (record { refusal = r; why = subst fault (sym memory) may; line = refl; certificate = refl }), tt)
+told_of is fault us o (Err r) found may level ok (inr memory) = (None, inr (record { refusal = r; why = subst fault (sym memory) level; line = refl; certificate = refl }), tt)
 
 -- why nothing is found is what is answered
 pub unanswered : (is : Units → Outcome → Type 0) (fault : Refusal → Type 0) (r : Refusal) (answer : Result Answer Refusal) (gets : Option (List ℕ) → Type 0) → answer ≡ Err r → fault r → gets None → AnswersSearch is fault gets answer
@@ -53,6 +60,11 @@ plan_told (Some bytes) asked us o level answer gets found proved ok err got = an
 pub plan_refused : (left : Option (List ℕ)) (asked : Asked) (r : Refusal) (answer : Result Answer Refusal) (gets : Option (List ℕ) → Type 0) → answer ≡ Err r → IfSome left (PlansFrom asked (Err r)) → gets None → IfSome left (AnswersPlan asked gets answer)
 plan_refused None asked r answer gets is why got = tt
 plan_refused (Some bytes) asked r answer gets is why got = unanswered (IsPlanOf asked bytes) (IsPlanFault asked bytes) r answer gets is why got
+
+pub plan_answered : (left : Option (List ℕ)) (asked : Asked) (us : Units) (o : Outcome) (answer : Result Answer Refusal) → IfSome left (PlansFrom asked (Ok (us, o)))
+    → IfOk answer (λ a. (level : Option ℕ) × IsLevelOf us.units us.slots o level × (shown a ≡ outcome_output us.units o level)) → IfErr answer (λ r. (r ≡ out_of_memory) ⊎ (r ≡ level_memory)) → IfSome left (AnswersPlan asked Any answer)
+plan_answered None asked us o answer found ok err = tt
+plan_answered (Some bytes) asked us o answer found ok err = told_of (IsPlanOf asked bytes) (IsPlanFault asked bytes) us o answer found (inr (inl refl)) (inr (inr (inl refl))) ok err
 
 -- want of memory over the level
 pub plan_unlevelled : (left : Option (List ℕ)) (asked : Asked) (r : Refusal) (answer : Result Answer Refusal) (gets : Option (List ℕ) → Type 0) → answer ≡ Err r → r ≡ level_memory → gets None → IfSome left (AnswersPlan asked gets answer)

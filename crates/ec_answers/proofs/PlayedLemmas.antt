@@ -16,7 +16,7 @@ use Rattle.ec_play_lines.specs.Plays.{IsPlayText}
 use Rattle.ec_lines.specs.declared.answer.Answer.{Answer}
 use Rattle.ec_lines.specs.declared.refusal.Refusal.{Refusal}
 use Rattle.ec_lines.specs.declared.refusal.Refusal.TheVariants as refusal
-use Rattle.ec_lines.specs.declared.job.Job.TheVariants as job
+use Rattle.ec_command.specs.declared.job.Job.TheVariants as job
 use Rattle.ec_lines.specs.Output.{Written, IsCostsText, IsPlacedText, IsBestText, IsOwnText, IsCertText, IsReadText, IsTextFor, IsOutput, Answers, first_unplaced, places_of, refused, shown}
 use Rattle.ec_lines.specs.Refusals.{refusal_code}
 use Rattle.ec_lines.proofs.RefusalLemmas.{code_above}

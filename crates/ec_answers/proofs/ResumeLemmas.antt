@@ -36,8 +36,8 @@ use Rattle.ec_lines.specs.declared.refusal.Refusal.{Refusal}
 use Rattle.ec_lines.specs.declared.refusal.Refusal.TheVariants as refusal
 use Rattle.ec_lines.specs.Refusals.{out_of_memory, level_memory}
 use Rattle.ec_answers.specs.Input.{AnswersUnits, IsUnitsFault, ReadsTooMany}
-use Rattle.ec_answers.specs.Planned.{GoesOn, IsProofBy, IsStopped, IsTextFault, IsResumeOf, IsNoFor, IsResumeFault, ResumesFrom, AnswersResume, GetsResumeFront, outcome_cert}
-use Rattle.ec_answers.proofs.PlanLemmas.{answered, unanswered, fronted}
+use Rattle.ec_answers.specs.Planned.{Any, GoesOn, IsProofBy, IsStopped, IsTextFault, IsResumeOf, IsNoFor, IsResumeFault, ResumesFrom, AnswersResume, GetsResumeFront, outcome_cert}
+use Rattle.ec_answers.proofs.PlanLemmas.{answered, fronted, told_of, unanswered}
 use Rattle.ec_answers.proofs.CheckedLemmas.{memory_or, too_long}
 
 -- ---- a certificate that is a proof
@@ -152,6 +152,13 @@ pub resume_refused : (left text : Option (List ℕ)) (workers nodes : ℕ) (r : 
 resume_refused None text workers nodes r answer gets is why got = tt
 resume_refused (Some bytes) None workers nodes r answer gets is why got = tt
 resume_refused (Some bytes) (Some t) workers nodes r answer gets is why got = unanswered (IsResumeOf workers nodes bytes t) (IsResumeFault workers bytes t) r answer gets is why got
+
+pub resume_answered : (left text : Option (List ℕ)) (workers nodes : ℕ) (us : Units) (o : Outcome) (answer : Result Answer Refusal) → IfSome left (λ bytes. IfSome text (λ t. ResumesFrom workers nodes (Ok (us, o)) bytes t))
+    → IfOk answer (λ a. (level : Option ℕ) × IsLevelOf us.units us.slots o level × (shown a ≡ outcome_output us.units o level)) → IfErr answer (λ r. (r ≡ out_of_memory) ⊎ (r ≡ level_memory)) → IfSome left (λ bytes. IfSome text (λ t. AnswersResume workers nodes Any answer bytes t))
+resume_answered None text workers nodes us o answer found ok err = tt
+resume_answered (Some bytes) None workers nodes us o answer found ok err = tt
+resume_answered (Some bytes) (Some t) workers nodes us o answer found ok err =
+    told_of (IsResumeOf workers nodes bytes t) (IsResumeFault workers bytes t) us o answer found (inl (inr (inl refl))) (inl (inr (inr (inl refl)))) ok err
 
 -- want of memory over the level
 pub resume_unlevelled : (left text : Option (List ℕ)) (workers nodes : ℕ) (r : Refusal) (answer : Result Answer Refusal) (gets : Option (List ℕ) → Type 0) → answer ≡ Err r → r ≡ level_memory → gets None → IfSome left (λ bytes. IfSome text (λ t. AnswersResume workers nodes gets answer bytes t))

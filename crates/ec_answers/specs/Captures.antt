@@ -6,7 +6,7 @@ use Rattle.ec_units.specs.Views.{units_view}
 use Rattle.ec_loads.specs.declared.plan.Plan.{Plan}
 use Rattle.ec_lines.specs.declared.answer.Answer.{Answer}
 use Rattle.ec_lines.specs.declared.refusal.Refusal.{Refusal}
-use Rattle.ec_lines.specs.declared.job.Job.TheVariants as job
+use Rattle.ec_command.specs.declared.job.Job.TheVariants as job
 use Rattle.ec_lines.specs.Framed.{IsFramedPlan, IsCaptureFor, IsCaptured}
 use Rattle.ec_lines.specs.Output.{Written, IsOutput, refused, written_of}
 use Rattle.ec_lines.specs.Refusals.{IsFramesMemory}

@@ -8,7 +8,7 @@ ghost use Rattle.ec_units.specs.Load.{loads_of};
 ghost use Rattle.ec_loads.specs.Held.{no_places};
 ghost use Rattle.ec_units.specs.Views.{units_view};
 ghost use Rattle.ec_lines.specs.Output.{Answers, IsCheckedOutput, IsCheckOutput, IsOutput};
-ghost use Rattle.ec_lines.specs.declared.job.Job.TheVariants.{Check};
+ghost use Rattle.ec_command.specs.declared.job.Job.TheVariants.{Check};
 
 use crate::input::{cert_text, units_of};
 use ec_cert::Cert;

@@ -4,7 +4,7 @@ ghost use Rattle.std.specs.Prelude.{◌≡◌, ◌+◌, ◌≤◌, true, false, 
 ghost use Rattle.ec_wire.specs.Stream.{stream, has_failed, taken};
 ghost use Rattle.ec_answers.specs.Input.{ConsumesAtMost, AreUnits};
 ghost use Rattle.ec_lines.specs.Output.{IsOutput, Answers};
-ghost use Rattle.ec_lines.specs.declared.job.Job.TheVariants.{Cost, PlanCost};
+ghost use Rattle.ec_command.specs.declared.job.Job.TheVariants.{Cost, PlanCost};
 
 use crate::frames::certified;
 use crate::input::units_of;

@@ -13,7 +13,7 @@ ghost use Rattle.ec_lines.specs.Framed.{IsBestPlanOf, IsCertPlan};
 ghost use Rattle.ec_frame_lines.specs.Lines.{IsFramesText};
 ghost use Rattle.ec_lines.specs.Output.{Answers, IsCertText, IsReadText, IsOutput, refused};
 ghost use Rattle.ec_lines.specs.Refusals.{IsFramesMemory};
-ghost use Rattle.ec_lines.specs.declared.job.Job.TheVariants.{Frames};
+ghost use Rattle.ec_command.specs.declared.job.Job.TheVariants.{Frames};
 
 use crate::input::{cert_text, units_of};
 use ec_cert::Cert;

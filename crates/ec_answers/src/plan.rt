@@ -1,6 +1,6 @@
 //! What a plan answers, and the certificate that it writes before.
 
-ghost use Rattle.std.specs.Prelude.{◌≡◌, ℕ, ◌+◌, ◌≤◌, true, false, Some, None, IfOk, IfErr, IfSome, OnOk, OnErr};
+ghost use Rattle.std.specs.Prelude.{◌≡◌, ◌⊎◌, ℕ, ◌+◌, ◌≤◌, true, false, Option, Some, None, IfOk, IfErr, IfSome, OnOk, OnErr};
 ghost use Rattle.ec_workers.specs.Answers.{Asked, IsOutcome, asked_for};
 ghost use Rattle.ec_wire.specs.Stream.{stream, has_failed, taken};
 ghost use Rattle.ec_cert.specs.Shapes.{cert_view};
@@ -49,6 +49,17 @@ pub(crate) fn level_of(
             Err(_) => Err(Refusal::Check(CheckFault::OutOfMemory)),
         },
     }
+}
+
+/// The text of an outcome, with its status: of a search without a proof with its level.
+pub(crate) fn told(alloc: Global, units: &Units, outcome: &Outcome) -> Result<Answer, Refusal>
+    requires outcome { (asked : Asked) × IsOutcome units.now.units units.now.slots asked outcome.now }
+    requires places { HasPlaces units.now.units outcome.now }
+    ensures ok { IfOk result (λ answer. (level : Option ℕ) × IsLevelOf units.now.units units.now.slots outcome.now level × (shown answer ≡ outcome_output units.now.units outcome.now level)) }
+    ensures err { IfErr result (λ r. (r ≡ out_of_memory) ⊎ (r ≡ level_memory)) }
+{
+    let level = level_of(alloc, units, outcome)?;
+    Ok(outcome_answer(alloc, units, outcome, level)?)
 }
 
 /// The certificate of an outcome: its own, or that of a search without a proof, with its level.
@@ -144,8 +155,7 @@ pub fn plan_answer<R: Read, T: Threads + Wait + Sync, G: Gate + Sync>(
     ensures taken { taken units.new ≤ taken units.old + 1048577 }
 {
     let (line, outcome) = planned(rt, alloc, workers, nodes, units, gate)?;
-    let level = level_of(alloc, &line, &outcome)?;
-    Ok(outcome_answer(alloc, &line, &outcome, level)?)
+    told(alloc, &line, &outcome)
 }
 
 /// What a plan answers of the units that the reader has; its certificate is written to `out`, also that of a search

@@ -4,7 +4,7 @@ ghost use Rattle.std.specs.Prelude.{◌≡◌, ◌+◌, ◌≤◌, true, false, 
 ghost use Rattle.ec_wire.specs.Stream.{stream, has_failed, taken};
 ghost use Rattle.ec_answers.specs.Input.{ConsumesAtMost, AreUnits};
 ghost use Rattle.ec_lines.specs.Output.{Answers, IsOutput};
-ghost use Rattle.ec_lines.specs.declared.job.Job.TheVariants.{Play};
+ghost use Rattle.ec_command.specs.declared.job.Job.TheVariants.{Play};
 
 use crate::frames::{certified, placed};
 use ec_lines::{Answer, Player, Refusal};

@@ -15,12 +15,12 @@ ghost use Rattle.ec_answers.specs.Input.{ConsumesAtMost, AreUnits};
 ghost use Rattle.ec_answers.specs.Planned.{Any, AnswersResume, Gets, GetsFront, GetsResumeFront, GoesOn, IsProofBy, IsStopped, IsTextFault, ResumesFrom};
 
 use crate::input::{cert_text, units_of};
-use crate::plan::{certified, level_of};
+use crate::plan::{certified, level_of, told};
 use ec_cert::Cert;
 use ec_cert_text::read_cert;
 use ec_checker::{CheckFault, Verdict, check_in, faults_refute};
 use ec_crew::copy_of;
-use ec_lines::{Answer, Refusal, outcome_answer};
+use ec_lines::{Answer, Refusal};
 use ec_loads::Loads;
 use ec_tree::{levels_bound, trees_bound};
 use ec_units::Units;
@@ -157,8 +157,7 @@ pub fn resume_answer<R: Read, C: Read, T: Threads + Wait + Sync, G: Gate + Sync>
     ensures cert_taken { taken cert.new ≤ taken cert.old + 67108865 }
 {
     let (line, outcome) = resumed(rt, alloc, workers, nodes, units, cert, gate)?;
-    let level = level_of(alloc, &line, &outcome)?;
-    Ok(outcome_answer(alloc, &line, &outcome, level)?)
+    told(alloc, &line, &outcome)
 }
 
 /// What a resumed search answers of the units and the certificate that the readers have; the certificate of what it

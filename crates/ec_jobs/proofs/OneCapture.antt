@@ -9,7 +9,7 @@ use Rattle.ec_cert.specs.Shapes.{CertView}
 use Rattle.ec_frame_lines.specs.Captures.{IsCapture}
 use Rattle.ec_frame_lines.proofs.OnceLemmas.{capture_once}
 use Rattle.ec_frame_lines.specs.Lines.{IsFramesText}
-use Rattle.ec_lines.specs.declared.job.Job.TheVariants as job
+use Rattle.ec_command.specs.declared.job.Job.TheVariants as job
 use Rattle.ec_lines.specs.Framed.{IsFramedPlan, IsCaptureFor, IsCaptured}
 use Rattle.ec_lines.specs.Output.{Written, IsOutput}
 use Rattle.ec_answers.proofs.FramedLemmas.{text_for}

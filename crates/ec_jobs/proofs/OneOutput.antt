@@ -20,8 +20,8 @@ use Rattle.ec_play_lines.specs.Plays.{IsPlayText}
 use Rattle.ec_play_lines.proofs.PlayLemmas.{play_once}
 use Rattle.ec_lines.specs.declared.refusal.Refusal.{Refusal}
 use Rattle.ec_lines.specs.declared.refusal.Refusal.TheVariants as refusal
-use Rattle.ec_lines.specs.declared.job.Job.{Job}
-use Rattle.ec_lines.specs.declared.job.Job.TheVariants as job
+use Rattle.ec_command.specs.declared.job.Job.{Job}
+use Rattle.ec_command.specs.declared.job.Job.TheVariants as job
 use Rattle.ec_lines.specs.Lines.{cost_lines}
 use Rattle.ec_lines.specs.Output.{Written, IsOutput, IsUnitsOutput, IsCheckedOutput, IsPlacedOutput, IsPlacedText, IsBestText, IsCertTextOf, IsCertText, IsTextFor, IsCostText, IsCostsText, refused, verdict_output, first_unplaced, places_of}
 use Rattle.ec_lines.specs.Refusals.{refusal_code}

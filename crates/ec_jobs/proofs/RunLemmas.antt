@@ -6,10 +6,10 @@ use Rattle.ec_wire.specs.Stream.{stream, has_failed, taken, WritesFront}
 use Rattle.ec_lines.specs.declared.answer.Answer.{Answer}
 use Rattle.ec_lines.specs.declared.refusal.Refusal.{Refusal}
 use Rattle.ec_lines.specs.declared.refusal.Refusal.TheVariants as refusal
-use Rattle.ec_lines.specs.declared.job.Job.{Job}
-use Rattle.ec_lines.specs.declared.job.Job.TheVariants as job
+use Rattle.ec_command.specs.declared.job.Job.{Job}
+use Rattle.ec_command.specs.declared.job.Job.TheVariants as job
 use Rattle.ec_wire.specs.declared.io.Io.{Io}
-use Rattle.ec_lines.specs.Words.{IsResume}
+use Rattle.ec_command.specs.Words.{IsResume}
 use Rattle.ec_answers.specs.Captures.{AnswersCapture, GetsCaptureFront, IsFramesWritten}
 use Rattle.ec_answers.specs.Input.{AreUnits, ConsumesAtMost}
 use Rattle.ec_lines.specs.Output.{Written, Answers, IsOutput, IsNoMemory, refused, written_of}

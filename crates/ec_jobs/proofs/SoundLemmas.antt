@@ -18,7 +18,7 @@ use Rattle.ec_checker.proofs.CheckLemmas.{claim_from}
 use Rattle.ec_tree.specs.Trees.{TreesBound, LevelsBound}
 use Rattle.ec_lines.specs.declared.refusal.Refusal.{Refusal}
 use Rattle.ec_lines.specs.declared.refusal.Refusal.TheVariants as refusal
-use Rattle.ec_lines.specs.declared.job.Job.TheVariants as job
+use Rattle.ec_command.specs.declared.job.Job.TheVariants as job
 use Rattle.ec_lines.specs.Lines.{least_line, level_line, no_plan_line}
 use Rattle.ec_lines.specs.Output.{Written, IsUnitsOutput, IsCheckedOf, IsCheckedOutput, refused, verdict_output}
 use Rattle.ec_lines.specs.Refusals.{refusal_code}

@@ -4,7 +4,7 @@ use Rattle.std.specs.Prelude.{◌⊎◌}
 use Rattle.ec_lines.specs.declared.refusal.Refusal.{Refusal}
 use Rattle.ec_lines.specs.declared.answer.Answer.{Answer}
 use Rattle.ec_lines.specs.Output.{Written, written_of, Answers, IsOutput, IsNoMemory}
-use Rattle.ec_lines.specs.declared.job.Job.{Job}
+use Rattle.ec_command.specs.declared.job.Job.{Job}
 
 -- what the answer says, or want of memory
 pub said_by : (j : Job) (bytes : List ℕ) (cert : Option (List ℕ)) (answer : Result Answer Refusal) (w : Written) → Answers j answer (IsOutput j bytes cert) → w ≡ written_of answer → (IsOutput j bytes cert w ⊎ IsNoMemory j w)

@@ -18,8 +18,8 @@ use Rattle.ec_workers.specs.declared.outcome.Cut.{Cut}
 use Rattle.ec_workers.specs.Answers.{Asked}
 use Rattle.ec_workers.specs.Outcomes.{Shows}
 use Rattle.ec_answers.specs.Planned.{IsPlanWritten, IsResumeWritten}
-use Rattle.ec_lines.specs.declared.job.Job.{Job}
-use Rattle.ec_lines.specs.declared.job.Job.TheVariants as job
+use Rattle.ec_command.specs.declared.job.Job.{Job}
+use Rattle.ec_command.specs.declared.job.Job.TheVariants as job
 use Rattle.ec_lines.specs.Framed.{IsCaptureFor, IsCaptured}
 use Rattle.ec_lines.specs.Lines.{least_line, level_line, no_plan_line, optimal_line}
 use Rattle.ec_lines.specs.Outcomes.{optimal_text, unproved_text}

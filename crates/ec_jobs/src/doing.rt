@@ -3,14 +3,15 @@
 ghost use Rattle.std.specs.Prelude.{◌≡◌, None, false};
 ghost use Rattle.ec_wire.specs.Stream.{has_failed};
 ghost use Rattle.ec_jobs.specs.Runs.{used, Tells, Reads, Costs, CapturesAway, CaptureAt, PlanAt, DoesAlone, DoesAway, DoesLine};
-ghost use Rattle.ec_lines.specs.Words.{HasPath, IsPlain, IsResume, JobFits};
-ghost use Rattle.ec_lines.specs.declared.job.Job.TheVariants.{Frames, Play};
+ghost use Rattle.ec_command.specs.Words.{HasPath, IsPlain, IsResume, JobFits};
+ghost use Rattle.ec_command.specs.declared.job.Job.TheVariants.{Frames, Play};
 
 use crate::job::{Status, refuse};
 use crate::late::Late;
 use crate::plain::run_plain;
 use crate::running::run;
-use ec_lines::{Job, Line, Refusal};
+use ec_command::{Job, Line};
+use ec_lines::Refusal;
 use ec_wire::Io;
 use ec_workers::Gate;
 use std::alloc::Global;

@@ -3,14 +3,15 @@
 ghost use Rattle.std.specs.Prelude.{◌≡◌, false, option_map};
 ghost use Rattle.ec_wire.specs.Stream.{has_failed};
 ghost use Rattle.ec_jobs.specs.Runs.{used, lent, HasCert, HasOut, IsRun};
-ghost use Rattle.ec_lines.specs.Words.{IsPlain};
+ghost use Rattle.ec_command.specs.Words.{IsPlain};
 
 use crate::capturing::{run_capture, run_captured_plan};
 use crate::costing::run_planned_cost;
 use crate::framing::{run_frames, run_planned};
 use crate::job::{Status, run_check, run_cost};
 use crate::playing::{run_planned_play, run_played};
-use ec_lines::{Alone, Job};
+use ec_command::Job;
+use ec_lines::Alone;
 use ec_wire::Io;
 use std::alloc::Global;
 use std::io::{Read, Write};

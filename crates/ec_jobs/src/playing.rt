@@ -3,7 +3,7 @@
 ghost use Rattle.std.specs.Prelude.{◌≡◌, false};
 ghost use Rattle.ec_wire.specs.Stream.{has_failed};
 ghost use Rattle.ec_jobs.specs.Runs.{used, Tells, ForUnits, ForCert};
-ghost use Rattle.ec_lines.specs.declared.job.Job.TheVariants.{Play};
+ghost use Rattle.ec_command.specs.declared.job.Job.TheVariants.{Play};
 
 use crate::job::{Status, finish};
 use ec_answers::{planned_play, played_answer};

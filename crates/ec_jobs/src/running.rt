@@ -3,7 +3,7 @@
 ghost use Rattle.std.specs.Prelude.{◌≡◌, false, option_map};
 ghost use Rattle.ec_wire.specs.Stream.{has_failed};
 ghost use Rattle.ec_jobs.specs.Runs.{used, lent, HasCert, IsRun, NoneFailed};
-ghost use Rattle.ec_lines.specs.Words.{JobFits};
+ghost use Rattle.ec_command.specs.Words.{JobFits};
 
 use crate::capturing::{run_capture, run_captured_plan};
 use crate::costing::run_planned_cost;
@@ -11,7 +11,8 @@ use crate::framing::{run_frames, run_planned};
 use crate::job::{Status, run_check, run_cost, run_plan, run_plan_to};
 use crate::playing::{run_planned_play, run_played};
 use crate::resuming::{run_resume, run_resume_to};
-use ec_lines::{Job, Together};
+use ec_command::Job;
+use ec_lines::Together;
 use ec_wire::Io;
 use ec_workers::Gate;
 use std::alloc::Global;

@@ -4,4 +4,3 @@ pub mod Memory
 pub mod Outcomes
 pub mod Output
 pub mod Refusals
-pub mod Words

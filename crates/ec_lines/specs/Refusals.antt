@@ -17,8 +17,8 @@ use Rattle.ec_play.specs.declared.faults.PlayFault.{PlayFault}
 use Rattle.ec_play.specs.declared.faults.PlayFault.TheVariants as play
 use Rattle.ec_lines.specs.declared.refusal.Refusal.{Refusal}
 use Rattle.ec_lines.specs.declared.refusal.Refusal.TheVariants as refusal
-use Rattle.ec_lines.specs.declared.job.Job.{Job}
-use Rattle.ec_lines.specs.declared.job.Job.TheVariants as job
+use Rattle.ec_command.specs.declared.job.Job.{Job}
+use Rattle.ec_command.specs.declared.job.Job.TheVariants as job
 
 -- a fault of a unit text: its code, its name and its fields
 abbrev pub fault_text : UnitFault → List ℕ

@@ -11,7 +11,7 @@ ghost use Rattle.ec_lines.specs.Lines.{tick_line, tick_lines};
 ghost use Rattle.ec_lines.specs.Output.{IsCostText, IsCostsText, first_unplaced, places_of, IsCostOutput, Answers};
 ghost use Rattle.ec_lines.specs.Refusals.{out_of_memory};
 ghost use Rattle.ec_lines.specs.declared.refusal.Refusal.TheVariants.{NoPlace};
-ghost use Rattle.ec_lines.specs.declared.job.Job.TheVariants.{Cost, PlanCost};
+ghost use Rattle.ec_command.specs.declared.job.Job.TheVariants.{Cost, PlanCost};
 
 use crate::answer::Answer;
 use crate::refusal::Refusal;

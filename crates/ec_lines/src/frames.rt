@@ -9,7 +9,7 @@ ghost use Rattle.ec_frame_lines.specs.Captures.{IsCapture};
 ghost use Rattle.ec_lines.specs.Framed.{IsPlacedPlan};
 ghost use Rattle.ec_lines.specs.Output.{IsOwnText, Answers, refused};
 ghost use Rattle.ec_lines.specs.Refusals.{IsFramesMemory};
-ghost use Rattle.ec_lines.specs.declared.job.Job.TheVariants.{Frames};
+ghost use Rattle.ec_command.specs.declared.job.Job.TheVariants.{Frames};
 
 use crate::answer::Answer;
 use crate::cost::plan_of;

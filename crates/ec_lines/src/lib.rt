@@ -1,11 +1,9 @@
-//! What the program writes: the lines of a cost, of a plan, of a certificate, of frames and of a play, and the line that refuses;
-//! and the jobs and command lines for which it does.
+//! What the program writes: the lines of a cost, of a plan, of a certificate, of frames and of a play, and the line that refuses.
 #![tactic(auto)]
 
 mod answer;
 mod cost;
 mod frames;
-mod job;
 mod outcome;
 mod play;
 mod reason;
@@ -15,7 +13,6 @@ mod verdict;
 pub use answer::Answer;
 pub use cost::{cost_of, plan_cost};
 pub use frames::{Captured, placed_plan, plan_capture, plan_frames};
-pub use job::{Job, Line};
 pub use outcome::outcome_answer;
 pub use play::{Alone, Player, Together};
 pub use reason::refusal_line;

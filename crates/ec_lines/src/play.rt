@@ -7,7 +7,7 @@ ghost use Rattle.ec_units.specs.Views.{units_view};
 ghost use Rattle.ec_loads.specs.Legal.{IsLegal};
 ghost use Rattle.ec_play_lines.specs.Plays.{IsPlayText};
 ghost use Rattle.ec_lines.specs.Output.{Answers};
-ghost use Rattle.ec_lines.specs.declared.job.Job.TheVariants.{Play};
+ghost use Rattle.ec_command.specs.declared.job.Job.TheVariants.{Play};
 
 use crate::answer::Answer;
 use crate::refusal::Refusal;

@@ -3,8 +3,8 @@
 use crate::jobs::{Failed, Told};
 use crate::row::Row;
 use crate::streams::{FailsAt, Slow};
+use ec_command::Job;
 use ec_jobs::{run, run_plain};
-use ec_lines::Job;
 use ec_wire::Io;
 use ec_workers::Quiet;
 use std::alloc::Global;

@@ -165,6 +165,27 @@ fn told_twice(rt: &(impl Threads + Wait + Sync), alloc: Global, row: &Row<'_>) -
     (told, same)
 }
 
+/// Adds what a row's job left.
+fn add_told(
+    out: &mut String,
+    alloc: Global,
+    row: &Row<'_>,
+    told: &Told,
+    same: bool,
+) -> Result<(), AllocError> {
+    let code = told.code;
+    write!(out, "{code}\n")?;
+    add(out, told.text.as_slice())?;
+    add_cert(out, row, told.cert.as_slice())?;
+    add_file(out, told.file.as_slice())?;
+    add_failed(out, told)?;
+    add_check(out, alloc, row, told)?;
+    if !same {
+        out.push_str("otherwise again\n")?;
+    }
+    out.push_str(".\n")
+}
+
 /// What a row's job answers: its status, its text, its certificate, its capture file, the streams that failed, what is
 /// told of the certificate, and a full stop.
 pub(crate) fn answer_to(
@@ -173,16 +194,7 @@ pub(crate) fn answer_to(
     row: &Row<'_>,
 ) -> Result<String, AllocError> {
     let (told, same) = told_twice(rt, alloc, row);
-    let code = told.code;
-    let mut out = format!(in alloc; "{code}\n")?;
-    add(&mut out, told.text.as_slice())?;
-    add_cert(&mut out, row, told.cert.as_slice())?;
-    add_file(&mut out, told.file.as_slice())?;
-    add_failed(&mut out, &told)?;
-    add_check(&mut out, alloc, row, &told)?;
-    if !same {
-        out.push_str("otherwise again\n")?;
-    }
-    out.push_str(".\n")?;
+    let mut out = String::new(alloc);
+    add_told(&mut out, alloc, row, &told, same)?;
     Ok(out)
 }

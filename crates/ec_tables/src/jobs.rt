@@ -1,12 +1,12 @@
 //! Does the job of a row, by each of the ways that there are.
 
 ghost use Rattle.std.specs.Prelude.{Some, ◌≡◌, ◌≤◌};
-ghost use Rattle.ec_lines.specs.Words.{JobFits, IsPlain};
+ghost use Rattle.ec_command.specs.Words.{JobFits, IsPlain};
 
 use crate::row::Row;
 use crate::streams::{FailsAt, Slow};
+use ec_command::Job;
 use ec_jobs::{run, run_plain, run_plan_to, run_resume_to};
-use ec_lines::Job;
 use ec_wire::Io;
 use ec_workers::Quiet;
 use std::alloc::Global;

@@ -3,8 +3,8 @@ use Rattle.std.specs.Prelude.{◌≡◌, ℕ, List, Some, codes}
 use Rattle.std.specs.Str.Parse.{digits_value, without_leading_plus}
 use Rattle.clap.specs.declared.parser.matches.ArgMatches.{ArgMatches}
 use Rattle.clap.specs.Words.{found_of, one_text}
-use Rattle.ec_lines.specs.declared.job.Job.{Job}
-use Rattle.ec_lines.specs.declared.job.Job.TheVariants as job
+use Rattle.ec_command.specs.declared.job.Job.{Job}
+use Rattle.ec_command.specs.declared.job.Job.TheVariants as job
 
 -- the number is the one that the text of the option says
 abbrev pub IsSaidBy : ArgMatches → List ℕ → ℕ → Type 0

@@ -1,8 +1,8 @@
 -- The path of a picture.
 use Rattle.std.specs.Prelude.{◌≡◌, String, Option, None}
 use Rattle.std.proofs.Common.{Global}
-use Rattle.ec_lines.specs.declared.job.Job.{Job}
-use Rattle.ec_lines.specs.declared.job.Job.TheVariants as job
+use Rattle.ec_command.specs.declared.job.Job.{Job}
+use Rattle.ec_command.specs.declared.job.Job.TheVariants as job
 
 -- a cost, of the units or of a plan, and no other job may have the path of a picture to write
 abbrev pub MayHavePicture : Job → Option (String Global) → Type 0

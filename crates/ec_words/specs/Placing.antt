@@ -1,8 +1,8 @@
 -- The path of the units with their places.
 use Rattle.std.specs.Prelude.{◌≡◌, String, Option, None}
 use Rattle.std.proofs.Common.{Global}
-use Rattle.ec_lines.specs.declared.job.Job.{Job}
-use Rattle.ec_lines.specs.declared.job.Job.TheVariants as job
+use Rattle.ec_command.specs.declared.job.Job.{Job}
+use Rattle.ec_command.specs.declared.job.Job.TheVariants as job
 
 -- a search, begun or resumed, and no other job may have the path at which the unit text is written again with the places of its plan
 abbrev pub MayHavePlaces : Job → Option (String Global) → Type 0

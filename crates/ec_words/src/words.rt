@@ -1,15 +1,16 @@
 //! The command line.
 
 ghost use Rattle.std.specs.Prelude.{◌≡◌, IfOk, IfSome};
-ghost use Rattle.ec_lines.specs.Words.{JobFits, HasPath, MayHaveOut};
+ghost use Rattle.ec_command.specs.Words.{JobFits, HasPath, MayHaveOut};
 ghost use Rattle.ec_words.specs.Numbers.{HasNumbersOf};
 ghost use Rattle.ec_words.specs.Pictures.{MayHavePicture};
 ghost use Rattle.ec_words.specs.Placing.{MayHavePlaces};
 ghost use Rattle.ec_words.specs.declared.words.LineFault.TheVariants.{Memory};
 
 use clap::error::ErrorKind;
-use clap::{Arg, ArgAction, ArgMatches, Command, Error, value_parser};
-use ec_lines::{Job, Line};
+use clap::{ArgMatches, Error};
+use ec_command::{Job, Line};
+use ec_options::all_commands;
 use std::alloc::{AllocError, Global};
 
 /// Why words are no command line.
@@ -41,185 +42,6 @@ pub struct Words {
     pub places: Option<String>,
     /// Whether the progress of a search is told also where standard error is no terminal.
     pub progress: bool,
-}
-
-/// What the help says of the units, the statuses and the formats.
-const AFTER_HELP: &str =
-    "The units are read from FILE, or from standard input where FILE is - or isn't given.\n\
-The text goes to standard output, and what a refusal means to standard error.\n\n\
-Exit statuses: 0 optimal, least or done; 1 no plan; 2 unproved or at least; 3 refused input;\n\
-4 reading, writing, memory, a ring or a thread failed; 5 words that are no command, or this help.\n\n\
-docs/FORMATS.md describes the unit text, what each command writes, and each refusal.\n";
-
-/// The path of the units.
-fn file_arg<'a>(alloc: Global) -> Arg<'a> {
-    Arg::new(alloc, "file")
-        .value_name("FILE")
-        .action(ArgAction::Set)
-        .help("The units; standard input where it is - or isn't given")
-}
-
-/// The command `cost`.
-fn cost_command<'a>(alloc: Global) -> Result<Command<'a>, AllocError> {
-    let cert = Arg::new(alloc, "cert")
-        .long("cert")
-        .value_name("PATH")
-        .action(ArgAction::Set)
-        .help("The certificate whose plan is told; without it the places in the units are");
-    let picture = Arg::new(alloc, "svg")
-        .long("svg")
-        .value_name("PATH")
-        .action(ArgAction::Set)
-        .help("Where to write a picture of the ticks, as SVG");
-    Command::new(alloc, "cost")
-        .about("Tells what each tick costs")
-        .arg(cert)?
-        .arg(picture)?
-        .arg(file_arg(alloc))
-}
-
-/// How many workers search.
-fn workers_arg<'a>(alloc: Global) -> Arg<'a> {
-    Arg::new(alloc, "workers")
-        .long("workers")
-        .value_name("N")
-        .value_parser(value_parser!(usize).range(1..=16))
-        .default_value("1")
-        .help(
-            "How many workers search, 1 to 16; with 1 the plan and the certificate are the same every time",
-        )
-}
-
-/// How many nodes are visited.
-fn nodes_arg<'a>(alloc: Global) -> Arg<'a> {
-    Arg::new(alloc, "nodes")
-        .long("nodes")
-        .value_name("N")
-        .value_parser(value_parser!(u32).range(1..=10_000_000))
-        .default_value("1000000")
-        .help("The most nodes of the search tree to visit, 1 to 10000000")
-}
-
-/// Where the certificate goes.
-fn out_arg<'a>(alloc: Global) -> Arg<'a> {
-    Arg::new(alloc, "out")
-        .long("out")
-        .value_name("PATH")
-        .action(ArgAction::Set)
-        .help("Where to write the certificate, also of a search that ends without a proof")
-}
-
-/// Where the units go with their places.
-fn places_arg<'a>(alloc: Global) -> Arg<'a> {
-    Arg::new(alloc, "places")
-        .long("places")
-        .value_name("PATH")
-        .action(ArgAction::Set)
-        .help("Where to write the unit text again, with the places of the plan")
-}
-
-/// Whether the progress is told in any case.
-fn progress_arg<'a>(alloc: Global) -> Arg<'a> {
-    Arg::new(alloc, "progress")
-        .long("progress")
-        .action(ArgAction::SetTrue)
-        .help("Tell the progress on standard error also where that is no terminal")
-}
-
-/// The command `plan`.
-fn plan_command<'a>(alloc: Global) -> Result<Command<'a>, AllocError> {
-    Command::new(alloc, "plan")
-        .about("Finds a plan whose busiest tick is least, and its certificate")
-        .arg(workers_arg(alloc))?
-        .arg(nodes_arg(alloc))?
-        .arg(out_arg(alloc))?
-        .arg(places_arg(alloc))?
-        .arg(progress_arg(alloc))?
-        .arg(file_arg(alloc))
-}
-
-/// The command `resume`.
-fn resume_command<'a>(alloc: Global) -> Result<Command<'a>, AllocError> {
-    let cert = Arg::new(alloc, "cert")
-        .long("cert")
-        .value_name("PATH")
-        .required(true)
-        .action(ArgAction::Set)
-        .help("The certificate of a search that ended without a proof");
-    Command::new(alloc, "resume")
-        .about("Goes on with a search that ended without a proof, from its certificate")
-        .arg(cert)?
-        .arg(workers_arg(alloc))?
-        .arg(nodes_arg(alloc))?
-        .arg(out_arg(alloc))?
-        .arg(places_arg(alloc))?
-        .arg(progress_arg(alloc))?
-        .arg(file_arg(alloc))
-}
-
-/// The command `check`.
-fn check_command<'a>(alloc: Global) -> Result<Command<'a>, AllocError> {
-    let cert = Arg::new(alloc, "cert")
-        .long("cert")
-        .value_name("PATH")
-        .required(true)
-        .action(ArgAction::Set)
-        .help("The certificate to check");
-    Command::new(alloc, "check")
-        .about("Checks a certificate for the units")
-        .arg(cert)?
-        .arg(file_arg(alloc))
-}
-
-/// The command `frames`.
-fn frames_command<'a>(alloc: Global) -> Result<Command<'a>, AllocError> {
-    let cert = Arg::new(alloc, "cert")
-        .long("cert")
-        .value_name("PATH")
-        .action(ArgAction::Set)
-        .help("The certificate whose plan is sent; without it the places in the units are");
-    let pcap = Arg::new(alloc, "pcap")
-        .long("pcap")
-        .value_name("PATH")
-        .action(ArgAction::Set)
-        .help("Where to write the frames as a capture file, which Wireshark opens");
-    Command::new(alloc, "frames")
-        .about("Tells the FMMU records of the slaves and the frames of each tick")
-        .arg(cert)?
-        .arg(pcap)?
-        .arg(file_arg(alloc))
-}
-
-/// The command `play`.
-fn play_command<'a>(alloc: Global) -> Result<Command<'a>, AllocError> {
-    let cert = Arg::new(alloc, "cert")
-        .long("cert")
-        .value_name("PATH")
-        .action(ArgAction::Set)
-        .help("The certificate whose plan is played; without it the places in the units are");
-    Command::new(alloc, "play")
-        .about(
-            "Plays a plan through modelled slaves: start-up, and each tick's frames and counters",
-        )
-        .arg(cert)?
-        .arg(file_arg(alloc))
-}
-
-/// All commands.
-fn all_commands<'a>(alloc: Global) -> Result<Command<'a>, AllocError> {
-    Command::new(alloc, "ecplan")
-        .bin_name("ecplan")?
-        .about("Plans the cyclic frames of an EtherCAT line")
-        .version("0.1.0")
-        .after_help(AFTER_HELP)
-        .no_binary_name(true)
-        .subcommand_required(true)
-        .subcommand(cost_command(alloc)?)?
-        .subcommand(plan_command(alloc)?)?
-        .subcommand(resume_command(alloc)?)?
-        .subcommand(check_command(alloc)?)?
-        .subcommand(frames_command(alloc)?)?
-        .subcommand(play_command(alloc)?)
 }
 
 /// A refusal with this text, unless memory ran out.

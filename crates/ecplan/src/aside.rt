@@ -4,7 +4,7 @@ ghost use Rattle.std.specs.Prelude.{◌≡◌};
 
 use crate::guard::{Content, reason_to_keep};
 use crate::telling::tell_reason;
-use ec_lines::Line;
+use ec_command::Line;
 use std::io::{ErrorKind, Write};
 use std::rt::Files;
 use std::{fs, io};

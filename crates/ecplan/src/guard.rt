@@ -1,7 +1,7 @@
 //! Files that are left as they are: the one that standard output goes to, and one that holds something else than what
 //! would be written there.
 
-use ec_lines::Job;
+use ec_command::Job;
 use ec_unit_text::read_units;
 use std::io::Read;
 use std::os::unix::fs::MetadataExt;

@@ -1,7 +1,7 @@
 //! The progress of a search, told on standard error while it runs.
 
 use crossbeam_utils::CachePadded;
-use ec_lines::Job;
+use ec_command::Job;
 use ec_workers::Gate;
 use std::alloc::{AllocError, Global};
 use std::io;

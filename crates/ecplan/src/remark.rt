@@ -2,8 +2,8 @@
 
 use crate::again::cert_at;
 use crate::telling::tell_reason;
+use ec_command::Line;
 use ec_explain::{Inputs, advice, explain};
-use ec_lines::Line;
 use std::alloc::{AllocError, Global};
 use std::io::{ErrorKind, Read};
 use std::path::Path;

@@ -1,6 +1,6 @@
 //! The command line.
 
-use ec_lines::{Job, Line};
+use ec_command::{Job, Line};
 use ec_words::{LineFault, Words, read_words};
 use std::alloc::{AllocError, Global};
 use std::fmt::Write;

@@ -1,7 +1,7 @@
-use Rattle.std.proofs.Common.{ap, ◌∙◌, Ok, Err}
+use Rattle.std.proofs.Common.{ap, ◌∙◌, Err}
 use Rattle.std.proofs.lemmas.Result.{err_from_is_err_and}
 use Rattle.ec_answers.specs.Planned.{Any}
-use Rattle.ec_answers.proofs.PlanLemmas.{plan_told, plan_refused, plan_unlevelled}
+use Rattle.ec_answers.proofs.PlanLemmas.{plan_answered, plan_refused}
 use Rattle.ec_answers.proofs.plan.plan_answer.Goals as goal
 use Rattle.ec_workers.specs.Answers.{asked_for}
 
@@ -10,11 +10,6 @@ returns-in_err-line-clause-told g c = λ units.
     let p = err_from_is_err_and c.from_residual.result c.from_residual.ensures.1 in
     plan_refused _ (asked_for c.args.workers c.args.nodes) c.in_err-line.field-0.0 c.from_residual.result Any (p.1 ∙ ap (λ e. Err e) p.2) (c.in_err-line.ensures.told units) tt
 
-pub returns-in_err-level-clause-told : goal.returns-in_err-level-clause-told
-returns-in_err-level-clause-told g c = λ units.
-    let p = err_from_is_err_and c.from_residual-in_err-level.result c.from_residual-in_err-level.ensures.1 in
-    plan_unlevelled _ (asked_for c.args.workers c.args.nodes) c.in_err-level.field-0.0 c.from_residual-in_err-level.result Any (p.1 ∙ ap (λ e. Err e) p.2) c.in_err-level.ensures.err tt
-
 pub returns-clause-told : goal.returns-clause-told
 returns-clause-told g c = λ units.
-    plan_told _ (asked_for c.args.workers c.args.nodes) c.in_ok-line.line c.in_ok-line.outcome c.in_ok-level.level (Ok c.in_ok-outcome_answer.field-0) Any (c.in_ok-line.ensures.told units) c.in_ok-level.ensures.ok c.in_ok-outcome_answer.ensures tt tt
+    plan_answered _ (asked_for c.args.workers c.args.nodes) c.in_ok-line.line c.in_ok-line.outcome c.told.result (c.in_ok-line.ensures.told units) c.told.ensures.ok c.told.ensures.err

@@ -1,4 +1,4 @@
-use Rattle.ec_lines.specs.declared.job.Job.TheVariants as job
+use Rattle.ec_command.specs.declared.job.Job.TheVariants as job
 use Rattle.ec_jobs.proofs.RunLemmas.{for_cert, tells_more}
 use Rattle.ec_jobs.proofs.job.run_check.Goals as goal
 

@@ -1,8 +1,8 @@
 -- The words of the command line.
 use Rattle.std.specs.Prelude.{◌≡◌, ◌≤◌, String, Option, Some, None}
 use Rattle.std.proofs.Common.{Global}
-use Rattle.ec_lines.specs.declared.job.Job.{Job}
-use Rattle.ec_lines.specs.declared.job.Job.TheVariants as job
+use Rattle.ec_command.specs.declared.job.Job.{Job}
+use Rattle.ec_command.specs.declared.job.Job.TheVariants as job
 
 -- the numbers of a job are within the limits: 1 to 16 workers, and 1 to 10,000,000 nodes
 abbrev pub JobFits : Job → Type 0
