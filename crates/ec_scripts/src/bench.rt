@@ -129,28 +129,42 @@ impl Bench {
         weight_bound(&self.loads, &self.rest, weights.as_slice(), call.number(1)).to_string(alloc)
     }
 
-    /// What a call of the loads or of a bound answers.
-    pub(crate) fn answer(&mut self, alloc: Global, call: &Call<'_>) -> Result<String, AllocError> {
+    /// What a call of a bound answers.
+    fn bounded(&self, alloc: Global, call: &Call<'_>) -> Result<String, AllocError> {
         let value = call.number(1);
         match call.name() {
-            b"place" => self.place(alloc, call),
-            b"remove" => self.remove(alloc, call),
-            b"payload" => self
+            "tick_bound" => format!(in alloc; "{:?}", tick_bound(&self.loads, value)),
+            "full_bound" => format!(in alloc; "{:?}", full_bound(&self.loads)),
+            "average_bound" => average_bound(&self.loads, &self.rest, value).to_string(alloc),
+            "weight_bound" => self.weigh(alloc, call),
+            "demand" => self.rest.demand().to_string(alloc),
+            _ => String::from_str(alloc, "no call"),
+        }
+    }
+
+    /// What a call of the loads answers that leaves them as they are.
+    fn told(&self, alloc: Global, call: &Call<'_>) -> Result<String, AllocError> {
+        match call.name() {
+            "payload" => self
                 .loads
                 .payload(call.count(1), call.small(2))
                 .to_string(alloc),
-            b"cost" => self.loads.cost(call.count(1)).to_string(alloc),
-            b"raw" => self.loads.raw(call.count(1)).to_string(alloc),
-            b"raw_total" => self.loads.raw_total().to_string(alloc),
-            b"steps" => self.steps(call.count(1)).to_string(alloc),
-            b"top" => format!(in alloc; "{:?}", self.loads.top()),
-            b"full" => format!(in alloc; "{:?}", self.loads.full()),
-            b"tick_bound" => format!(in alloc; "{:?}", tick_bound(&self.loads, value)),
-            b"full_bound" => format!(in alloc; "{:?}", full_bound(&self.loads)),
-            b"average_bound" => average_bound(&self.loads, &self.rest, value).to_string(alloc),
-            b"weight_bound" => self.weigh(alloc, call),
-            b"demand" => self.rest.demand().to_string(alloc),
-            _ => String::from_str(alloc, "no call"),
+            "cost" => self.loads.cost(call.count(1)).to_string(alloc),
+            "raw" => self.loads.raw(call.count(1)).to_string(alloc),
+            "raw_total" => self.loads.raw_total().to_string(alloc),
+            "top" => format!(in alloc; "{:?}", self.loads.top()),
+            "full" => format!(in alloc; "{:?}", self.loads.full()),
+            _ => self.bounded(alloc, call),
+        }
+    }
+
+    /// What a call of the loads or of a bound answers.
+    pub(crate) fn answer(&mut self, alloc: Global, call: &Call<'_>) -> Result<String, AllocError> {
+        match call.name() {
+            "place" => self.place(alloc, call),
+            "remove" => self.remove(alloc, call),
+            "steps" => self.steps(call.count(1)).to_string(alloc),
+            _ => self.told(alloc, call),
         }
     }
 }

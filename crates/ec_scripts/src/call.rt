@@ -36,9 +36,9 @@ impl<'a> Call<'a> {
         }
     }
 
-    /// The name, as bytes to match.
-    pub(crate) fn name(&self) -> &'a [u8] {
-        self.word(0).as_bytes()
+    /// The name.
+    pub(crate) fn name(&self) -> &'a str {
+        self.word(0)
     }
 
     /// The number that a word is, if it is one.

@@ -142,14 +142,14 @@ fn made(alloc: Global, call: &Call<'_>) -> Result<Vec<u8>, AllocError> {
     let mut bytes = Vec::new(alloc);
     let count = call.index(1).min(70_000_000);
     match call.name() {
-        b"front" => bytes.extend_from_slice(&EXAMPLE.as_bytes()[..count.min(EXAMPLE.len())])?,
-        b"tab" => {
+        "front" => bytes.extend_from_slice(&EXAMPLE.as_bytes()[..count.min(EXAMPLE.len())])?,
+        "tab" => {
             bytes.extend_from_slice(EXAMPLE.as_bytes())?;
             if count < bytes.len() {
                 bytes[count] = 9;
             }
         }
-        b"twice" => {
+        "twice" => {
             bytes.extend_from_slice(EXAMPLE.as_bytes())?;
             bytes.extend_from_slice(EXAMPLE.as_bytes())?;
         }
@@ -161,12 +161,12 @@ fn made(alloc: Global, call: &Call<'_>) -> Result<Vec<u8>, AllocError> {
 /// A text with so many equal lines.
 fn repeated(alloc: Global, call: &Call<'_>, count: usize) -> Result<Vec<u8>, AllocError> {
     let (head, line, end) = match call.name() {
-        b"splits" => (
+        "splits" => (
             "ecplan 1\nslots 1\nunit a 4 1\norder 0\nvalue none\ntree\n",
             "S 1\n",
             "F 0 0\nend\n",
         ),
-        b"units" => ("ecplan 1\nslots 8\n", "unit a 1486 60\n", ""),
+        "units" => ("ecplan 1\nslots 8\n", "unit a 1486 60\n", ""),
         _ => ("", " ", ""),
     };
     let mut bytes = Vec::new(alloc);
@@ -192,7 +192,7 @@ fn add_splits(text: &mut String, tick: u32) -> Result<(), AllocError> {
 
 /// A certificate of 219,661 nodes: three units of 1 byte every 60 ticks, all placed in each branch, and each leaf
 /// closed by the tick of the first unit; those of the last phase by this tick.
-fn wide(alloc: Global, last: u32) -> Result<String, AllocError> {
+fn wide(alloc: Global, last: u32) -> Result<Vec<u8>, AllocError> {
     let mut text = String::from_str(
         alloc,
         "ecplan 1\nslots 1\nunit a 1 60\nunit b 1 60\nunit c 1 60\norder 0 1 2\nvalue 84\nplace 0 0\nplace 0 0\nplace 0 0\ntree\nS 60\n",
@@ -202,34 +202,35 @@ fn wide(alloc: Global, last: u32) -> Result<String, AllocError> {
     }
     add_splits(&mut text, last)?;
     text.push_str("end\n")?;
-    Ok(text)
+    Ok(text.into_bytes())
+}
+
+/// The text that a call is about.
+fn text_of(alloc: Global, call: &Call<'_>) -> Result<Vec<u8>, AllocError> {
+    match call.name() {
+        "read" | "check" => unbarred(alloc, call.after(1)),
+        "write" | "tower" => unbarred(alloc, call.after(2)),
+        "example" => Vec::from_slice(alloc, EXAMPLE.as_bytes()),
+        "wide" => wide(alloc, call.count(1)),
+        "lines" | "judge" => edited(alloc, call.index(1), call.index(2), call.after(3)),
+        _ => made(alloc, call),
+    }
+}
+
+/// What a call about this text answers.
+fn told(alloc: Global, units: &Units, call: &Call<'_>, text: &[u8]) -> Result<String, AllocError> {
+    match call.name() {
+        "write" | "example" => rewritten(alloc, text, call.index(1)),
+        "check" | "wide" | "judge" => checked(alloc, units, text),
+        "tower" => towered(alloc, units, text, call.index(1)),
+        _ => reading(alloc, text),
+    }
 }
 
 /// What a call about certificates answers: `read TEXT`, `write ROOM TEXT`, `check TEXT`; `lines FIRST LAST TEXT` and
 /// `judge FIRST LAST TEXT` read and check the example with these lines replaced, `example ROOM` writes it; `wide LAST`
 /// checks one of many nodes, `tower SPLITS TEXT` one with so many splits more; any other name reads a text that it makes.
 pub(crate) fn answer(alloc: Global, units: &Units, call: &Call<'_>) -> Result<String, AllocError> {
-    match call.name() {
-        b"read" => reading(alloc, unbarred(alloc, call.after(1))?.as_slice()),
-        b"write" => {
-            let text = unbarred(alloc, call.after(2))?;
-            rewritten(alloc, text.as_slice(), call.index(1))
-        }
-        b"example" => rewritten(alloc, EXAMPLE.as_bytes(), call.index(1)),
-        b"check" => checked(alloc, units, unbarred(alloc, call.after(1))?.as_slice()),
-        b"tower" => {
-            let text = unbarred(alloc, call.after(2))?;
-            towered(alloc, units, text.as_slice(), call.index(1))
-        }
-        b"wide" => checked(alloc, units, wide(alloc, call.count(1))?.as_bytes()),
-        b"lines" => {
-            let text = edited(alloc, call.index(1), call.index(2), call.after(3))?;
-            reading(alloc, text.as_slice())
-        }
-        b"judge" => {
-            let text = edited(alloc, call.index(1), call.index(2), call.after(3))?;
-            checked(alloc, units, text.as_slice())
-        }
-        _ => reading(alloc, made(alloc, call)?.as_slice()),
-    }
+    let text = text_of(alloc, call)?;
+    told(alloc, units, call, text.as_slice())
 }

@@ -3,6 +3,7 @@
 ghost use Rattle.std.specs.Prelude.{◌≡◌, ℕ, ◌<◌, ◌↔◌, IsTrue, IfOk, length};
 ghost use Rattle.ec_loads.specs.Search.{node_count};
 ghost use Rattle.ec_cert.specs.Shapes.{cert_view, shape_of};
+ghost use Rattle.ec_cert.specs.WellFormed.{IsWellFormed};
 ghost use Rattle.ec_symmetry.specs.Orders.{IsOrder};
 ghost use Rattle.ec_book.specs.Books.{IsBookOf};
 ghost use Rattle.ec_workers.specs.Outcomes.{IsPartialCert};
@@ -184,16 +185,13 @@ impl Desk {
 
     /// Begins a book that goes on with a certificate, where the checker shows of it no more than a level; else tells what
     /// the checker answers, and the book stays.
-    fn resume(&mut self, alloc: Global, call: &Call<'_>) -> Result<String, AllocError> {
-        let nodes = call.number(1).unwrap_or(0);
-        let cert = match read_cert(alloc, unbarred(alloc, call.after(2))?.as_slice()) {
-            Ok(cert) => cert,
-            Err(fault) => return format!(in alloc; "{fault:?}"),
-        };
-        match check(alloc, &self.units, &cert) {
+    fn resume_by(&mut self, alloc: Global, cert: &Cert, nodes: u64) -> Result<String, AllocError>
+        requires { IsWellFormed (cert_view cert.now) }
+    {
+        match check(alloc, &self.units, cert) {
             Ok(verdict) => match cert.level {
                 Some(_) => {
-                    let Ok((book, order)) = resumed(alloc, &self.units, &cert, nodes) else {
+                    let Ok((book, order)) = resumed(alloc, &self.units, cert, nodes) else {
                         return String::from_str(alloc, "memory");
                     };
                     self.book = book;
@@ -207,23 +205,33 @@ impl Desk {
         }
     }
 
+    /// The same with the text of a certificate.
+    fn resume(&mut self, alloc: Global, call: &Call<'_>) -> Result<String, AllocError> {
+        let nodes = call.number(1).unwrap_or(0);
+        let text = unbarred(alloc, call.after(2))?;
+        match read_cert(alloc, text.as_slice()) {
+            Ok(cert) => self.resume_by(alloc, &cert, nodes),
+            Err(fault) => format!(in alloc; "{fault:?}"),
+        }
+    }
+
     /// What a call of the book answers.
     pub(crate) fn answer(&mut self, alloc: Global, call: &Call<'_>) -> Result<String, AllocError> {
         match call.name() {
-            b"take" => self.take(alloc, call),
-            b"report" => self.report(alloc, call),
-            b"better" => self.better(alloc, call),
-            b"back" => match call.number(2) {
+            "take" => self.take(alloc, call),
+            "report" => self.report(alloc, call),
+            "better" => self.better(alloc, call),
+            "back" => match call.number(2) {
                 Some(piece) => refusal_text(alloc, self.book.back(call.index(1), piece)),
                 None => String::from_str(alloc, "no piece"),
             },
-            b"counts" => {
+            "counts" => {
                 let steps = self.book.log().len();
                 format!(in alloc; "{} {} {steps}", self.book.spent(), self.book.open_pieces())
             }
-            b"log" => format!(in alloc; "{:?}", self.book.log()),
-            b"finish" => self.finish(alloc),
-            b"resume" => self.resume(alloc, call),
+            "log" => format!(in alloc; "{:?}", self.book.log()),
+            "finish" => self.finish(alloc),
+            "resume" => self.resume(alloc, call),
             _ => String::from_str(alloc, "no call"),
         }
     }

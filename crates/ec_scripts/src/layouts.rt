@@ -148,10 +148,10 @@ fn told(
     requires { HasLayout units.now mapping.now }
 {
     match call.name() {
-        b"groups" => format!(in alloc; "{:?}", mapping.groups.as_slice()),
-        b"records" => records_text(alloc, mapping),
-        b"frames" => frames_text(alloc, units, mapping, call.count(1)),
-        b"wire" => wire_text(alloc, units, mapping),
+        "groups" => format!(in alloc; "{:?}", mapping.groups.as_slice()),
+        "records" => records_text(alloc, mapping),
+        "frames" => frames_text(alloc, units, mapping, call.count(1)),
+        "wire" => wire_text(alloc, units, mapping),
         _ => String::from_str(alloc, "no call"),
     }
 }

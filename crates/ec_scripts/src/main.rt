@@ -22,6 +22,7 @@ use script::Script;
 use std::alloc::{AllocError, Global};
 use std::fmt::Write;
 use std::io;
+use std::str::Lines;
 use std::sync::Wait;
 use std::thread::Threads;
 
@@ -45,6 +46,24 @@ fn tell(
     Ok(())
 }
 
+/// Does the lines of a script, and gives how many there are.
+fn tell_all(
+    rt: &(impl Threads + Wait + Sync),
+    alloc: Global,
+    script: &mut Script,
+    lines: Lines<'_>,
+    out: &mut String,
+) -> Result<u32, AllocError> {
+    let mut count = 0u32;
+    for line in lines {
+        if !line.is_empty() && !line.starts_with('#') {
+            tell(rt, alloc, script, line, out)?;
+            count = count.saturating_add(1);
+        }
+    }
+    Ok(count)
+}
+
 /// Does a script: its first line names its subject, and each other one is a call, is empty, or begins with a number
 /// sign and is a remark.
 fn perform(
@@ -59,14 +78,7 @@ fn perform(
         write!(out, "no script: {head}\n")?;
         return Ok(0);
     };
-    let mut count = 0u32;
-    for line in lines {
-        if !line.is_empty() && !line.starts_with('#') {
-            tell(rt, alloc, &mut script, line, out)?;
-            count = count.saturating_add(1);
-        }
-    }
-    Ok(count)
+    tell_all(rt, alloc, &mut script, lines, out)
 }
 
 /// What there is to tell of all scripts, and how many lines they have.

@@ -2,6 +2,7 @@
 
 ghost use Rattle.std.specs.Prelude.{◌≤◌};
 ghost use Rattle.ec_cert.specs.Shapes.{cert_view};
+ghost use Rattle.ec_cert.specs.WellFormed.{IsWellFormed};
 ghost use Rattle.ec_workers.specs.Answers.{Asked, IsOutcome};
 ghost use Rattle.ec_workers.specs.Outcomes.{IsPartialCert};
 
@@ -36,25 +37,58 @@ fn cert_of(alloc: Global, units: &Units, outcome: Outcome) -> Result<Cert, Alloc
     }
 }
 
+/// What is told of a certificate whose search ended with this text: the text, of a search without a proof with its level
+/// and what the checker answers.
+fn told(alloc: Global, units: &Units, text: &str, cert: &Cert) -> Result<String, AllocError> {
+    match cert.level {
+        Some(level) => {
+            let verdict = check(alloc, units, cert);
+            format!(in alloc; "{text} {level} {verdict:?}")
+        }
+        None => String::from_str(alloc, text),
+    }
+}
+
+/// The same with the certificate, with bars. Where memory ran out over it, that is told.
+fn shown(
+    alloc: Global,
+    units: &Units,
+    text: &str,
+    cert: &Result<Cert, AllocError>,
+) -> Result<(String, String), AllocError> {
+    match cert {
+        Ok(cert) => {
+            let told = told(alloc, units, text, cert)?;
+            Ok((told, written(alloc, cert, usize::MAX)?))
+        }
+        Err(_) => {
+            let told = format!(in alloc; "{text} OutOfMemory")?;
+            Ok((told, String::new(alloc)))
+        }
+    }
+}
+
+/// The same of a text that may be missing for want of memory.
+fn both_shown(
+    alloc: Global,
+    units: &Units,
+    text: &Result<String, AllocError>,
+    cert: &Result<Cert, AllocError>,
+) -> Result<(String, String), AllocError> {
+    match text {
+        Ok(text) => shown(alloc, units, text.as_str(), cert),
+        Err(_) => Err(AllocError),
+    }
+}
+
 /// What a search ended with as a text, of one without a proof its level and what the checker answers of its certificate,
 /// and that certificate, with bars. Where memory ran out over the level or the certificate, that is told.
 fn ended(alloc: Global, units: &Units, outcome: Outcome) -> Result<(String, String), AllocError>
     requires { (asked : Asked) × IsOutcome units.now.units units.now.slots asked outcome }
 {
-    let text = outcome_text(alloc, units, &outcome)?;
-    let Ok(cert) = cert_of(alloc, units, outcome) else {
-        let told = format!(in alloc; "{} OutOfMemory", text.as_str())?;
-        return Ok((told, String::new(alloc)));
-    };
-    let shown = written(alloc, &cert, usize::MAX)?;
-    match cert.level {
-        Some(level) => {
-            let verdict = check(alloc, units, &cert);
-            let told = format!(in alloc; "{} {level} {verdict:?}", text.as_str())?;
-            Ok((told, shown))
-        }
-        None => Ok((text, shown)),
-    }
+    let text = outcome_text(alloc, units, &outcome);
+    let cert = cert_of(alloc, units, outcome);
+    both_shown(alloc, units, &text, &cert)
 }
 
 /// What so many workers find that go on with a certificate, over so many nodes more, and their certificate.
@@ -76,6 +110,27 @@ fn went_on(
     }
 }
 
+/// What so many workers find that go on with a certificate, where the checker shows of it no more than a level; else
+/// what it answers.
+fn judged(
+    rt: &(impl Threads + Wait + Sync),
+    alloc: Global,
+    units: &Units,
+    call: &Call<'_>,
+    cert: &Cert,
+) -> Result<(String, String), AllocError>
+    requires { IsWellFormed (cert_view cert.now) }
+{
+    let told = match check(alloc, units, cert) {
+        Ok(verdict) => match cert.level {
+            Some(_) => return went_on(rt, alloc, units, cert, call.index(1), call.count(2)),
+            None => format!(in alloc; "Ok({verdict:?})")?,
+        },
+        Err(fault) => format!(in alloc; "Err({fault:?})")?,
+    };
+    Ok((told, String::new(alloc)))
+}
+
 /// The same of the text of a certificate, where the checker shows of it no more than a level; else what it answers.
 fn resumed(
     rt: &(impl Threads + Wait + Sync),
@@ -83,17 +138,10 @@ fn resumed(
     units: &Units,
     call: &Call<'_>,
 ) -> Result<(String, String), AllocError> {
-    let none = String::new(alloc);
-    let cert = match read_cert(alloc, unbarred(alloc, call.after(3))?.as_slice()) {
-        Ok(cert) => cert,
-        Err(fault) => return Ok((format!(in alloc; "{fault:?}")?, none)),
-    };
-    match check(alloc, units, &cert) {
-        Ok(verdict) => match cert.level {
-            Some(_) => went_on(rt, alloc, units, &cert, call.index(1), call.count(2)),
-            None => Ok((format!(in alloc; "Ok({verdict:?})")?, none)),
-        },
-        Err(fault) => Ok((format!(in alloc; "Err({fault:?})")?, none)),
+    let text = unbarred(alloc, call.after(3))?;
+    match read_cert(alloc, text.as_slice()) {
+        Ok(cert) => judged(rt, alloc, units, call, &cert),
+        Err(fault) => Ok((format!(in alloc; "{fault:?}")?, String::new(alloc))),
     }
 }
 
@@ -113,6 +161,22 @@ fn cut(
     }
 }
 
+/// What is found.
+fn first(both: Result<(String, String), AllocError>) -> Result<String, AllocError> {
+    match both {
+        Ok((text, _)) => Ok(text),
+        Err(error) => Err(error),
+    }
+}
+
+/// The certificate of it.
+fn second(both: Result<(String, String), AllocError>) -> Result<String, AllocError> {
+    match both {
+        Ok((_, cert)) => Ok(cert),
+        Err(error) => Err(error),
+    }
+}
+
 /// What a search in two parts finds, the second of which goes on with the certificate that the first one wrote.
 fn onward(
     rt: &(impl Threads + Wait + Sync),
@@ -120,7 +184,7 @@ fn onward(
     units: &Units,
     call: &Call<'_>,
 ) -> Result<String, AllocError> {
-    let (_, cert) = cut(rt, alloc, units, call.index(1), call.count(2))?;
+    let cert = second(cut(rt, alloc, units, call.index(1), call.count(2)))?;
     let text = format!(in alloc;
         "resume {} {} {}",
         call.index(1),
@@ -128,7 +192,7 @@ fn onward(
         cert.as_str()
     )?;
     let again = Call::of(alloc, text.as_str())?;
-    Ok(resumed(rt, alloc, units, &again)?.0)
+    first(resumed(rt, alloc, units, &again))
 }
 
 /// What a call about searches that are gone on with answers: `level NODES` what one worker finds, its level and what the
@@ -142,11 +206,11 @@ pub(crate) fn answer(
     call: &Call<'_>,
 ) -> Result<String, AllocError> {
     match call.name() {
-        b"level" => Ok(cut(rt, alloc, units, 1, call.count(1))?.0),
-        b"partial" => Ok(cut(rt, alloc, units, 1, call.count(1))?.1),
-        b"resume" => Ok(resumed(rt, alloc, units, call)?.0),
-        b"resumed" => Ok(resumed(rt, alloc, units, call)?.1),
-        b"onward" => onward(rt, alloc, units, call),
+        "level" => first(cut(rt, alloc, units, 1, call.count(1))),
+        "partial" => second(cut(rt, alloc, units, 1, call.count(1))),
+        "resume" => first(resumed(rt, alloc, units, call)),
+        "resumed" => second(resumed(rt, alloc, units, call)),
+        "onward" => onward(rt, alloc, units, call),
         _ => String::from_str(alloc, "no call"),
     }
 }

@@ -65,33 +65,59 @@ fn order_of(alloc: Global, word: &str) -> Result<Vec<u8>, AllocError> {
     Ok(order)
 }
 
+/// The plan that the children reach from the one of a call, in the order that its first word is, in turned time or not.
+fn renamed_by(alloc: Global, units: &Units, call: &Call<'_>) -> Result<String, AllocError> {
+    let plan = Plan {
+        places: Places::new(call.places(alloc, 2)?),
+    };
+    let order = order_of(alloc, call.word(1))?;
+    renamed(
+        alloc,
+        units,
+        &plan,
+        order.as_slice(),
+        call.name() == "turned",
+    )
+}
+
+/// The places of a unit.
+fn choices_text(alloc: Global, children: Children) -> Result<String, AllocError> {
+    let places = all_of(alloc, children)?;
+    places_text(alloc, places.as_slice())
+}
+
+/// The busiest tick of a plan, where it is legal.
+fn busiest_text(alloc: Global, units: &Units, plan: &Plan) -> Result<String, AllocError> {
+    match is_legal(units, plan) {
+        Ok(()) => format!(in alloc; "{:?}", busiest(units, plan)),
+        Err(_) => String::from_str(alloc, "not legal"),
+    }
+}
+
+/// What a call about this plan answers, or about places.
+fn judged(
+    alloc: Global,
+    units: &Units,
+    plan: &Plan,
+    call: &Call<'_>,
+) -> Result<String, AllocError> {
+    match call.name() {
+        "legal" => format!(in alloc; "{:?}", is_legal(units, plan)),
+        "busiest" => busiest_text(alloc, units, plan),
+        "canonical" | "turned" => renamed_by(alloc, units, call),
+        "used" if plan.places.as_slice().len() <= 48 => {
+            used_slots(plan.places.as_slice()).to_string(alloc)
+        }
+        "choices" => choices_text(alloc, children_of(call)),
+        "count" => counts_text(alloc, children_of(call)),
+        _ => String::from_str(alloc, "no call"),
+    }
+}
+
 /// What a call about plans of these units answers.
 pub(crate) fn answer(alloc: Global, units: &Units, call: &Call<'_>) -> Result<String, AllocError> {
     let plan = Plan {
         places: Places::new(call.places(alloc, 1)?),
     };
-    match call.name() {
-        b"legal" => format!(in alloc; "{:?}", is_legal(units, &plan)),
-        b"busiest" => match is_legal(units, &plan) {
-            Ok(()) => format!(in alloc; "{:?}", busiest(units, &plan)),
-            Err(_) => String::from_str(alloc, "not legal"),
-        },
-        b"canonical" | b"turned" => {
-            let plan = Plan {
-                places: Places::new(call.places(alloc, 2)?),
-            };
-            let order = order_of(alloc, call.word(1))?;
-            let turned = call.word(0) == "turned";
-            renamed(alloc, units, &plan, order.as_slice(), turned)
-        }
-        b"used" if plan.places.as_slice().len() <= 48 => {
-            used_slots(plan.places.as_slice()).to_string(alloc)
-        }
-        b"choices" => {
-            let places = all_of(alloc, children_of(call))?;
-            places_text(alloc, places.as_slice())
-        }
-        b"count" => counts_text(alloc, children_of(call)),
-        _ => String::from_str(alloc, "no call"),
-    }
+    judged(alloc, units, &plan, call)
 }

@@ -35,24 +35,35 @@ impl Script {
     /// The script of this first line: its subject, the slot count, of a book the nodes, and the units.
     pub(crate) fn of(alloc: Global, head: &str) -> Result<Option<Script>, AllocError> {
         let call = Call::of(alloc, head)?;
-        if call.word(0) == "texts" {
-            return Ok(Some(Script::Texts));
+        match call.name() {
+            "texts" => Ok(Some(Script::Texts)),
+            "sweep" => Ok(Some(Script::Sweep(call.small(1)))),
+            "book" => Script::of_line(alloc, &call, 3),
+            _ => Script::of_line(alloc, &call, 2),
         }
-        if call.word(0) == "sweep" {
-            return Ok(Some(Script::Sweep(call.small(1))));
+    }
+
+    /// The script for a line, whose units are the words from this one on.
+    fn of_line(alloc: Global, call: &Call<'_>, from: usize) -> Result<Option<Script>, AllocError> {
+        match line_of(alloc, call.small(1), call.rest(from))? {
+            Some(units) => Script::of_units(alloc, call, units),
+            None => Ok(None),
         }
-        let is_book = call.word(0) == "book";
-        let words = call.rest(if is_book { 3 } else { 2 });
-        let Some(units) = line_of(alloc, call.small(1), words)? else {
-            return Ok(None);
-        };
+    }
+
+    /// The script for these units.
+    fn of_units(
+        alloc: Global,
+        call: &Call<'_>,
+        units: Units,
+    ) -> Result<Option<Script>, AllocError> {
         Ok(match call.name() {
-            b"loads" => Some(Script::Loads(Bench::new(alloc, &units)?)),
-            b"plans" => Some(Script::Plans(units)),
-            b"layouts" => Some(Script::Layouts(units)),
-            b"certs" => Some(Script::Certs(units)),
-            b"search" => Some(Script::Search(units)),
-            b"book" => {
+            "loads" => Some(Script::Loads(Bench::new(alloc, &units)?)),
+            "plans" => Some(Script::Plans(units)),
+            "layouts" => Some(Script::Layouts(units)),
+            "certs" => Some(Script::Certs(units)),
+            "search" => Some(Script::Search(units)),
+            "book" => {
                 let nodes = call.number(2).unwrap_or(0);
                 Some(Script::Book(Desk::new(alloc, units, nodes)?))
             }

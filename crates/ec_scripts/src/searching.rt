@@ -13,7 +13,7 @@ use ec_cert::{Best, Cert};
 use ec_checker::check;
 use ec_loads::{busiest, is_legal};
 use ec_units::Units;
-use ec_workers::{Gate, Outcome, solve};
+use ec_workers::{Gate, Outcome, SolveFault, solve};
 use std::alloc::{AllocError, Global};
 use std::sync::Wait;
 use std::sync::atomic::{AtomicU64, Ordering};
@@ -67,6 +67,31 @@ fn outcome_text(alloc: Global, outcome: &Outcome, whole: bool) -> Result<String,
     }
 }
 
+/// What a search ended with, or why none began.
+fn ended(
+    alloc: Global,
+    found: &Result<Outcome, SolveFault>,
+    whole: bool,
+) -> Result<String, AllocError> {
+    match found {
+        Ok(outcome) => outcome_text(alloc, outcome, whole),
+        Err(fault) => format!(in alloc; "{fault:?}"),
+    }
+}
+
+/// What one worker finds within so many nodes.
+fn found(
+    rt: &(impl Threads + Wait + Sync),
+    alloc: Global,
+    units: &Units,
+    call: &Call<'_>,
+    gate: &Counting,
+) -> Result<String, AllocError> {
+    let nodes = call.count(1).clamp(1, 10_000_000);
+    let found = solve(rt, alloc, units, 1, nodes, gate);
+    ended(alloc, &found, call.word(2) == "whole")
+}
+
 /// What one worker finds within so many nodes, and before how many of them its gate was told, and of how many others
 /// than worker 0 with piece 0.
 fn solved(
@@ -79,11 +104,7 @@ fn solved(
         calls: AtomicU64::new(0),
         others: AtomicU64::new(0),
     };
-    let nodes = call.count(1).clamp(1, 10_000_000);
-    let text = match solve(rt, alloc, units, 1, nodes, &gate) {
-        Ok(outcome) => outcome_text(alloc, &outcome, call.word(2) == "whole")?,
-        Err(fault) => format!(in alloc; "{fault:?}")?,
-    };
+    let text = found(rt, alloc, units, call, &gate)?;
     let calls = gate.calls.load(Ordering::SeqCst);
     let others = gate.others.load(Ordering::SeqCst);
     format!(in alloc; "{} told {calls} {others}", text.as_str())
@@ -97,6 +118,20 @@ fn cert_of(outcome: Outcome) -> Option<Cert> {
     }
 }
 
+/// The text of a certificate, and what the checker answers of it.
+fn shown(
+    alloc: Global,
+    units: &Units,
+    cert: &Option<Cert>,
+) -> Result<(String, String), AllocError> {
+    let Some(cert) = cert else {
+        return Ok((String::new(alloc), String::from_str(alloc, "unproved")?));
+    };
+    let verdict = check(alloc, units, cert);
+    let verdict = format!(in alloc; "{verdict:?}")?;
+    Ok((written(alloc, cert, usize::MAX)?, verdict))
+}
+
 /// The text of the certificate that a search writes, and what the checker answers of it.
 fn certified(
     rt: &(impl Threads + Wait + Sync),
@@ -107,15 +142,50 @@ fn certified(
         calls: AtomicU64::new(0),
         others: AtomicU64::new(0),
     };
-    let Ok(outcome) = solve(rt, alloc, units, 1, 1_000_000, &gate) else {
-        return Ok((String::new(alloc), String::from_str(alloc, "refused")?));
-    };
-    let Some(cert) = cert_of(outcome) else {
-        return Ok((String::new(alloc), String::from_str(alloc, "unproved")?));
-    };
-    let verdict = check(alloc, units, &cert);
-    let verdict = format!(in alloc; "{verdict:?}")?;
-    Ok((written(alloc, &cert, usize::MAX)?, verdict))
+    match solve(rt, alloc, units, 1, 1_000_000, &gate) {
+        Ok(outcome) => {
+            let cert = cert_of(outcome);
+            shown(alloc, units, &cert)
+        }
+        Err(_) => Ok((String::new(alloc), String::from_str(alloc, "refused")?)),
+    }
+}
+
+/// The text of the certificate that a search writes.
+fn cert_text(
+    rt: &(impl Threads + Wait + Sync),
+    alloc: Global,
+    units: &Units,
+) -> Result<String, AllocError> {
+    let (text, _) = certified(rt, alloc, units)?;
+    Ok(text)
+}
+
+/// What the checker answers of it.
+fn verdict_text(
+    rt: &(impl Threads + Wait + Sync),
+    alloc: Global,
+    units: &Units,
+) -> Result<String, AllocError> {
+    let (_, verdict) = certified(rt, alloc, units)?;
+    Ok(verdict)
+}
+
+/// How many lines of that text are this one.
+fn lines_text(
+    rt: &(impl Threads + Wait + Sync),
+    alloc: Global,
+    units: &Units,
+    wanted: &str,
+) -> Result<String, AllocError> {
+    let text = cert_text(rt, alloc, units)?;
+    count_of(text.as_str(), wanted).to_string(alloc)
+}
+
+/// The order in which a search gives units their places.
+fn order_text(alloc: Global, units: &Units) -> Result<String, AllocError> {
+    let order = search_order(alloc, units)?;
+    format!(in alloc; "{order:?}")
 }
 
 /// How many lines of a text, each with a bar behind it, are this one; of no text, how many there are.
@@ -173,22 +243,16 @@ pub(crate) fn answer(
     call: &Call<'_>,
 ) -> Result<String, AllocError> {
     match call.name() {
-        b"order" => {
-            let order = search_order(alloc, units)?;
-            format!(in alloc; "{order:?}")
-        }
-        b"greedy" => greedy_text(alloc, units),
-        b"explore" => explored(alloc, units, call),
-        b"solve" => solved(rt, alloc, units, call),
-        b"crew" => crewed(rt, alloc, units, call),
-        b"again" => crewed_again(rt, alloc, units, call),
-        b"meet" => met(rt, alloc, units, call),
-        b"checked" => Ok(certified(rt, alloc, units)?.1),
-        b"lines" => {
-            let text = certified(rt, alloc, units)?.0;
-            count_of(text.as_str(), call.after(1)).to_string(alloc)
-        }
-        b"certificate" => Ok(certified(rt, alloc, units)?.0),
+        "order" => order_text(alloc, units),
+        "greedy" => greedy_text(alloc, units),
+        "explore" => explored(alloc, units, call),
+        "solve" => solved(rt, alloc, units, call),
+        "crew" => crewed(rt, alloc, units, call),
+        "again" => crewed_again(rt, alloc, units, call),
+        "meet" => met(rt, alloc, units, call),
+        "checked" => verdict_text(rt, alloc, units),
+        "lines" => lines_text(rt, alloc, units, call.after(1)),
+        "certificate" => cert_text(rt, alloc, units),
         _ => onward::answer(rt, alloc, units, call),
     }
 }

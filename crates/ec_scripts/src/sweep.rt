@@ -3,6 +3,7 @@
 use crate::call::Call;
 use crate::crews::{Told, found};
 use crate::samples::line_of;
+use ec_units::Units;
 use std::alloc::{AllocError, Global};
 use std::sync::Wait;
 use std::thread::Threads;
@@ -55,6 +56,21 @@ impl Tally {
     }
 }
 
+/// Searches a line once with each number of workers, and counts what they find.
+fn search_twice(
+    rt: &(impl Threads + Wait + Sync),
+    alloc: Global,
+    units: &Units,
+    wanted: Wanted,
+    tally: &mut Tally,
+) -> Result<(), AllocError> {
+    let gate = Told::new();
+    let one = found(rt, alloc, units, wanted.workers, wanted.nodes, &gate)?;
+    let other = found(rt, alloc, units, wanted.others, wanted.nodes, &gate)?;
+    tally.count(one.as_str(), other.as_str());
+    Ok(())
+}
+
 /// Searches the lines of this unit and each other one.
 fn sweep_beside(
     rt: &(impl Threads + Wait + Sync),
@@ -66,10 +82,7 @@ fn sweep_beside(
     for second in KINDS {
         let words = [first, second];
         if let Some(units) = line_of(alloc, wanted.slots, words.as_slice())? {
-            let gate = Told::new();
-            let one = found(rt, alloc, &units, wanted.workers, wanted.nodes, &gate)?;
-            let other = found(rt, alloc, &units, wanted.others, wanted.nodes, &gate)?;
-            tally.count(one.as_str(), other.as_str());
+            search_twice(rt, alloc, &units, wanted, tally)?;
         }
     }
     Ok(())

@@ -8,24 +8,24 @@ use std::alloc::{AllocError, Global};
 use std::fmt::Write;
 
 /// What stands before and after the text of a call, by its name.
-fn around(name: &[u8]) -> Option<(&'static str, &'static str)> {
+fn around(name: &str) -> Option<(&'static str, &'static str)> {
     match name {
-        b"text" => Some(("", "")),
-        b"top" => Some(("tick_ns = 1000|slots = 1|", "")),
-        b"limits" => Some((
+        "text" => Some(("", "")),
+        "top" => Some(("tick_ns = 1000|slots = 1|", "")),
+        "limits" => Some((
             "",
             "|unit = [{name = \"a\", period = 1, slave = [{station = 1, out_bytes = 4, in_bytes = 0}]}]",
         )),
-        b"unit" => Some(("tick_ns = 1000000|slots = 1|unit = [{", "}]|")),
-        b"placed" => Some((
+        "unit" => Some(("tick_ns = 1000000|slots = 1|unit = [{", "}]|")),
+        "placed" => Some((
             "tick_ns = 1000000|slots = 1|unit = [{",
             "name = \"a\", period = 2, slave = [{station = 1, out_bytes = 4, in_bytes = 0}]}]|",
         )),
-        b"slave" => Some((
+        "slave" => Some((
             "tick_ns = 1000000|slots = 1|unit = [{name = \"a\", period = 1, slave = [{",
             "}]}]|",
         )),
-        b"area" => Some((
+        "area" => Some((
             "tick_ns = 1000000|slots = 1|unit = [{name = \"a\", period = 1, slave = [{station = 1, ",
             "}]}]|",
         )),
@@ -126,7 +126,7 @@ pub(crate) fn answer(alloc: Global, call: &Call<'_>) -> Result<String, AllocErro
         return reading(alloc, text.as_str(), false);
     }
     let whole = call.word(0) == "whole";
-    let Some((front, back)) = around(if whole { b"text".as_slice() } else { name }) else {
+    let Some((front, back)) = around(if whole { "text" } else { name }) else {
         return String::from_str(alloc, "no call");
     };
     let text = lines_of(alloc, front, call.after(1), back)?;
