@@ -6,8 +6,6 @@
 mod command;
 mod laws;
 mod reading;
-#[cfg(test)]
-mod tests;
 mod writing;
 
 pub use command::{

@@ -92,6 +92,3 @@ impl Hyper {
         self.ticks / u32::from(period)
     }
 }
-
-#[cfg(test)]
-mod tests;

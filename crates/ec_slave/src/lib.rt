@@ -10,8 +10,6 @@ mod laws;
 mod logical;
 mod request;
 mod slave;
-#[cfg(test)]
-mod tests;
 
 pub use fmmu::{Direction, Fmmu, Fmmus};
 pub use laws::{mapped_bytes, same_journey, what_passes};

@@ -8,6 +8,3 @@ mod tickets;
 
 pub use bound::{Bound, Reader};
 pub use tickets::Tickets;
-
-#[cfg(test)]
-mod tests;

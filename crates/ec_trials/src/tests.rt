@@ -1,6 +1,11 @@
 //! What no text can say: bytes that aren't text, certificates by hand, and lists that go in and out.
 
+mod frames;
+mod hyper;
 mod placing;
+mod slave;
+mod tickets;
+mod wire;
 
 use ec_cert::{Best, Cert, Order, Tree, UnitLine, UnitLines, Weights, split_of, well_formed};
 use ec_cert_text::{CertFault, one_text_each, read_cert, write_cert};

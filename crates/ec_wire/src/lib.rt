@@ -6,6 +6,3 @@ mod wire;
 
 pub use io::{Io, IoFault, WriteFault};
 pub use wire::{BYTE_NS, LEAST_PAYLOAD, OVERHEAD, fits, frame_raw, frame_wire, ns_of};
-
-#[cfg(test)]
-mod tests;

@@ -1,6 +1,6 @@
 ghost use Rattle.std.specs.Prelude.{◌≡◌};
 
-use super::*;
+use ec_frames::*;
 use std::test::Fail;
 
 /// The table of the standard by hand: code, name, kind of address, reads, writes.

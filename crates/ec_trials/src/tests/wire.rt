@@ -1,6 +1,6 @@
 ghost use Rattle.std.specs.Prelude.{Some};
 
-use super::*;
+use ec_wire::*;
 use std::io;
 use std::io::{ErrorKind, Read, Write};
 use std::test::Fail;

@@ -1,7 +1,7 @@
 //! Frames of a few datagrams at a new slave. The bytes are worked out by hand.
 
-use super::*;
 use ec_frames::Frame;
+use ec_slave::*;
 use std::alloc::{AllocError, Global};
 use std::test::Fail;
 

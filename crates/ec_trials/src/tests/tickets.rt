@@ -1,4 +1,4 @@
-use crate::{Bound, Tickets};
+use ec_tickets::{Bound, Tickets};
 use std::test::Fail;
 
 #[test]

@@ -1,6 +1,6 @@
 ghost use Rattle.std.specs.Prelude.{◌≤◌, All};
 
-use super::*;
+use ec_hyper::*;
 use std::test::Fail;
 
 // The hyperperiod in ticks, or 0 where it is too long.
