@@ -2,9 +2,9 @@
 
 use crate::jobs::{Failed, Told};
 use crate::row::Row;
-use crate::streams::{FailsAt, Slow};
 use ec_command::Job;
 use ec_jobs::{run, run_plain};
+use ec_streams::{FailsAt, Slow};
 use ec_wire::Io;
 use ec_workers::Quiet;
 use std::alloc::Global;
@@ -31,8 +31,14 @@ fn told_of(alloc: Global, held: Vec<u8>, code: u8, units: bool, text: bool) -> T
 
 /// Frames or a play without a runtime.
 pub(crate) fn alone_plain(alloc: Global, row: &Row<'_>) -> Told {
-    let mut units = Io::new(FailsAt::new(row.units, row.calls.units));
-    let mut held = Slow::new(alloc, row.calls.text);
+    let mut units = Io::new(FailsAt {
+        rest: row.units.as_bytes(),
+        calls: row.calls.units,
+    });
+    let mut held = Slow {
+        held: Vec::new(alloc),
+        calls: row.calls.text,
+    };
     let mut text = Io::new(&mut held);
     let none: Option<&mut Io<io::Empty>> = None;
     let nowhere: Option<&mut Io<io::Sink>> = None;
@@ -48,8 +54,14 @@ pub(crate) fn alone_plain(alloc: Global, row: &Row<'_>) -> Told {
 
 /// Frames or a play by the call that does any job.
 pub(crate) fn alone_any(rt: &(impl Threads + Wait + Sync), alloc: Global, row: &Row<'_>) -> Told {
-    let mut units = Io::new(FailsAt::new(row.units, row.calls.units));
-    let mut held = Slow::new(alloc, row.calls.text);
+    let mut units = Io::new(FailsAt {
+        rest: row.units.as_bytes(),
+        calls: row.calls.units,
+    });
+    let mut held = Slow {
+        held: Vec::new(alloc),
+        calls: row.calls.text,
+    };
     let mut text = Io::new(&mut held);
     let none: Option<&mut Io<io::Empty>> = None;
     let nowhere: Option<&mut Io<io::Sink>> = None;

@@ -4,9 +4,9 @@ ghost use Rattle.std.specs.Prelude.{Some, ◌≡◌, ◌≤◌};
 ghost use Rattle.ec_command.specs.Words.{JobFits, IsPlain};
 
 use crate::row::Row;
-use crate::streams::{FailsAt, Slow};
 use ec_command::Job;
 use ec_jobs::{run, run_plain, run_plan_to, run_resume_to};
+use ec_streams::{FailsAt, Slow};
 use ec_wire::Io;
 use ec_workers::Quiet;
 use std::alloc::Global;
@@ -68,9 +68,18 @@ fn plain_job(row: &Row<'_>) -> Job
 
 /// A cost, a check, or the frames or the play of a certificate's plan, without a runtime.
 pub(crate) fn plain(alloc: Global, row: &Row<'_>) -> Told {
-    let mut units = Io::new(FailsAt::new(row.units, row.calls.units));
-    let mut cert = Io::new(FailsAt::new(row.cert, row.calls.cert));
-    let mut held = Slow::new(alloc, row.calls.text);
+    let mut units = Io::new(FailsAt {
+        rest: row.units.as_bytes(),
+        calls: row.calls.units,
+    });
+    let mut cert = Io::new(FailsAt {
+        rest: row.cert.as_bytes(),
+        calls: row.calls.cert,
+    });
+    let mut held = Slow {
+        held: Vec::new(alloc),
+        calls: row.calls.text,
+    };
     let mut text = Io::new(&mut held);
     let nowhere: Option<&mut Io<io::Sink>> = None;
     let job = plain_job(row);
@@ -93,9 +102,18 @@ pub(crate) fn plain(alloc: Global, row: &Row<'_>) -> Told {
 
 /// A plan whose certificate is written.
 pub(crate) fn planned(rt: &(impl Threads + Wait + Sync), alloc: Global, row: &Row<'_>) -> Told {
-    let mut units = Io::new(FailsAt::new(row.units, row.calls.units));
-    let mut held = Slow::new(alloc, row.calls.text);
-    let mut kept = Slow::new(alloc, row.calls.cert);
+    let mut units = Io::new(FailsAt {
+        rest: row.units.as_bytes(),
+        calls: row.calls.units,
+    });
+    let mut held = Slow {
+        held: Vec::new(alloc),
+        calls: row.calls.text,
+    };
+    let mut kept = Slow {
+        held: Vec::new(alloc),
+        calls: row.calls.cert,
+    };
     let mut text = Io::new(&mut held);
     let mut out = Io::new(&mut kept);
     let workers = row.workers.clamp(1, 16);
@@ -122,10 +140,22 @@ pub(crate) fn planned(rt: &(impl Threads + Wait + Sync), alloc: Global, row: &Ro
 
 /// A search that goes on with a certificate, and whose own is written.
 pub(crate) fn resumed(rt: &(impl Threads + Wait + Sync), alloc: Global, row: &Row<'_>) -> Told {
-    let mut units = Io::new(FailsAt::new(row.units, row.calls.units));
-    let mut cert = Io::new(FailsAt::new(row.cert, row.calls.cert));
-    let mut held = Slow::new(alloc, row.calls.text);
-    let mut kept = Slow::new(alloc, row.calls.file);
+    let mut units = Io::new(FailsAt {
+        rest: row.units.as_bytes(),
+        calls: row.calls.units,
+    });
+    let mut cert = Io::new(FailsAt {
+        rest: row.cert.as_bytes(),
+        calls: row.calls.cert,
+    });
+    let mut held = Slow {
+        held: Vec::new(alloc),
+        calls: row.calls.text,
+    };
+    let mut kept = Slow {
+        held: Vec::new(alloc),
+        calls: row.calls.file,
+    };
     let mut text = Io::new(&mut held);
     let mut out = Io::new(&mut kept);
     let workers = row.workers.clamp(1, 16);
@@ -179,9 +209,18 @@ fn job_of(row: &Row<'_>) -> Job
 
 /// The job by the call that does any, and without a writer of a certificate.
 pub(crate) fn any(rt: &(impl Threads + Wait + Sync), alloc: Global, row: &Row<'_>) -> Told {
-    let mut units = Io::new(FailsAt::new(row.units, row.calls.units));
-    let mut cert = Io::new(FailsAt::new(row.cert, row.calls.cert));
-    let mut held = Slow::new(alloc, row.calls.text);
+    let mut units = Io::new(FailsAt {
+        rest: row.units.as_bytes(),
+        calls: row.calls.units,
+    });
+    let mut cert = Io::new(FailsAt {
+        rest: row.cert.as_bytes(),
+        calls: row.calls.cert,
+    });
+    let mut held = Slow {
+        held: Vec::new(alloc),
+        calls: row.calls.text,
+    };
     let mut text = Io::new(&mut held);
     let nowhere: Option<&mut Io<io::Sink>> = None;
     let job = job_of(row);

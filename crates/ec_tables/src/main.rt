@@ -6,7 +6,6 @@ mod answer;
 mod captures;
 mod jobs;
 mod row;
-mod streams;
 
 use answer::answer_to;
 use row::{is_as, row_of};
@@ -55,6 +54,3 @@ fn main(rt: HostRuntime) -> io::Result<()> {
     let out = report(&rt, rt.alloc(), table.as_str())?;
     rt.print(out.as_str())
 }
-
-#[cfg(test)]
-mod tests;

@@ -1,12 +1,12 @@
 //! What a command line says, done with the paths that it names.
 
 use super::words::words_of;
-use crate::streams::Slow;
 use ec_jobs::do_line;
+use ec_streams::Slow;
 use ec_wire::Io;
 use ec_words::read_words;
 use ec_workers::Quiet;
-use std::alloc::Global;
+use std::alloc::{AllocError, Global};
 use std::io::Read;
 use std::rt::Files;
 use std::sync::Wait;
@@ -28,6 +28,9 @@ const CERT: &str =
 /// What a search of four nodes writes: the last leaf is open.
 const CUT_CERT: &str =
     "ecplan 3\nslots 1\nunit a 200 2\nunit b 200 3\norder 0 1\nvalue 464\nplace 0 0\nplace 0 0\nlevel 464\ntree\nS 1\nS 3\nT 0\nT 4\nO\nend\n";
+
+/// How a job ends that is done.
+const DONE: &str = "status 0, 2 reads\n";
 
 const PLACES: &str = "unit a phase 0 slot 0\nunit b phase 0 slot 0\n";
 
@@ -69,7 +72,10 @@ fn said_of<F: Files>(
         rest: line.as_bytes(),
         calls: 0,
     };
-    let mut held = Slow::new(alloc, 999);
+    let mut held = Slow {
+        held: Vec::new(alloc),
+        calls: 999,
+    };
     let mut units = Io::new(&mut bytes);
     let mut text = Io::new(&mut held);
     let status = do_line(
@@ -91,29 +97,58 @@ fn said_of<F: Files>(
     Ok(format!(in alloc; "{text}status {code}, {reads} reads\n")?)
 }
 
+/// Adds the file at a path.
+fn add_file<R: Files + AllocGlobal>(rt: &R, told: &mut String, path: &str) -> Result<(), Fail> {
+    let file = fs::read_to_string(rt, path)?;
+    told.push_str(file.as_str())?;
+    Ok(())
+}
+
+/// Adds what is written for these words, and the file that they leave at a path.
+fn add_both<R: Files + AllocGlobal + Threads + Wait + Sync>(
+    rt: &R,
+    told: &mut String,
+    words: &str,
+    path: &str,
+) -> Result<(), Fail> {
+    let said = said_by(rt, rt, rt.alloc(), words)?;
+    told.push_str(said.as_str())?;
+    add_file(rt, told, path)
+}
+
+/// These texts, one after the other.
+fn joined(alloc: Global, texts: &[&str]) -> Result<String, AllocError> {
+    let mut all = String::new(alloc);
+    for text in texts {
+        all.push_str(text)?;
+    }
+    Ok(all)
+}
+
 #[test]
 fn a_plan_with_a_path(rt: HostRuntime) -> Result<(), Fail> {
     let alloc = rt.alloc();
     let path = "/tmp/ecplan-plan-out.cert";
     let _ = fs::remove_file(&rt, path);
-    let cut = said_by(
-        &rt,
-        &rt,
-        alloc,
-        "plan --nodes 4 --out /tmp/ecplan-plan-out.cert",
-    )?;
-    let cut_cert = fs::read_to_string(&rt, path)?;
-    let whole = said_by(
-        &rt,
-        &rt,
-        alloc,
-        "plan --nodes 5 --out /tmp/ecplan-plan-out.cert",
-    )?;
-    let cert = fs::read_to_string(&rt, path)?;
+    let mut told = String::new(alloc);
+    let cut = "plan --nodes 4 --out /tmp/ecplan-plan-out.cert";
+    add_both(&rt, &mut told, cut, path)?;
+    let whole = "plan --nodes 5 --out /tmp/ecplan-plan-out.cert";
+    add_both(&rt, &mut told, whole, path)?;
     fs::remove_file(&rt, path)?;
-    let told = format!(in alloc; "{cut}{cut_cert}{whole}{cert}")?;
-    let shown = format!(in alloc;
-        "unproved 464\ncut budget\nat least 464\n{PLACES}status 2, 2 reads\n{CUT_CERT}optimal 464\n{PLACES}status 0, 2 reads\n{CERT}"
+    let cut = "unproved 464\ncut budget\nat least 464\n";
+    let shown = joined(
+        alloc,
+        &[
+            cut,
+            PLACES,
+            "status 2, 2 reads\n",
+            CUT_CERT,
+            "optimal 464\n",
+            PLACES,
+            DONE,
+            CERT,
+        ],
     )?;
     assert_eq!(rt; told.as_str(), shown.as_str());
     Ok(())
@@ -127,12 +162,14 @@ fn a_search_that_is_gone_on_with(rt: HostRuntime) -> Result<(), Fail> {
     fs::write(&rt, path, CUT_CERT)?;
     let lines =
         "check --cert /tmp/ecplan-resume-in.cert\nresume --cert /tmp/ecplan-resume-in.cert\nresume --nodes 1 --cert /tmp/ecplan-resume-in.cert --out /tmp/ecplan-resume-in.cert\nresume --cert /tmp/ecplan-resume-in.cert\n";
-    let told = answers_of(&rt, &rt, alloc, lines)?;
-    let cert = fs::read_to_string(&rt, path)?;
+    let mut told = answers_of(&rt, &rt, alloc, lines)?;
+    add_file(&rt, &mut told, path)?;
     fs::remove_file(&rt, path)?;
-    let least = format!(in alloc; "optimal 464\n{PLACES}status 0, 2 reads\n")?;
-    let shown = format!(in alloc; "at least 464\nstatus 2, 2 reads\n{least}{least}{least}{CERT}")?;
-    assert_eq!(rt; format!(in alloc; "{told}{cert}")?.as_str(), shown.as_str());
+    let least = joined(alloc, &["optimal 464\n", PLACES, DONE])?;
+    let least = least.as_str();
+    let level = "at least 464\nstatus 2, 2 reads\n";
+    let shown = joined(alloc, &[level, least, least, least, CERT])?;
+    assert_eq!(rt; told.as_str(), shown.as_str());
     Ok(())
 }
 
@@ -156,10 +193,9 @@ fn a_path_that_cannot_be_opened(rt: HostRuntime) -> Result<(), Fail> {
     let lines =
         "plan --out /tmp/no-such-directory-of-ecplan/c\nplan --nodes 4 --out /tmp/no-such-directory-of-ecplan/c\ncheck --cert /tmp/no-such-directory-of-ecplan/c\nframes --cert /tmp/no-such-directory-of-ecplan/c\nplay --cert /tmp/no-such-directory-of-ecplan/c\ncost --cert /tmp/no-such-directory-of-ecplan/c\nresume --cert /tmp/no-such-directory-of-ecplan/c --out /tmp/no-such-directory-of-ecplan/d\nplay\n";
     let told = answers_of(&rt, &rt, rt.alloc(), lines)?;
-    let shown = format!(in rt.alloc();
-        "refused E4 Write\nstatus 4, 2 reads\nrefused E4 Write\nstatus 4, 2 reads\nrefused E3 Read\nstatus 4, 0 reads\nrefused E3 Read\nstatus 4, 0 reads\nrefused E3 Read\nstatus 4, 0 reads\nrefused E3 Read\nstatus 4, 0 reads\nrefused E3 Read\nstatus 4, 0 reads\nrefused E2 NoPlace 0\nstatus 3, 2 reads\n"
-    )?;
-    assert_eq!(rt; told.as_str(), shown.as_str());
+    let shown =
+        "refused E4 Write\nstatus 4, 2 reads\nrefused E4 Write\nstatus 4, 2 reads\nrefused E3 Read\nstatus 4, 0 reads\nrefused E3 Read\nstatus 4, 0 reads\nrefused E3 Read\nstatus 4, 0 reads\nrefused E3 Read\nstatus 4, 0 reads\nrefused E3 Read\nstatus 4, 0 reads\nrefused E2 NoPlace 0\nstatus 3, 2 reads\n";
+    assert_eq!(rt; told.as_str(), shown);
     Ok(())
 }
 
@@ -179,9 +215,7 @@ fn a_check_a_play_and_a_cost_with_their_path(rt: HostRuntime) -> Result<(), Fail
         "check --cert /tmp/ecplan-check-in.cert\nplay --cert /tmp/ecplan-check-in.cert\ncost --cert /tmp/ecplan-check-in.cert\n";
     let told = answers_of(&rt, &rt, rt.alloc(), lines)?;
     fs::remove_file(&rt, path)?;
-    let shown = format!(in rt.alloc();
-        "least 464\nstatus 0, 2 reads\n{PLAY}status 0, 2 reads\n{COSTS}status 0, 2 reads\n"
-    )?;
+    let shown = joined(rt.alloc(), &["least 464\n", DONE, PLAY, DONE, COSTS, DONE])?;
     assert_eq!(rt; told.as_str(), shown.as_str());
     Ok(())
 }
@@ -203,13 +237,11 @@ fn a_capture_with_its_path(rt: HostRuntime) -> Result<(), Fail> {
         rt.alloc(),
         "frames --cert /tmp/ecplan-capture-in.cert --pcap /tmp/ecplan-capture-out.pcap",
     )?;
-    let file = fs::read(&rt, "/tmp/ecplan-capture-out.pcap")?;
     fs::remove_file(&rt, path)?;
+    let same = told.as_str() == alone.as_str() && told.as_str().ends_with(DONE);
+    let file = fs::read(&rt, "/tmp/ecplan-capture-out.pcap")?;
+    assert_eq!(rt; (same, file.len()), (true, 1212));
     fs::remove_file(&rt, "/tmp/ecplan-capture-out.pcap")?;
-    let same = told.as_str() == alone.as_str() && told.as_str().ends_with("status 0, 2 reads\n");
-    let len = file.len();
-    let shown = format!(in rt.alloc(); "{same} {len}")?;
-    assert_eq!(rt; shown.as_str(), "true 1212");
     Ok(())
 }
 
@@ -233,18 +265,15 @@ fn a_capture_of_own_places_with_its_path(rt: HostRuntime) -> Result<(), Fail> {
     let file = fs::read(&rt, to)?;
     fs::remove_file(&rt, to)?;
     let same = file.as_slice() == wanted.as_slice() && own.as_str() == planned.as_str();
-    let len = file.len();
-    let shown = format!(in rt.alloc(); "{same} {len}")?;
-    assert_eq!(rt; shown.as_str(), "true 1212");
+    assert_eq!(rt; (same, file.len()), (true, 1212));
     Ok(())
 }
 
 #[test]
 fn a_cost_and_a_plan_without_paths(rt: HostRuntime) -> Result<(), Fail> {
     let told = answers_of(&rt, &rt, rt.alloc(), "cost\nplan\n")?;
-    let shown = format!(in rt.alloc();
-        "refused E2 NoPlace 0\nstatus 3, 2 reads\noptimal 464\n{PLACES}status 0, 2 reads\n"
-    )?;
+    let refused = "refused E2 NoPlace 0\nstatus 3, 2 reads\n";
+    let shown = joined(rt.alloc(), &[refused, "optimal 464\n", PLACES, DONE])?;
     assert_eq!(rt; told.as_str(), shown.as_str());
     Ok(())
 }

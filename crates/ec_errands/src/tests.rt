@@ -2,9 +2,9 @@
 
 ghost use Rattle.std.specs.Prelude.{Some};
 
-use crate::streams::Slow;
 use ec_command::Job;
 use ec_jobs::{run, run_plain};
+use ec_streams::Slow;
 use ec_wire::Io;
 use ec_workers::Quiet;
 use std::alloc::Global;
@@ -36,7 +36,10 @@ impl Read for Endless {
 /// What a cost of these bytes writes, before its status.
 fn cost(alloc: Global, bytes: &[u8]) -> Vec<u8> {
     let mut units = Io::new(bytes);
-    let mut held = Slow::new(alloc, 99_999);
+    let mut held = Slow {
+        held: Vec::new(alloc),
+        calls: 99_999,
+    };
     let mut text = Io::new(&mut held);
     let none: Option<&mut Io<io::Empty>> = None;
     let nowhere: Option<&mut Io<io::Sink>> = None;
@@ -87,7 +90,10 @@ fn a_longer_text(rt: HostRuntime) -> Result<(), Fail> {
 fn units_without_end(rt: HostRuntime) {
     let mut endless = Endless { given: 0 };
     let mut units = Io::new(&mut endless);
-    let mut held = Slow::new(rt.alloc(), 99);
+    let mut held = Slow {
+        held: Vec::new(rt.alloc()),
+        calls: 99,
+    };
     let mut text = Io::new(&mut held);
     let none: Option<&mut Io<io::Empty>> = None;
     let nowhere: Option<&mut Io<io::Sink>> = None;
@@ -115,7 +121,10 @@ fn units_without_end(rt: HostRuntime) {
 fn a_certificate_without_end(rt: HostRuntime) {
     let mut units = Io::new(ONE.as_bytes());
     let mut cert = Io::new(Endless { given: 0 });
-    let mut held = Slow::new(rt.alloc(), 99);
+    let mut held = Slow {
+        held: Vec::new(rt.alloc()),
+        calls: 99,
+    };
     let mut text = Io::new(&mut held);
     let nowhere: Option<&mut Io<io::Sink>> = None;
     let from = Some(&mut cert);

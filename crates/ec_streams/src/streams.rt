@@ -1,25 +1,16 @@
-//! Streams that fail at a call, or never end.
+//! Streams that fail at a call.
 
 ghost use Rattle.std.specs.Prelude.{◌≡◌, Some};
 
-use std::alloc::Global;
 use std::io;
 use std::io::{ErrorKind, Read, Write};
 
 /// A reader of these bytes that fails at a call.
 #[derive(Drop)]
-pub(crate) struct FailsAt<'a> {
-    rest: &'a [u8],
-    calls: u32,
-}
-
-impl<'a> FailsAt<'a> {
-    pub(crate) fn new(text: &'a str, calls: u32) -> FailsAt<'a> {
-        FailsAt {
-            rest: text.as_bytes(),
-            calls,
-        }
-    }
+pub struct FailsAt<'a> {
+    pub rest: &'a [u8],
+    /// How many calls succeed.
+    pub calls: u32,
 }
 
 impl<'a> Read for FailsAt<'a> {
@@ -36,18 +27,10 @@ impl<'a> Read for FailsAt<'a> {
 
 /// A writer that takes at most 16 bytes at a time, and fails at a call.
 #[derive(Drop)]
-pub(crate) struct Slow {
+pub struct Slow {
     pub held: Vec<u8>,
+    /// How many calls succeed.
     pub calls: u32,
-}
-
-impl Slow {
-    pub(crate) fn new(alloc: Global, calls: u32) -> Slow {
-        Slow {
-            held: Vec::new(alloc),
-            calls,
-        }
-    }
 }
 
 impl Write for Slow {
