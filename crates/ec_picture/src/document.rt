@@ -5,10 +5,10 @@ use crate::bars::{add_bars, add_busiest};
 use crate::legend::{add_heading, add_legend};
 use crate::scale::{ABOVE, BELOW, HEIGHT, Scale, near_room};
 use crate::sent::{Sent, placed_loads};
+use ec_drafts::Draft;
 use ec_loads::{Loads, Plan};
 use ec_units::Units;
 use std::alloc::{AllocError, Global};
-use std::fmt::Write;
 
 /// The colours, which differ in lightness and not in red and green alone, and the hatching of padding.
 const STYLE: &str = "<style>\
@@ -23,38 +23,34 @@ text{font:120px sans-serif;fill:#222}\
 <path fill=\"#eee\" d=\"M0 0h50v50h-50z\"/><path fill=\"#888\" d=\"M0 0h15v50h-15z\"/></pattern>\n";
 
 /// Adds the begin of the picture: its size, its colours, and a white ground.
-fn open_picture(out: &mut String, scale: &Scale) -> Result<(), AllocError> {
+fn open_picture(page: &mut Draft, scale: &Scale) {
     let width = scale.width();
     let height = ABOVE + HEIGHT + BELOW;
     let (wide, high) = (width / 10, height / 10);
-    out.push_str("<svg xmlns=\"http://www.w3.org/2000/svg\" role=\"img\" ")?;
-    write!(
-        out,
+    page.add("<svg xmlns=\"http://www.w3.org/2000/svg\" role=\"img\" ");
+    page.add(format_args!(
         "width=\"{wide}\" height=\"{high}\" viewBox=\"0 0 {width} {height}\">\n"
-    )?;
-    out.push_str("<title>What each tick costs on the wire</title>\n")?;
-    out.push_str(STYLE)?;
-    write!(
-        out,
-        "<path fill=\"#fff\" d=\"M0 0h{width}v{height}h-{width}z\"/>\n"
-    )
+    ));
+    page.add("<title>What each tick costs on the wire</title>\n");
+    page.add(STYLE);
+    page.add(format_args!("<path fill=\"#fff\" d=\"M0 0h{width}v{height}h-{width}z\"/>\n"));
 }
 
 /// Adds the picture of loads.
-fn draw(out: &mut String, loads: &Loads, sent: Sent<'_>, tick_ns: u32) -> Result<(), AllocError> {
+fn draw(page: &mut Draft, loads: &Loads, sent: Sent<'_>, tick_ns: u32) {
     let room = near_room(loads, tick_ns);
     let (most, _tick) = loads.top();
     let scale = Scale::new(loads.ticks(), most.max(room.unwrap_or(0)));
-    open_picture(out, &scale)?;
-    add_heading(out, loads, tick_ns)?;
-    add_legend(out, loads, tick_ns, room.is_some())?;
-    add_grid(out, &scale)?;
-    add_bars(out, &scale, loads, sent)?;
-    add_room(out, &scale, room)?;
-    add_busiest(out, &scale, loads)?;
-    add_numbers(out, &scale)?;
-    add_names(out, &scale)?;
-    out.push_str("</svg>\n")
+    open_picture(page, &scale);
+    add_heading(page, loads, tick_ns);
+    add_legend(page, loads, tick_ns, room.is_some());
+    add_grid(page, &scale);
+    add_bars(page, &scale, loads, sent);
+    add_room(page, &scale, room);
+    add_busiest(page, &scale, loads);
+    add_numbers(page, &scale);
+    add_names(page, &scale);
+    page.add("</svg>\n");
 }
 
 /// A picture, as an SVG document, of what each tick below the hyperperiod costs on the wire at the places of a plan: a
@@ -68,7 +64,7 @@ pub fn picture(alloc: Global, units: &Units, plan: &Plan) -> Result<String, Allo
         units: units.units.as_slice(),
         places: plan.places.as_slice(),
     };
-    let mut out = String::new(alloc);
-    draw(&mut out, &loads, sent, units.tick_ns)?;
-    Ok(out)
+    let mut page = Draft::new(alloc);
+    draw(&mut page, &loads, sent, units.tick_ns);
+    page.finish()
 }

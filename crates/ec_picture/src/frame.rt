@@ -2,10 +2,9 @@
 
 use crate::label::add_bytes;
 use crate::sent::{At, Sent, add_groups, process_bytes};
+use ec_drafts::Draft;
 use ec_loads::Loads;
 use ec_wire::{frame_raw, frame_wire};
-use std::alloc::AllocError;
-use std::fmt::Write;
 
 /// The bytes of a frame on the wire: headers, check sequence, preamble and gap; process data; padding.
 #[derive(Clone, Copy)]
@@ -40,20 +39,12 @@ pub(crate) fn parts_of(loads: &Loads, sent: Sent<'_>, at: At) -> Option<Parts> {
 }
 
 /// Adds what is told of a frame that the pointer rests on.
-pub(crate) fn add_title(
-    out: &mut String,
-    sent: Sent<'_>,
-    at: At,
-    parts: Parts,
-) -> Result<(), AllocError> {
+pub(crate) fn add_title(page: &mut Draft, sent: Sent<'_>, at: At, parts: Parts) {
     let (tick, slot) = (at.tick, at.slot);
-    write!(out, "<title>tick {tick}, slot {slot}: ")?;
-    add_bytes(out, parts.sum())?;
+    page.add(format_args!("<title>tick {tick}, slot {slot}: "));
+    add_bytes(page, parts.sum());
     let (overhead, process, padding) = (parts.overhead, parts.process, parts.padding);
-    write!(
-        out,
-        "\nprocess data {process}, overhead {overhead}, padding {padding}"
-    )?;
-    add_groups(out, sent, at)?;
-    out.push_str("</title>")
+    page.add(format_args!("\nprocess data {process}, overhead {overhead}, padding {padding}"));
+    add_groups(page, sent, at);
+    page.add("</title>");
 }

@@ -1,11 +1,10 @@
 //! The units at their places, and which of them a frame carries.
 
-use crate::label::add_escaped;
+use ec_drafts::Draft;
 use ec_hyper::Hyper;
 use ec_loads::{Loads, Plan};
 use ec_units::{Place, Unit, Units, bytes_of};
 use std::alloc::{AllocError, Global};
-use std::fmt::Write;
 
 /// Units and their places, both in file order.
 #[derive(Clone, Copy)]
@@ -49,26 +48,19 @@ pub(crate) fn process_bytes(sent: Sent<'_>, at: At) -> u64 {
 }
 
 /// Adds the names of the units of a period and a phase that a frame carries, with their process bytes.
-fn add_names(
-    out: &mut String,
-    sent: Sent<'_>,
-    at: At,
-    period: u16,
-    phase: u16,
-) -> Result<(), AllocError> {
+fn add_names(page: &mut Draft, sent: Sent<'_>, at: At, period: u16, phase: u16) {
     let mut is_first = true;
     for (unit, place) in sent.units.iter().zip(sent.places) {
         if unit.period == period && place.phase == phase && travels(unit, *place, at) {
             let bytes = bytes_of(unit);
             if !is_first {
-                out.push_str(", ")?;
+                page.add(", ");
             }
-            add_escaped(out, unit.name.as_str())?;
-            write!(out, " ({bytes})")?;
+            page.add(unit.name.as_str());
+            page.add(format_args!(" ({bytes})"));
             is_first = false;
         }
     }
-    Ok(())
 }
 
 /// Whether one of the first `count` units travels in a frame with a period and a phase.
@@ -82,15 +74,14 @@ fn is_told(sent: Sent<'_>, at: At, count: usize, period: u16, phase: u16) -> boo
 }
 
 /// Adds a line for each group that a frame carries, in the order of their first units.
-pub(crate) fn add_groups(out: &mut String, sent: Sent<'_>, at: At) -> Result<(), AllocError> {
+pub(crate) fn add_groups(page: &mut Draft, sent: Sent<'_>, at: At) {
     let mut count = 0usize;
     for (unit, place) in sent.units.iter().zip(sent.places) {
         let (period, phase) = (unit.period, place.phase);
         if travels(unit, *place, at) && !is_told(sent, at, count, period, phase) {
-            write!(out, "\nperiod {period}, phase {phase}: ")?;
-            add_names(out, sent, at, period, phase)?;
+            page.add(format_args!("\nperiod {period}, phase {phase}: "));
+            add_names(page, sent, at, period, phase);
         }
         count = count.saturating_add(1);
     }
-    Ok(())
 }

@@ -2,14 +2,13 @@
 
 use crate::harm::Harm;
 use crate::hostile::Hostile;
-use crate::lines::{ONE, TWO, mapping_of, stations_of};
+use crate::lines::{ONE, TWO, line_of};
 use crate::meeting::Meeter;
 use crate::slaves::{Tiring, Wire};
 use ec_frames::FrameFault;
 use ec_play::{PlayFault, Played, play_plain};
 use ec_play_threads::play_threads;
 use ec_slave::{Pass, SlaveBox};
-use ec_unit_text::read_units;
 use std::alloc::{AllocError, Global};
 use std::fmt::Write;
 use std::sync::Wait;
@@ -31,24 +30,18 @@ fn play_by<X: Pass + Send + Drop, R: Threads + Wait + Sync>(
     ticks: u32,
     slaves: Vec<X>,
 ) -> Result<Option<Result<Played<X>, PlayFault>>, AllocError> {
-    let Ok(units) = read_units(alloc, text.as_bytes()) else {
-        return Ok(None);
-    };
-    let Some(mapping) = mapping_of(alloc, &units, phases)? else {
-        return Ok(None);
-    };
-    let count = stations_of(alloc, units.units.as_slice())?.len();
-    if image.len() != mapping.total as usize
-        || ticks > 65536
-        || slaves.len() != count
-        || count > 16
-    {
+    if slaves.len() > 16 {
         return Ok(None);
     }
-    if threads {
-        return Ok(Some(play_threads(rt, alloc, &units, &mapping, image, ticks, slaves)));
+    match line_of(alloc, text, phases, image.len(), ticks, slaves.len())? {
+        Some((units, mapping)) if threads => {
+            Ok(Some(play_threads(rt, alloc, &units, &mapping, image, ticks, slaves)))
+        }
+        Some((units, mapping)) => {
+            Ok(Some(play_plain(alloc, &units, &mapping, image, ticks, slaves)))
+        }
+        None => Ok(None),
     }
-    Ok(Some(play_plain(alloc, &units, &mapping, image, ticks, slaves)))
 }
 
 /// The fault of a play of one tick of one unit through this slave, if it has one.
@@ -185,12 +178,12 @@ fn sixteen_slaves(alloc: Global) -> Result<String, AllocError> {
     Ok(text)
 }
 
-/// Plays them for 20 ticks, slave k with the inputs k and k + 100.
-fn play_sixteen<R: Threads + Wait + Sync>(
+/// Whether a play of them for 20 ticks, slave k with the inputs k and k + 100, is as it should be.
+fn sixteen_right<R: Threads + Wait + Sync>(
     rt: &R,
     alloc: Global,
     threads: bool,
-) -> Result<Option<Played<SlaveBox>>, AllocError> {
+) -> Result<bool, AllocError> {
     let text = sixteen_slaves(alloc)?;
     let mut slaves = Vec::new(alloc);
     for k in 0..16u8 {
@@ -209,8 +202,8 @@ fn play_sixteen<R: Threads + Wait + Sync>(
         20,
         slaves,
     )? {
-        Some(Ok(played)) => Ok(Some(played)),
-        _ => Ok(None),
+        Some(Ok(played)) => Ok(is_right(&played)),
+        _ => Ok(false),
     }
 }
 
@@ -255,39 +248,47 @@ fn is_right(played: &Played<SlaveBox>) -> bool {
 #[test]
 fn sixteen_slaves_by_both_calls(rt: HostRuntime) -> Result<(), Fail> {
     for threads in CALLS.as_slice() {
-        match play_sixteen(&rt, rt.alloc(), *threads)? {
-            Some(played) => assert!(rt; is_right(&played)),
-            None => assert!(rt; false),
-        }
+        assert!(rt; sixteen_right(&rt, rt.alloc(), *threads)?);
     }
     Ok(())
 }
 
+/// Two slaves that wait for each other: the second in its first pass until the first one has begun one, and that in its second until
+/// the second one has begun two.
+fn meeters<'a>(
+    alloc: Global,
+    one: &'a AtomicU64,
+    two: &'a AtomicU64,
+    missed: &'a AtomicU64,
+) -> Result<Vec<Meeter<'a>>, AllocError> {
+    let mut slaves = Vec::new(alloc);
+    for number in 0..2u64 {
+        let is_first = number == 0;
+        slaves.push(Meeter {
+            slave: SlaveBox::new(alloc)?,
+            mine: if is_first { one } else { two },
+            theirs: if is_first { two } else { one },
+            missed,
+            wait_at: 1 - number,
+            wanted: 1 + number,
+        })?;
+    }
+    Ok(slaves)
+}
+
+/// Whether two slaves meet in a play with a thread for each.
+fn have_met<R: Threads + Wait + Sync>(rt: &R, alloc: Global) -> Result<bool, AllocError> {
+    let (one, two, missed) = (AtomicU64::new(0), AtomicU64::new(0), AtomicU64::new(0));
+    let slaves = meeters(alloc, &one, &two, &missed)?;
+    let started = match play_by(rt, alloc, true, TWO, &[0, 1], &[7; 200], 2, slaves)? {
+        Some(Ok(played)) => played.start,
+        _ => 0,
+    };
+    Ok(started == 5 && missed.load(Ordering::SeqCst) == 0)
+}
+
 #[test]
 fn meet(rt: HostRuntime) -> Result<(), Fail> {
-    let alloc = rt.alloc();
-    let (one, two, missed) = (AtomicU64::new(0), AtomicU64::new(0), AtomicU64::new(0));
-    let mut slaves = Vec::new(alloc);
-    slaves.push(Meeter {
-        slave: SlaveBox::new(alloc)?,
-        mine: &one,
-        theirs: &two,
-        missed: &missed,
-        wait_at: 1,
-        wanted: 1,
-    })?;
-    slaves.push(Meeter {
-        slave: SlaveBox::new(alloc)?,
-        mine: &two,
-        theirs: &one,
-        missed: &missed,
-        wait_at: 0,
-        wanted: 2,
-    })?;
-    match play_by(&rt, alloc, true, TWO, &[0, 1], &[7; 200], 2, slaves)? {
-        Some(Ok(played)) => assert_eq!(rt; played.start, 5),
-        _ => assert!(rt; false),
-    }
-    assert_eq!(rt; missed.load(Ordering::SeqCst), 0);
+    assert!(rt; have_met(&rt, rt.alloc())?);
     Ok(())
 }

@@ -1,12 +1,13 @@
 //! Lines of units, as text.
 
-ghost use Rattle.std.specs.Prelude.{◌≡◌, ◌++◌, length, map, IfOk, OnOk};
+ghost use Rattle.std.specs.Prelude.{◌≡◌, ◌≤◌, ◌++◌, length, map, IfOk, OnOk};
 ghost use Rattle.std.specs.Option.{ForSome};
 ghost use Rattle.ec_units.specs.Together.{stations_of as stations_in};
 ghost use Rattle.ec_player.specs.Frames.{HasLayout};
 
 use ec_fmmu::{Mapping, layout};
 use ec_loads::{Places, Plan, is_legal};
+use ec_unit_text::read_units;
 use ec_units::{Place, Slave, Unit, Units};
 use std::alloc::{AllocError, Global};
 
@@ -61,4 +62,30 @@ pub(crate) fn stations_of(alloc: Global, units: &[Unit]) -> Result<Vec<u16>, All
         push_stations(&mut stations, unit.slaves.as_slice())?;
     }
     Ok(stations)
+}
+
+/// The units of a text and their layout at places in slot 0 with these phases, where that plan is legal, and an image of so many
+/// bytes, so many ticks and so many slaves are those of a play of it.
+pub(crate) fn line_of(
+    alloc: Global,
+    text: &str,
+    phases: &[u16],
+    image: usize,
+    ticks: u32,
+    slaves: usize,
+) -> Result<Option<(Units, Mapping)>, AllocError>
+    ensures layout { IfOk result (λ found. ForSome found (λ l. HasLayout l.0 l.1)) }
+    ensures fits { IfOk result (λ found. ForSome found (λ l. (image ≡ l.1.total) × (ticks ≤ 65536) × (slaves ≡ length (stations_in l.0.units)))) }
+{
+    let Ok(units) = read_units(alloc, text.as_bytes()) else {
+        return Ok(None);
+    };
+    let Some(mapping) = mapping_of(alloc, &units, phases)? else {
+        return Ok(None);
+    };
+    let stations = stations_of(alloc, units.units.as_slice())?.len();
+    if image != mapping.total as usize || ticks > 65536 || slaves != stations {
+        return Ok(None);
+    }
+    Ok(Some((units, mapping)))
 }

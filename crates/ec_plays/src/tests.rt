@@ -1,11 +1,10 @@
 //! The worked examples of a play.
 
-use crate::lines::{ONE, TWO, mapping_of, stations_of};
+use crate::lines::{ONE, TWO, line_of};
 use crate::slaves::{Cutter, Eater, Tiring, Wire};
 use ec_frames::{Command, FrameFault, datagrams, parse};
 use ec_play::{PlayFault, Played, play_plain};
 use ec_slave::{Pass, SlaveBox};
-use ec_unit_text::read_units;
 use std::alloc::{AllocError, Global};
 use std::test::Fail;
 
@@ -18,22 +17,40 @@ fn play<X: Pass + Drop>(
     ticks: u32,
     slaves: Vec<X>,
 ) -> Result<Option<Result<Played<X>, PlayFault>>, AllocError> {
-    let Ok(units) = read_units(alloc, text.as_bytes()) else {
-        return Ok(None);
-    };
-    let Some(mapping) = mapping_of(alloc, &units, phases)? else {
-        return Ok(None);
-    };
-    let stations = stations_of(alloc, units.units.as_slice())?;
-    if image.len() != mapping.total as usize || ticks > 65536 || slaves.len() != stations.len() {
-        return Ok(None);
+    match line_of(alloc, text, phases, image.len(), ticks, slaves.len())? {
+        Some((units, mapping)) => {
+            Ok(Some(play_plain(alloc, &units, &mapping, image, ticks, slaves)))
+        }
+        None => Ok(None),
     }
-    Ok(Some(play_plain(alloc, &units, &mapping, image, ticks, slaves)))
 }
 
-#[test]
-fn one_unit(rt: HostRuntime) -> Result<(), Fail> {
-    let alloc = rt.alloc();
+/// Whether a play had so many ticks, in each one frame of so many wire bytes whose one datagram was counted so.
+fn has_rows(played: &Played<SlaveBox>, ticks: usize, bytes: u64, counter: u16) -> bool {
+    let rows = played.ticks.as_slice();
+    for row in rows {
+        if row.frames != 1
+            || row.bytes != bytes
+            || row.counters.as_slice() != [counter].as_slice()
+        {
+            return false;
+        }
+    }
+    rows.len() == ticks
+}
+
+/// Whether a byte of each slave's memory is so after a play.
+fn all_have(played: &Played<SlaveBox>, at: u16, byte: u8) -> bool {
+    for slave in played.slaves.as_slice() {
+        if slave.peek(at) != byte {
+            return false;
+        }
+    }
+    true
+}
+
+/// Whether a play of one unit for a tick is as it should be: outputs AA BB go out, inputs 0A 0B 0C 0D come in.
+fn one_is_right(alloc: Global) -> Result<bool, AllocError> {
     let mut slave = SlaveBox::new(alloc)?;
     slave.poke(8192, 0x0A);
     slave.poke(8193, 0x0B);
@@ -41,131 +58,122 @@ fn one_unit(rt: HostRuntime) -> Result<(), Fail> {
     slave.poke(8195, 0x0D);
     let mut slaves = Vec::new(alloc);
     slaves.push(slave)?;
-    let Some(Ok(played)) = play(alloc, ONE, &[0], &[0xAA, 0xBB, 0, 0, 0, 0], 1, slaves)? else {
-        assert!(rt; false);
-        return Ok(());
-    };
-    assert_eq!(rt; played.start, 3);
-    assert!(rt; played.image.as_slice() == [0xAA, 0xBB, 0x0A, 0x0B, 0x0C, 0x0D].as_slice());
-    let rows = played.ticks.as_slice();
-    assert_eq!(rt; rows.len(), 1);
-    for row in rows {
-        assert_eq!(rt; row.frames, 1);
-        assert_eq!(rt; row.bytes, 84);
-        assert!(rt; row.counters.as_slice() == [3].as_slice());
+    match play(alloc, ONE, &[0], &[0xAA, 0xBB, 0, 0, 0, 0], 1, slaves)? {
+        Some(Ok(played)) => {
+            Ok(
+                played.start == 3
+                    && played.image.as_slice() == [0xAA, 0xBB, 0x0A, 0x0B, 0x0C, 0x0D].as_slice()
+                    && has_rows(&played, 1, 84, 3)
+                    && all_have(&played, 4096, 0xAA)
+                    && all_have(&played, 4097, 0xBB),
+            )
+        }
+        _ => Ok(false),
     }
-    for slave in played.slaves.as_slice() {
-        assert_eq!(rt; slave.peek(4096), 0xAA);
-        assert_eq!(rt; slave.peek(4097), 0xBB);
-    }
+}
+
+#[test]
+fn one_unit(rt: HostRuntime) -> Result<(), Fail> {
+    assert!(rt; one_is_right(rt.alloc())?);
     Ok(())
+}
+
+/// Whether a play of no tick leaves the image but for its inputs, of which none came.
+fn none_is_right(alloc: Global) -> Result<bool, AllocError> {
+    let mut slaves = Vec::new(alloc);
+    slaves.push(SlaveBox::new(alloc)?)?;
+    match play(alloc, ONE, &[0], &[1, 2, 3, 4, 5, 6], 0, slaves)? {
+        Some(Ok(played)) => {
+            Ok(
+                played.image.as_slice() == [1, 2, 0, 0, 0, 0].as_slice()
+                    && played.ticks.as_slice().is_empty(),
+            )
+        }
+        _ => Ok(false),
+    }
 }
 
 #[test]
 fn no_tick(rt: HostRuntime) -> Result<(), Fail> {
-    let alloc = rt.alloc();
+    assert!(rt; none_is_right(rt.alloc())?);
+    Ok(())
+}
+
+/// Whether a play of two units that take turns is as it should be: 100 outputs of 7 go to each.
+fn two_are_right(alloc: Global) -> Result<bool, AllocError> {
     let mut slaves = Vec::new(alloc);
     slaves.push(SlaveBox::new(alloc)?)?;
-    let Some(Ok(played)) = play(alloc, ONE, &[0], &[1, 2, 3, 4, 5, 6], 0, slaves)? else {
-        assert!(rt; false);
-        return Ok(());
-    };
-    // no input came
-    assert!(rt; played.image.as_slice() == [1, 2, 0, 0, 0, 0].as_slice());
-    assert_eq!(rt; played.ticks.as_slice().len(), 0);
-    Ok(())
+    slaves.push(SlaveBox::new(alloc)?)?;
+    match play(alloc, TWO, &[0, 1], &[7; 200], 2, slaves)? {
+        Some(Ok(played)) => {
+            Ok(
+                played.start == 5
+                    && has_rows(&played, 2, 152, 2)
+                    && all_have(&played, 4096, 7)
+                    && all_have(&played, 4195, 7)
+                    && all_have(&played, 4196, 0),
+            )
+        }
+        _ => Ok(false),
+    }
 }
 
 #[test]
 fn two_units(rt: HostRuntime) -> Result<(), Fail> {
-    let alloc = rt.alloc();
-    let mut slaves = Vec::new(alloc);
-    slaves.push(SlaveBox::new(alloc)?)?;
-    slaves.push(SlaveBox::new(alloc)?)?;
-    let Some(Ok(played)) = play(alloc, TWO, &[0, 1], &[7; 200], 2, slaves)? else {
-        assert!(rt; false);
-        return Ok(());
-    };
-    assert_eq!(rt; played.start, 5);
-    let rows = played.ticks.as_slice();
-    assert_eq!(rt; rows.len(), 2);
-    for row in rows {
-        assert_eq!(rt; row.frames, 1);
-        assert_eq!(rt; row.bytes, 152);
-        assert!(rt; row.counters.as_slice() == [2].as_slice());
-    }
-    for slave in played.slaves.as_slice() {
-        assert_eq!(rt; slave.peek(4096), 7);
-        assert_eq!(rt; slave.peek(4195), 7);
-        assert_eq!(rt; slave.peek(4196), 0);
-    }
+    assert!(rt; two_are_right(rt.alloc())?);
     Ok(())
+}
+
+/// The fault of a play of one tick of one unit through this slave, if it has one.
+fn fault_of<X: Pass + Drop>(alloc: Global, slave: X) -> Result<Option<PlayFault>, AllocError> {
+    let mut slaves = Vec::new(alloc);
+    slaves.push(slave)?;
+    match play(alloc, ONE, &[0], &[0; 6], 1, slaves)? {
+        Some(Ok(_)) => Ok(None),
+        Some(Err(fault)) => Ok(Some(fault)),
+        None => Ok(Some(PlayFault::OutOfMemory)),
+    }
 }
 
 #[test]
 fn nothing_counted(rt: HostRuntime) -> Result<(), Fail> {
-    let alloc = rt.alloc();
-    let mut slaves = Vec::new(alloc);
-    slaves.push(Wire { number: 0 })?;
-    match play(alloc, ONE, &[0], &[0; 6], 1, slaves)? {
-        Some(Err(fault)) => assert!(rt;
-            fault
-                == PlayFault::StartCounter {
-                    frame: 0,
-                    want: 1,
-                    got: 0
-                }
-        ),
-        _ => assert!(rt; false),
-    }
+    let wanted = PlayFault::StartCounter {
+        frame: 0,
+        want: 1,
+        got: 0,
+    };
+    assert!(rt; fault_of(rt.alloc(), Wire { number: 0 })? == Some(wanted));
     Ok(())
 }
 
 #[test]
 fn tired_after_three_frames(rt: HostRuntime) -> Result<(), Fail> {
-    let alloc = rt.alloc();
-    let mut slaves = Vec::new(alloc);
-    slaves.push(Tiring {
-        slave: SlaveBox::new(alloc)?,
+    let tired = Tiring {
+        slave: SlaveBox::new(rt.alloc())?,
         left: 3,
-    })?;
-    match play(alloc, ONE, &[0], &[0; 6], 1, slaves)? {
-        Some(Err(fault)) => assert!(rt;
-            fault
-                == PlayFault::Counter {
-                    tick: 0,
-                    slot: 0,
-                    datagram: 0,
-                    want: 3,
-                    got: 0
-                }
-        ),
-        _ => assert!(rt; false),
-    }
+    };
+    let wanted = PlayFault::Counter {
+        tick: 0,
+        slot: 0,
+        datagram: 0,
+        want: 3,
+        got: 0,
+    };
+    assert!(rt; fault_of(rt.alloc(), tired)? == Some(wanted));
     Ok(())
 }
 
 #[test]
 fn nothing_comes_back(rt: HostRuntime) -> Result<(), Fail> {
-    let alloc = rt.alloc();
-    let mut slaves = Vec::new(alloc);
-    slaves.push(Eater { number: 0 })?;
-    match play(alloc, ONE, &[0], &[0; 6], 1, slaves)? {
-        Some(Err(fault)) => assert!(rt; fault == PlayFault::Frame(FrameFault::Short)),
-        _ => assert!(rt; false),
-    }
+    let wanted = PlayFault::Frame(FrameFault::Short);
+    assert!(rt; fault_of(rt.alloc(), Eater { number: 0 })? == Some(wanted));
     Ok(())
 }
 
 #[test]
 fn a_byte_is_cut_off(rt: HostRuntime) -> Result<(), Fail> {
-    let alloc = rt.alloc();
-    let mut slaves = Vec::new(alloc);
-    slaves.push(Cutter { number: 0 })?;
-    match play(alloc, ONE, &[0], &[0; 6], 1, slaves)? {
-        Some(Err(fault)) => assert!(rt; fault == PlayFault::Reply { frame: 0 }),
-        _ => assert!(rt; false),
-    }
+    let wanted = PlayFault::Reply { frame: 0 };
+    assert!(rt; fault_of(rt.alloc(), Cutter { number: 0 })? == Some(wanted));
     Ok(())
 }
 
@@ -176,16 +184,25 @@ const SIX_BYTES: [u8; 60] = [
     0, 0, 0, 0, 0, 0, 0, 0, 0, 0, 0, 0, 0, 0, 0, 0, 0, 0, 0, 0, 0, 0,
 ];
 
+/// Whether the frame has one datagram, and that the fields that it should have.
+fn has_six_bytes(frame: &[u8]) -> bool {
+    let Ok(parsed) = parse(frame) else {
+        return false;
+    };
+    let mut views = datagrams(&parsed);
+    let Some(view) = views.next() else {
+        return false;
+    };
+    views.next().is_none()
+        && view.command == Command::Lrw
+        && view.address == 0x0001_0000
+        && (view.index, view.event, view.counter) == (0, 0, 0)
+        && !view.circulating
+        && view.bytes == [0, 0, 0, 0, 0, 0].as_slice()
+}
+
 #[test]
 fn fields_of_a_frame_of_six_bytes(rt: HostRuntime) -> Result<(), Fail> {
-    let parsed = parse(&SIX_BYTES)?;
-    let mut views = datagrams(&parsed);
-    let view = views.next().ok_or("a datagram")?;
-    assert!(rt; views.next().is_none());
-    assert_eq!(rt; view.command, Command::Lrw);
-    assert_eq!(rt; view.address, 0x0001_0000);
-    assert_eq!(rt; (view.index, view.event, view.counter), (0, 0, 0));
-    assert!(rt; !view.circulating);
-    assert_eq!(rt; view.bytes, [0, 0, 0, 0, 0, 0].as_slice());
+    assert!(rt; has_six_bytes(SIX_BYTES.as_slice()));
     Ok(())
 }

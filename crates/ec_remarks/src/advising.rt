@@ -1,8 +1,8 @@
 //! What would help where a search ended without a proof, and what it has proved.
 
 use crate::quoted::add_quoted;
+use ec_drafts::Draft;
 use std::alloc::{AllocError, Global};
-use std::fmt::Write;
 
 /// What the first lines of a search without a proof say: the value of its plan or `none`, why it was cut short, and the
 /// level that it has proved, if that is told.
@@ -38,23 +38,22 @@ impl<'a> Unproved<'a> {
 }
 
 /// Adds what the level says of each plan.
-fn add_level(out: &mut String, found: Unproved<'_>) -> Result<(), AllocError> {
+fn add_level(out: &mut Draft, found: Unproved<'_>) {
     let Some(level) = found.level else {
-        return Ok(());
+        return;
     };
     if found.has_no_plan() {
-        return write!(
-            out,
+        return out.add(format_args!(
             "If there is a plan, its busiest tick costs at least {level} bytes.\n"
-        );
+        ));
     }
-    write!(out, "No plan's busiest tick costs less than {level} bytes")?;
+    out.add(format_args!("No plan's busiest tick costs less than {level} bytes"));
     if found.is_best() {
-        return out.push_str(
+        return out.add(
             ", so none is better.\nIt is not told as optimal, since its search is not closed.\n",
         );
     }
-    out.push_str(".\n")
+    out.add(".\n");
 }
 
 /// What would help where a search was cut short before it found a plan.
@@ -103,14 +102,14 @@ fn help_for(found: Unproved<'_>) -> &'static str {
 }
 
 /// Adds how the search is gone on with, by the path of its certificate.
-fn add_resume(out: &mut String, out_path: Option<&str>) -> Result<(), AllocError> {
+fn add_resume(out: &mut Draft, out_path: Option<&str>) {
     match out_path {
         Some(path) => {
-            out.push_str("The command resume --cert ")?;
-            add_quoted(out, path.as_bytes())?;
-            out.push_str(" goes on with this search, and counts new nodes alone.\n")
+            out.add("The command resume --cert ");
+            add_quoted(out, path.as_bytes());
+            out.add(" goes on with this search, and counts new nodes alone.\n");
         }
-        None => out.push_str(
+        None => out.add(
             "With --out PATH its certificate is written, and the command resume --cert PATH goes on with that.\n",
         ),
     }
@@ -121,17 +120,17 @@ fn add_resume(out: &mut String, out_path: Option<&str>) -> Result<(), AllocError
 /// path is that to which its certificate was written. Of any other text nothing. Only want of memory is an error (own
 /// profile).
 pub fn counsel(alloc: Global, text: &str, out_path: Option<&str>) -> Result<String, AllocError> {
-    let mut out = String::new(alloc);
+    let mut out = Draft::new(alloc);
     let Some(found) = what_ended(text) else {
-        return Ok(out);
+        return out.finish();
     };
     if !found.has_no_plan() {
-        out.push_str("The plan is legal and can be used as it stands.\n")?;
+        out.add("The plan is legal and can be used as it stands.\n");
     }
-    add_level(&mut out, found)?;
-    out.push_str(help_for(found))?;
+    add_level(&mut out, found);
+    out.add(help_for(found));
     if found.level.is_some() {
-        add_resume(&mut out, out_path)?;
+        add_resume(&mut out, out_path);
     }
-    Ok(out)
+    out.finish()
 }

@@ -3,9 +3,8 @@
 use crate::inputs::{Doc, number_in};
 use crate::label::{add_in, table_of};
 use crate::refused::Refused;
+use ec_drafts::Draft;
 use ec_unit_text::Key;
-use std::alloc::AllocError;
-use std::fmt::Write;
 use toml::Table;
 
 /// An area: where it begins, and its bytes.
@@ -29,61 +28,52 @@ fn area_of(slave: Option<&Table>, at: Key, default: i64, bytes: Key) -> Area {
 }
 
 /// Adds what is wrong with one area, and says whether something is.
-fn add_fault(out: &mut String, key: &str, area: Area) -> Result<bool, AllocError> {
+fn add_fault(out: &mut Draft, key: &str, area: Area) -> bool {
     let at = area.at;
     let bytes = area.bytes;
     if at < 4096 {
-        write!(
-            out,
-            "{key} = {at} is below 4096, where the process data begin.\n"
-        )?;
-        return Ok(true);
+        out.add(format_args!("{key} = {at} is below 4096, where the process data begin.\n"));
+        return true;
     }
     if at > 65535 {
-        write!(out, "{key} = {at} is above 65535, the last address.\n")?;
-        return Ok(true);
+        out.add(format_args!("{key} = {at} is above 65535, the last address.\n"));
+        return true;
     }
     if end_of(area) > 65536 {
-        write!(
-            out,
+        out.add(format_args!(
             "{key} = {at} with {bytes} bytes ends above 65535, the last address.\n"
-        )?;
-        return Ok(true);
+        ));
+        return true;
     }
-    Ok(false)
+    false
 }
 
 /// Adds that two areas overlap, and where each lies.
-fn add_overlap(out: &mut String, outputs: Area, inputs: Area) -> Result<(), AllocError> {
+fn add_overlap(out: &mut Draft, outputs: Area, inputs: Area) {
     if outputs.bytes <= 0 || inputs.bytes <= 0 {
-        return Ok(());
+        return;
     }
     let (out_at, in_at) = (outputs.at, inputs.at);
     let out_last = end_of(outputs).saturating_sub(1);
     let in_last = end_of(inputs).saturating_sub(1);
-    write!(out, "The two overlap: outputs at {out_at} to {out_last}")?;
-    write!(out, ", inputs at {in_at} to {in_last}.\n")
+    out.add(format_args!("The two overlap: outputs at {out_at} to {out_last}"));
+    out.add(format_args!(", inputs at {in_at} to {in_last}.\n"));
 }
 
 /// Tells which cause an area has to be refused.
-pub(crate) fn tell_area(
-    out: &mut String,
-    doc: Doc<'_>,
-    refused: Refused<'_>,
-) -> Result<(), AllocError> {
+pub(crate) fn tell_area(out: &mut Draft, doc: Doc<'_>, refused: Refused<'_>) {
     let place = refused.place();
     let slave = table_of(doc, place);
     let outputs = area_of(slave, Key::Area(false), 4096, Key::OutBytes);
     let inputs = area_of(slave, Key::Area(true), 8192, Key::InBytes);
-    add_in(out, doc, place)?;
-    out.push_str("its outputs or its inputs lie wrong in its memory.\n")?;
+    add_in(out, doc, place);
+    out.add("its outputs or its inputs lie wrong in its memory.\n");
     if slave.is_none() {
-        return Ok(());
+        return;
     }
-    let first = add_fault(out, "out_at", outputs)?;
-    let second = add_fault(out, "in_at", inputs)?;
+    let first = add_fault(out, "out_at", outputs);
+    let second = add_fault(out, "in_at", inputs);
     if !first && !second {
-        add_overlap(out, outputs, inputs)?;
+        add_overlap(out, outputs, inputs);
     }
-    Ok(())
 }

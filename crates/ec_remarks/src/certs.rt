@@ -5,32 +5,31 @@ use crate::inputs::Inputs;
 use crate::quoted::{add_bytes, add_quoted};
 use crate::refused::Refused;
 use crate::syntax::line_at;
-use std::alloc::AllocError;
-use std::fmt::Write;
+use ec_drafts::Draft;
 
 /// Adds the certificate with its path.
-pub(crate) fn add_cert(out: &mut String, inputs: &Inputs<'_>) -> Result<(), AllocError> {
-    out.push_str("The certificate")?;
+pub(crate) fn add_cert(out: &mut Draft, inputs: &Inputs<'_>) {
+    out.add("The certificate");
     match inputs.cert_path {
         Some(path) => {
-            out.push(' ')?;
-            add_quoted(out, path.as_bytes())
+            out.add(' ');
+            add_quoted(out, path.as_bytes());
         }
-        None => Ok(()),
+        None => {}
     }
 }
 
 /// Adds a line of a certificate, from 0, as it stands.
-pub(crate) fn add_line_text(out: &mut String, cert: &[u8], line: usize) -> Result<(), AllocError> {
+pub(crate) fn add_line_text(out: &mut Draft, cert: &[u8], line: usize) {
     let Some(bytes) = line_at(cert, line) else {
-        return Ok(());
+        return;
     };
     if bytes.is_empty() {
-        return out.push_str("    (an empty line, or the end of the text)\n");
+        return out.add("    (an empty line, or the end of the text)\n");
     }
-    out.push_str("    ")?;
-    add_bytes(out, bytes, 120)?;
-    out.push('\n')
+    out.add("    ");
+    add_bytes(out, bytes, 120);
+    out.add('\n');
 }
 
 /// The first word of a line of a certificate, from 0.
@@ -57,15 +56,15 @@ fn version_note(cert: &str, due: Due, kind: &str) -> &'static str {
 }
 
 /// Adds what is due at a line, from 0.
-fn add_due(out: &mut String, cert: &[u8], line: usize) -> Result<(), AllocError> {
+fn add_due(out: &mut Draft, cert: &[u8], line: usize) {
     let Ok(text) = std::str::from_utf8(cert) else {
-        return Ok(());
+        return;
     };
     let due = due_at(text, line);
-    out.push_str("Due there: ")?;
-    out.push_str(due.as_str())?;
-    out.push_str(".\n")?;
-    out.push_str(version_note(text, due, kind_of(text, line)))
+    out.add("Due there: ");
+    out.add(due.as_str());
+    out.add(".\n");
+    out.add(version_note(text, due, kind_of(text, line)));
 }
 
 /// Whether a byte may stand in a certificate.
@@ -74,21 +73,18 @@ fn is_text(byte: u8) -> bool {
 }
 
 /// Adds the first byte that may not stand in a certificate, with its line and column.
-fn add_stranger(out: &mut String, cert: &[u8]) -> Result<(), AllocError> {
+fn add_stranger(out: &mut Draft, cert: &[u8]) {
     let mut line = 1usize;
     let mut column = 1usize;
     for byte in cert {
         if !is_text(*byte) {
-            write!(
-                out,
-                "Line {line}, column {column} has the byte {byte:02x}.\n"
-            )?;
+            out.add(format_args!("Line {line}, column {column} has the byte {byte:02x}.\n"));
             return match *byte {
-                b'\r' => out.push_str(
+                b'\r' => out.add(
                     "It is a carriage return: each line ends with a line feed alone. Was the file changed by an editor?\n",
                 ),
-                b'\t' => out.push_str("It is a tabulator: words are separated by one space.\n"),
-                _ => Ok(()),
+                b'\t' => out.add("It is a tabulator: words are separated by one space.\n"),
+                _ => {}
             };
         }
         if *byte == b'\n' {
@@ -98,39 +94,36 @@ fn add_stranger(out: &mut String, cert: &[u8]) -> Result<(), AllocError> {
             column = column.saturating_add(1);
         }
     }
-    Ok(())
 }
 
 /// Tells a byte that may not stand in a certificate.
-pub(crate) fn tell_bytes(out: &mut String, inputs: &Inputs<'_>) -> Result<(), AllocError> {
-    add_cert(out, inputs)?;
-    out.push_str(" is not plain text.\n")?;
+pub(crate) fn tell_bytes(out: &mut Draft, inputs: &Inputs<'_>) {
+    add_cert(out, inputs);
+    out.add(" is not plain text.\n");
     match inputs.cert {
         Some(cert) => add_stranger(out, cert),
-        None => Ok(()),
+        None => {}
     }
 }
 
 /// Tells that a text doesn't begin as a certificate.
-pub(crate) fn tell_version(out: &mut String, inputs: &Inputs<'_>) -> Result<(), AllocError> {
-    add_cert(out, inputs)?;
-    out.push_str(
-        " does not begin with a line ecplan 1, ecplan 2 or ecplan 3, as each certificate does",
-    )?;
+pub(crate) fn tell_version(out: &mut Draft, inputs: &Inputs<'_>) {
+    add_cert(out, inputs);
+    out.add(" does not begin with a line ecplan 1, ecplan 2 or ecplan 3, as each certificate does");
     let Some(cert) = inputs.cert else {
-        return out.push_str(".\n");
+        return out.add(".\n");
     };
     if cert.is_empty() {
-        return out.push_str(": it is empty.\n");
+        return out.add(": it is empty.\n");
     }
-    out.push_str(". It begins:\n")?;
-    add_line_text(out, cert, 0)
+    out.add(". It begins:\n");
+    add_line_text(out, cert, 0);
 }
 
 /// Tells that a certificate is too large.
-pub(crate) fn tell_large(out: &mut String, inputs: &Inputs<'_>) -> Result<(), AllocError> {
-    add_cert(out, inputs)?;
-    out.push_str(" is too large: at most 67108864 bytes are read.\n")
+pub(crate) fn tell_large(out: &mut Draft, inputs: &Inputs<'_>) {
+    add_cert(out, inputs);
+    out.add(" is too large: at most 67108864 bytes are read.\n");
 }
 
 /// What is wrong with a line.
@@ -146,35 +139,31 @@ fn fault_of(code: &str) -> &'static str {
 }
 
 /// Adds what a line should be, by the fault.
-fn add_wanted(out: &mut String, cert: &[u8], code: &str, line: usize) -> Result<(), AllocError> {
+fn add_wanted(out: &mut Draft, cert: &[u8], code: &str, line: usize) {
     match code {
         "C4" | "C5" => add_due(out, cert, line),
         "C6" => {
-            add_due(out, cert, line)?;
-            out.push_str("Was the file cut off? Each line ends with a line feed, also the last.\n")
+            add_due(out, cert, line);
+            out.add("Was the file cut off? Each line ends with a line feed, also the last.\n");
         }
-        "C7" => out.push_str("The last line is end, behind the tree, and nothing follows it.\n"),
-        _ => Ok(()),
+        "C7" => out.add("The last line is end, behind the tree, and nothing follows it.\n"),
+        _ => {}
     }
 }
 
 /// Tells the line at fault, its text, and what was due.
-pub(crate) fn tell_line(
-    out: &mut String,
-    inputs: &Inputs<'_>,
-    refused: Refused<'_>,
-) -> Result<(), AllocError> {
+pub(crate) fn tell_line(out: &mut Draft, inputs: &Inputs<'_>, refused: Refused<'_>) {
     let number = refused.number(3).unwrap_or(0);
-    add_cert(out, inputs)?;
-    write!(out, ": line {number} ")?;
-    out.push_str(fault_of(refused.code()))?;
-    out.push_str(".\n")?;
+    add_cert(out, inputs);
+    out.add(format_args!(": line {number} "));
+    out.add(fault_of(refused.code()));
+    out.add(".\n");
     let Some(cert) = inputs.cert else {
-        return Ok(());
+        return;
     };
     if number == 0 {
-        return Ok(());
+        return;
     }
-    add_line_text(out, cert, number - 1)?;
-    add_wanted(out, cert, refused.code(), number - 1)
+    add_line_text(out, cert, number - 1);
+    add_wanted(out, cert, refused.code(), number - 1);
 }

@@ -8,23 +8,18 @@ use crate::leaves::add_leaf_fault;
 use crate::others::add_differences;
 use crate::places::add_full;
 use crate::refused::Refused;
-use std::alloc::AllocError;
-use std::fmt::Write;
+use ec_drafts::Draft;
 
 /// Tells that a certificate is of other units, and what differs.
-pub(crate) fn tell_others(
-    out: &mut String,
-    inputs: &Inputs<'_>,
-    doc: Doc<'_>,
-) -> Result<(), AllocError> {
-    add_cert(out, inputs)?;
-    out.push_str(" is not for these units.\n")?;
+pub(crate) fn tell_others(out: &mut Draft, inputs: &Inputs<'_>, doc: Doc<'_>) {
+    add_cert(out, inputs);
+    out.add(" is not for these units.\n");
     if let Some(cert) = inputs.cert {
         if doc.top.is_some() {
-            add_differences(out, doc, cert)?;
+            add_differences(out, doc, cert);
         }
     }
-    out.push_str("Have plan make a new one, or give the units that it was made for.\n")
+    out.add("Have plan make a new one, or give the units that it was made for.\n");
 }
 
 /// The line, from 0, of the order of a certificate.
@@ -36,94 +31,75 @@ fn order_line(cert: &[u8]) -> usize {
 }
 
 /// Tells that the order of a certificate doesn't name each unit once.
-pub(crate) fn tell_order(out: &mut String, inputs: &Inputs<'_>) -> Result<(), AllocError> {
-    add_cert(out, inputs)?;
-    out.push_str(" does not name each unit once in its line order.\n")?;
+pub(crate) fn tell_order(out: &mut Draft, inputs: &Inputs<'_>) {
+    add_cert(out, inputs);
+    out.add(" does not name each unit once in its line order.\n");
     match inputs.cert {
         Some(cert) => add_line_text(out, cert, order_line(cert)),
-        None => Ok(()),
+        None => {}
     }
 }
 
 /// Adds what is wrong with the plan of a certificate.
-fn add_plan_fault(out: &mut String, doc: Doc<'_>, refused: Refused<'_>) -> Result<(), AllocError> {
+fn add_plan_fault(out: &mut Draft, doc: Doc<'_>, refused: Refused<'_>) {
     match refused.word(3) {
-        "I1" => out.push_str("It has not one place for each unit.\n"),
+        "I1" => out.add("It has not one place for each unit.\n"),
         "I2" => {
-            out.push_str("The phase that it gives is not below the period: ")?;
-            add_unit(out, doc, refused.number(5).unwrap_or(0))?;
-            out.push_str(".\n")
+            out.add("The phase that it gives is not below the period: ");
+            add_unit(out, doc, refused.number(5).unwrap_or(0));
+            out.add(".\n");
         }
         "I3" => {
-            out.push_str("The slot that it gives is not one of the slots of the file: ")?;
-            add_unit(out, doc, refused.number(5).unwrap_or(0))?;
-            out.push_str(".\n")
+            out.add("The slot that it gives is not one of the slots of the file: ");
+            add_unit(out, doc, refused.number(5).unwrap_or(0));
+            out.add(".\n");
         }
         "I4" => add_full(out, refused, 5),
-        _ => Ok(()),
+        _ => {}
     }
 }
 
 /// Tells that the plan of a certificate isn't legal.
-pub(crate) fn tell_plan(
-    out: &mut String,
-    inputs: &Inputs<'_>,
-    doc: Doc<'_>,
-    refused: Refused<'_>,
-) -> Result<(), AllocError> {
-    add_cert(out, inputs)?;
-    out.push_str(" has a plan that is not legal.\n")?;
-    add_plan_fault(out, doc, refused)
+pub(crate) fn tell_plan(out: &mut Draft, inputs: &Inputs<'_>, doc: Doc<'_>, refused: Refused<'_>) {
+    add_cert(out, inputs);
+    out.add(" has a plan that is not legal.\n");
+    add_plan_fault(out, doc, refused);
 }
 
 /// Tells that a certificate states another value than its plan has.
-pub(crate) fn tell_value(
-    out: &mut String,
-    inputs: &Inputs<'_>,
-    refused: Refused<'_>,
-) -> Result<(), AllocError> {
+pub(crate) fn tell_value(out: &mut Draft, inputs: &Inputs<'_>, refused: Refused<'_>) {
     let stated = refused.number(3).unwrap_or(0);
     let found = refused.number(4).unwrap_or(0);
-    add_cert(out, inputs)?;
-    write!(out, " states the value {stated}")?;
-    write!(
-        out,
-        ", and the busiest tick of its plan costs {found} bytes.\n"
-    )
+    add_cert(out, inputs);
+    out.add(format_args!(" states the value {stated}"));
+    out.add(format_args!(", and the busiest tick of its plan costs {found} bytes.\n"));
 }
 
 /// Adds the line of the level of a certificate, with its number.
-fn add_level_line(out: &mut String, inputs: &Inputs<'_>) -> Result<(), AllocError> {
+fn add_level_line(out: &mut Draft, inputs: &Inputs<'_>) {
     let Some(cert) = inputs.cert else {
-        return out.push_str(".\n");
+        return out.add(".\n");
     };
     let Ok(text) = std::str::from_utf8(cert) else {
-        return out.push_str(".\n");
+        return out.add(".\n");
     };
     let line = line_after_plan(text);
     let number = line.saturating_add(1);
-    write!(out, ": line {number}.\n")?;
-    add_line_text(out, cert, line)
+    out.add(format_args!(": line {number}.\n"));
+    add_line_text(out, cert, line);
 }
 
 /// Tells that a certificate states a level above its value.
-pub(crate) fn tell_level(
-    out: &mut String,
-    inputs: &Inputs<'_>,
-    refused: Refused<'_>,
-) -> Result<(), AllocError> {
+pub(crate) fn tell_level(out: &mut Draft, inputs: &Inputs<'_>, refused: Refused<'_>) {
     let level = refused.number(3).unwrap_or(0);
     let value = refused.number(4).unwrap_or(0);
-    add_cert(out, inputs)?;
-    write!(out, " states the level {level}")?;
-    write!(
-        out,
-        ", and the busiest tick of its plan costs {value} bytes"
-    )?;
-    add_level_line(out, inputs)?;
-    out.push_str(
+    add_cert(out, inputs);
+    out.add(format_args!(" states the level {level}"));
+    out.add(format_args!(", and the busiest tick of its plan costs {value} bytes"));
+    add_level_line(out, inputs);
+    out.add(
         "A level is what the busiest tick of each plan costs at least, so it is at most that.\n",
-    )
+    );
 }
 
 /// Whether the certificate that was read is known to be that of a search without a proof, or known not to be.
@@ -138,68 +114,57 @@ fn is_known_partial(inputs: &Inputs<'_>) -> Option<bool> {
 }
 
 /// Tells that a certificate holds no plan.
-pub(crate) fn tell_no_plan(out: &mut String, inputs: &Inputs<'_>) -> Result<(), AllocError> {
-    add_cert(out, inputs)?;
-    out.push_str(match is_known_partial(inputs) {
+pub(crate) fn tell_no_plan(out: &mut Draft, inputs: &Inputs<'_>) {
+    add_cert(out, inputs);
+    out.add(match is_known_partial(inputs) {
         Some(true) =>
             " is right, and is that of a search that has found no plan so far: there is nothing to tell.\nThe command resume goes on with that search, and may find one.\n",
         Some(false) => " is right, and shows that there is no plan: there is nothing to tell.\n",
         None => " is right, and holds no plan: there is nothing to tell.\n",
-    })
+    });
 }
 
 /// Tells that memory ran out over a check, or over what a search without a proof has proved.
-pub(crate) fn tell_memory(out: &mut String, inputs: &Inputs<'_>) -> Result<(), AllocError> {
-    out.push_str(match inputs.cert_path {
+pub(crate) fn tell_memory(out: &mut Draft, inputs: &Inputs<'_>) {
+    out.add(match inputs.cert_path {
         Some(_) =>
             "Memory ran out over the check of the certificate, or over what a search that goes on with it has proved: nothing is said of it.\nRun it with more memory.\n",
         None =>
             "Memory ran out over what the search has proved: nothing is said of it. Run it with more memory, or with fewer nodes.\n",
-    })
+    });
 }
 
 /// Adds what is wrong with a node of the tree.
-fn add_node_fault(out: &mut String, refused: Refused<'_>) -> Result<(), AllocError> {
+fn add_node_fault(out: &mut Draft, refused: Refused<'_>) {
     match refused.code() {
         "K6" => {
             let want = refused.number(4).unwrap_or(0);
             let got = refused.number(5).unwrap_or(0);
-            write!(
-                out,
-                " has {got} children, where there are {want} places to try"
-            )
+            out.add(format_args!(" has {got} children, where there are {want} places to try"));
         }
-        "K7" => out.push_str(" is a leaf whose reason does not hold"),
-        _ => out.push_str(" is a split where every unit has a place"),
+        "K7" => out.add(" is a leaf whose reason does not hold"),
+        _ => out.add(" is a split where every unit has a place"),
     }
 }
 
 /// Tells which node of the tree is wrong, its line, and of a leaf why.
-pub(crate) fn tell_node(
-    out: &mut String,
-    inputs: &Inputs<'_>,
-    doc: Doc<'_>,
-    refused: Refused<'_>,
-) -> Result<(), AllocError> {
+pub(crate) fn tell_node(out: &mut Draft, inputs: &Inputs<'_>, doc: Doc<'_>, refused: Refused<'_>) {
     let node = refused.number(3).unwrap_or(0);
-    add_cert(out, inputs)?;
-    write!(
-        out,
-        " does not show what it says: node {node} of its tree, from 0,"
-    )?;
-    add_node_fault(out, refused)?;
+    add_cert(out, inputs);
+    out.add(format_args!(" does not show what it says: node {node} of its tree, from 0,"));
+    add_node_fault(out, refused);
     let Some(cert) = inputs.cert else {
-        return out.push_str(".\n");
+        return out.add(".\n");
     };
     let Ok(text) = std::str::from_utf8(cert) else {
-        return out.push_str(".\n");
+        return out.add(".\n");
     };
     let line = node_line(text, node);
     let number = line.saturating_add(1);
-    write!(out, ": line {number}.\n")?;
-    add_line_text(out, cert, line)?;
+    out.add(format_args!(": line {number}.\n"));
+    add_line_text(out, cert, line);
     match refused.code() {
         "K7" => add_leaf_fault(out, doc, text, line),
-        _ => Ok(()),
+        _ => {}
     }
 }

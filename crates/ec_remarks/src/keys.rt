@@ -5,9 +5,9 @@ use crate::label::{add_in, table_of};
 use crate::nearest::nearest;
 use crate::quoted::{add_quoted, add_value};
 use crate::refused::{Place, Refused};
+use ec_drafts::Draft;
 use ec_unit_text::Key;
-use std::alloc::{AllocError, Global};
-use std::fmt::Write;
+use std::alloc::Global;
 use toml::{Table, Value};
 
 const TOP_KEYS: [Key; 3] = [Key::TickNs, Key::Slots, Key::Unit];
@@ -80,138 +80,114 @@ fn key_spelled(keys: &[Key], word: &str) -> Option<Key> {
 }
 
 /// Adds which keys there are.
-fn add_keys(out: &mut String, place: Place) -> Result<(), AllocError> {
+fn add_keys(out: &mut Draft, place: Place) {
     match (place.unit, place.slave) {
         (Some(_), Some(_)) => {
-            out.push_str(
-                "The keys of a slave are station, out_bytes, in_bytes, out_at and in_at.\n",
-            )
+            out.add("The keys of a slave are station, out_bytes, in_bytes, out_at and in_at.\n");
         }
         (Some(_), None) => {
-            out.push_str("The keys of a unit are name, period, slave, phase and slot.\n")
+            out.add("The keys of a unit are name, period, slave, phase and slot.\n");
         }
-        _ => out.push_str("The keys at the top of the file are tick_ns, slots and unit.\n"),
+        _ => out.add("The keys at the top of the file are tick_ns, slots and unit.\n"),
     }
 }
 
 /// Adds where a key stands that is one of another table; else which key was meant.
-fn add_meant(out: &mut String, alloc: Global, word: &str, place: Place) -> Result<(), AllocError> {
+fn add_meant(out: &mut Draft, alloc: Global, word: &str, place: Place) {
     if is_key(&SLAVE_KEYS, word) {
-        return out.push_str("It is a key of a slave, below a line [[unit.slave]].\n");
+        return out.add("It is a key of a slave, below a line [[unit.slave]].\n");
     }
     if word == "slave" {
-        return out.push_str(
+        return out.add(
             "A slave begins with [[unit.slave]], below the [[unit]] that it belongs to.\n",
         );
     }
     if is_key(&UNIT_KEYS, word) {
-        return out.push_str(
+        return out.add(
             "It is a key of a unit, between its line [[unit]] and its first [[unit.slave]].\n",
         );
     }
     if is_key(&TOP_KEYS, word) {
-        return out.push_str("It stands at the top of the file, above the first [[unit]].\n");
+        return out.add("It stands at the top of the file, above the first [[unit]].\n");
     }
-    match nearest(alloc, word, keys_at(place))? {
+    let Ok(meant) = nearest(alloc, word, keys_at(place)) else {
+        return out.give_up();
+    };
+    match meant {
         Some(key) => {
             let key = key.as_str();
-            write!(out, "Was {key} meant?\n")
+            out.add(format_args!("Was {key} meant?\n"));
         }
         None => add_keys(out, place),
     }
 }
 
 /// Adds the first key at a place that isn't known there, and which was meant.
-fn add_unknown(
-    out: &mut String,
-    alloc: Global,
-    doc: Doc<'_>,
-    place: Place,
-) -> Result<(), AllocError> {
+fn add_unknown(out: &mut Draft, alloc: Global, doc: Doc<'_>, place: Place) {
     let Some(word) = unknown_in(table_of(doc, place), keys_at(place)) else {
         return add_keys(out, place);
     };
-    out.push_str("the key ")?;
-    add_quoted(out, word.as_bytes())?;
-    out.push_str(" is not known there.\n")?;
-    add_meant(out, alloc, word, place)
+    out.add("the key ");
+    add_quoted(out, word.as_bytes());
+    out.add(" is not known there.\n");
+    add_meant(out, alloc, word, place);
 }
 
 /// Tells a key that isn't known.
-pub(crate) fn tell_unknown(
-    out: &mut String,
-    alloc: Global,
-    doc: Doc<'_>,
-    refused: Refused<'_>,
-) -> Result<(), AllocError> {
-    add_in(out, doc, refused.place())?;
-    add_unknown(out, alloc, doc, refused.place())
+pub(crate) fn tell_unknown(out: &mut Draft, alloc: Global, doc: Doc<'_>, refused: Refused<'_>) {
+    add_in(out, doc, refused.place());
+    add_unknown(out, alloc, doc, refused.place());
 }
 
 /// Tells a key that is missing, and one that isn't known where it should stand.
-pub(crate) fn tell_missing(
-    out: &mut String,
-    alloc: Global,
-    doc: Doc<'_>,
-    refused: Refused<'_>,
-) -> Result<(), AllocError> {
+pub(crate) fn tell_missing(out: &mut Draft, alloc: Global, doc: Doc<'_>, refused: Refused<'_>) {
     let place = refused.place();
     let word = refused.word(5);
-    add_in(out, doc, place)?;
-    out.push_str("the key ")?;
-    add_quoted(out, word.as_bytes())?;
-    out.push_str(" is missing.\n")?;
+    add_in(out, doc, place);
+    out.add("the key ");
+    add_quoted(out, word.as_bytes());
+    out.add(" is missing.\n");
     if unknown_in(table_of(doc, place), keys_at(place)).is_some() {
-        out.push_str("Beside it, ")?;
-        add_unknown(out, alloc, doc, place)?;
+        out.add("Beside it, ");
+        add_unknown(out, alloc, doc, place);
     }
-    out.push_str(meaning(word))?;
-    out.push('\n')
+    out.add(meaning(word));
+    out.add('\n');
 }
 
 /// Adds what is wrong with the value of an array of tables.
-fn add_not_tables(out: &mut String, value: &Value, header: &str) -> Result<(), AllocError> {
+fn add_not_tables(out: &mut Draft, value: &Value, header: &str) {
     if value.is_table() {
-        write!(
-            out,
-            "Write [[{header}]] in double brackets, once for each.\n"
-        )
+        out.add(format_args!("Write [[{header}]] in double brackets, once for each.\n"));
     } else {
-        write!(
-            out,
-            "It has to be tables, each begun by a line [[{header}]].\n"
-        )
+        out.add(format_args!("It has to be tables, each begun by a line [[{header}]].\n"));
     }
 }
 
 /// Adds which type the value of a key has to have.
-fn add_type(out: &mut String, key: Key, value: &Value) -> Result<(), AllocError> {
+fn add_type(out: &mut Draft, key: Key, value: &Value) {
     match key {
         Key::Unit => add_not_tables(out, value, "unit"),
         Key::Slave => add_not_tables(out, value, "unit.slave"),
-        Key::Name => out.push_str("A name is a text in quotes, as name = \"press-4\".\n"),
-        _ => out.push_str("A whole number is needed, without quotes and without a point.\n"),
+        Key::Name => out.add("A name is a text in quotes, as name = \"press-4\".\n"),
+        _ => out.add("A whole number is needed, without quotes and without a point.\n"),
     }
 }
 
 /// Tells a value of another type.
-pub(crate) fn tell_type(
-    out: &mut String,
-    doc: Doc<'_>,
-    refused: Refused<'_>,
-) -> Result<(), AllocError> {
+pub(crate) fn tell_type(out: &mut Draft, doc: Doc<'_>, refused: Refused<'_>) {
     let place = refused.place();
     let word = refused.word(5);
-    add_in(out, doc, place)?;
+    add_in(out, doc, place);
     let Some(key) = key_spelled(keys_at(place), word) else {
-        return out.push_str("a value has the wrong type.\n");
+        return out.add("a value has the wrong type.\n");
     };
     let Some(value) = value_in(table_of(doc, place), key) else {
-        return out.push_str("a value has the wrong type.\n");
+        return out.add("a value has the wrong type.\n");
     };
-    out.push_str(key.as_str())?;
-    out.push_str(" is ")?;
-    add_value(out, value)?;
-    out.push_str(".\n")?;
-    add_type(out, key, value)
+    out.add(key.as_str());
+    out.add(" is ");
+    add_value(out, value);
+    out.add(".\n");
+    add_type(out, key, value);
 }

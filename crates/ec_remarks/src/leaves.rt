@@ -3,8 +3,7 @@
 use crate::due::{cert_line, has_no_value, is_partial};
 use crate::inputs::Doc;
 use crate::periods::ticks_of;
-use std::alloc::AllocError;
-use std::fmt::Write;
+use ec_drafts::Draft;
 
 /// Whether each of these weights is 0.
 fn are_zero(weights: &str) -> bool {
@@ -20,20 +19,17 @@ fn hyperperiod(doc: Doc<'_>) -> Option<u64> {
 }
 
 /// Adds why a leaf with these weights doesn't hold.
-fn add_weights(out: &mut String, doc: Doc<'_>, weights: &str) -> Result<(), AllocError> {
+fn add_weights(out: &mut Draft, doc: Doc<'_>, weights: &str) {
     let count = weights.split(' ').count() as u64;
     let ticks = hyperperiod(doc).unwrap_or(count);
     if count != ticks {
-        write!(
-            out,
-            "It has {count} weights, and the hyperperiod has {ticks} ticks: "
-        )?;
-        return out.push_str("each tick has a weight.\n");
+        out.add(format_args!("It has {count} weights, and the hyperperiod has {ticks} ticks: "));
+        return out.add("each tick has a weight.\n");
     }
     if are_zero(weights) {
-        return out.push_str("All its weights are 0.\n");
+        return out.add("All its weights are 0.\n");
     }
-    out.push_str("By its weights a tick has too few bytes on average to show the value.\n")
+    out.add("By its weights a tick has too few bytes on average to show the value.\n");
 }
 
 /// Which leaves can hold without a value.
@@ -46,25 +42,20 @@ fn without_value(cert: &str) -> &'static str {
 }
 
 /// Adds why the leaf at a line of a certificate, from 0, doesn't hold, where that line says it.
-pub(crate) fn add_leaf_fault(
-    out: &mut String,
-    doc: Doc<'_>,
-    cert: &str,
-    line: usize,
-) -> Result<(), AllocError> {
+pub(crate) fn add_leaf_fault(out: &mut Draft, doc: Doc<'_>, cert: &str, line: usize) {
     let Some(leaf) = cert_line(cert, line) else {
-        return Ok(());
+        return;
     };
     if leaf == "O" {
-        return out.push_str(
+        return out.add(
             "At an open leaf some tick, or the average of all ticks, has to cost at least the level: here none does.\n",
         );
     }
     if has_no_value(cert) && !leaf.starts_with("F ") {
-        return out.push_str(without_value(cert));
+        return out.add(without_value(cert));
     }
     match leaf.strip_prefix("W ") {
         Some(weights) => add_weights(out, doc, weights),
-        None => Ok(()),
+        None => {}
     }
 }

@@ -5,9 +5,8 @@ use crate::inputs::{Doc, number_in, text_in};
 use crate::label::add_unit;
 use crate::quoted::{add_bytes, add_quoted};
 use crate::units::unit_bytes;
+use ec_drafts::Draft;
 use ec_unit_text::Key;
-use std::alloc::AllocError;
-use std::fmt::Write;
 
 /// A unit as a certificate has it.
 #[derive(Clone, Copy)]
@@ -64,95 +63,83 @@ fn has_other_name(doc: Doc<'_>, unit: usize, theirs: CertUnit<'_>) -> bool {
 }
 
 /// Adds how a unit of the file differs from that of the certificate, and says whether it does.
-fn add_difference(
-    out: &mut String,
-    doc: Doc<'_>,
-    unit: usize,
-    theirs: CertUnit<'_>,
-) -> Result<bool, AllocError> {
+fn add_difference(out: &mut Draft, doc: Doc<'_>, unit: usize, theirs: CertUnit<'_>) -> bool {
     let table = doc.unit(Some(unit));
     let bytes = unit_bytes(table);
     let period = number_in(table, Key::Period).unwrap_or(0);
     if has_other_name(doc, unit, theirs) {
-        add_unit(out, doc, unit)?;
-        out.push_str(" stands where the certificate has unit ")?;
-        add_quoted(out, theirs.name.as_bytes())?;
-        out.push_str(".\n")?;
-        return Ok(true);
+        add_unit(out, doc, unit);
+        out.add(" stands where the certificate has unit ");
+        add_quoted(out, theirs.name.as_bytes());
+        out.add(".\n");
+        return true;
     }
     if bytes != theirs.bytes {
         let other = theirs.bytes;
-        add_unit(out, doc, unit)?;
-        write!(out, " has {bytes} bytes, in the certificate {other}.\n")?;
-        return Ok(true);
+        add_unit(out, doc, unit);
+        out.add(format_args!(" has {bytes} bytes, in the certificate {other}.\n"));
+        return true;
     }
     if period != theirs.period {
         let other = theirs.period;
-        add_unit(out, doc, unit)?;
-        write!(out, " has period {period}, in the certificate {other}.\n")?;
-        return Ok(true);
+        add_unit(out, doc, unit);
+        out.add(format_args!(" has period {period}, in the certificate {other}.\n"));
+        return true;
     }
-    Ok(false)
+    false
 }
 
 /// Adds the first unit that differs, if one does, or that only one of the two has.
-fn add_first(out: &mut String, doc: Doc<'_>, cert: &str) -> Result<(), AllocError> {
+fn add_first(out: &mut Draft, doc: Doc<'_>, cert: &str) {
     for unit in 0..doc.units().len() {
         let Some(theirs) = cert_unit_at(cert, unit) else {
-            add_unit(out, doc, unit)?;
-            return out.push_str(" is not in the certificate.\n");
+            add_unit(out, doc, unit);
+            return out.add(" is not in the certificate.\n");
         };
-        if add_difference(out, doc, unit, theirs)? {
-            return Ok(());
+        if add_difference(out, doc, unit, theirs) {
+            return;
         }
     }
     match cert_unit_at(cert, doc.units().len()) {
         Some(theirs) => {
-            out.push_str("The certificate has another unit ")?;
-            add_quoted(out, theirs.name.as_bytes())?;
-            out.push_str(", which the file has not.\n")
+            out.add("The certificate has another unit ");
+            add_quoted(out, theirs.name.as_bytes());
+            out.add(", which the file has not.\n");
         }
-        None => Ok(()),
+        None => {}
     }
 }
 
 /// Adds that the slots differ, if they do.
-fn add_slots(out: &mut String, doc: Doc<'_>, cert: &str) -> Result<(), AllocError> {
+fn add_slots(out: &mut Draft, doc: Doc<'_>, cert: &str) {
     let Some(line) = cert_line(cert, 1) else {
-        return Ok(());
+        return;
     };
     let slots = number_in(doc.top, Key::Slots).unwrap_or(0);
     if number_of(line.strip_prefix("slots ")) == Some(slots) {
-        return Ok(());
+        return;
     }
-    write!(out, "The file says slots = {slots}, the certificate ")?;
-    add_bytes(out, line.as_bytes(), 40)?;
-    out.push_str(".\n")
+    out.add(format_args!("The file says slots = {slots}, the certificate "));
+    add_bytes(out, line.as_bytes(), 40);
+    out.add(".\n");
 }
 
 /// Adds how many units each has, if they differ.
-fn add_counts(out: &mut String, doc: Doc<'_>, cert: &str) -> Result<(), AllocError> {
+fn add_counts(out: &mut Draft, doc: Doc<'_>, cert: &str) {
     let ours = doc.units().len();
     let theirs = unit_lines(cert);
     if ours == theirs {
-        return Ok(());
+        return;
     }
-    write!(
-        out,
-        "The file has {ours} units, the certificate {theirs}.\n"
-    )
+    out.add(format_args!("The file has {ours} units, the certificate {theirs}.\n"));
 }
 
 /// Adds what differs between the file's units and those of a certificate.
-pub(crate) fn add_differences(
-    out: &mut String,
-    doc: Doc<'_>,
-    cert: &[u8],
-) -> Result<(), AllocError> {
+pub(crate) fn add_differences(out: &mut Draft, doc: Doc<'_>, cert: &[u8]) {
     let Ok(text) = std::str::from_utf8(cert) else {
-        return Ok(());
+        return;
     };
-    add_slots(out, doc, text)?;
-    add_counts(out, doc, text)?;
-    add_first(out, doc, text)
+    add_slots(out, doc, text);
+    add_counts(out, doc, text);
+    add_first(out, doc, text);
 }

@@ -3,38 +3,38 @@
 use crate::certs::add_cert;
 use crate::inputs::Inputs;
 use crate::quoted::{add_bytes, add_quoted};
-use std::alloc::AllocError;
+use ec_drafts::Draft;
 
 /// Adds why the system refused, if that is known.
-fn add_reason(out: &mut String, inputs: &Inputs<'_>) -> Result<(), AllocError> {
+fn add_reason(out: &mut Draft, inputs: &Inputs<'_>) {
     if let Some(reason) = inputs.reason {
-        out.push_str(": ")?;
-        add_bytes(out, reason.as_bytes(), 80)?;
+        out.add(": ");
+        add_bytes(out, reason.as_bytes(), 80);
     }
-    out.push_str(".\n")
+    out.add(".\n");
 }
 
 /// Tells what couldn't be read, and why.
-pub(crate) fn tell_read(out: &mut String, inputs: &Inputs<'_>) -> Result<(), AllocError> {
+pub(crate) fn tell_read(out: &mut Draft, inputs: &Inputs<'_>) {
     match inputs.cert_path {
         Some(_) => {
-            add_cert(out, inputs)?;
-            out.push_str(" cannot be read")?;
+            add_cert(out, inputs);
+            out.add(" cannot be read");
         }
-        None => out.push_str("The units cannot be read from standard input")?,
+        None => out.add("The units cannot be read from standard input"),
     }
-    add_reason(out, inputs)
+    add_reason(out, inputs);
 }
 
 /// Tells which path couldn't be written, and why.
-pub(crate) fn tell_write(out: &mut String, inputs: &Inputs<'_>) -> Result<(), AllocError> {
-    out.push_str("The file cannot be written")?;
+pub(crate) fn tell_write(out: &mut Draft, inputs: &Inputs<'_>) {
+    out.add("The file cannot be written");
     if let Some(path) = inputs.out_path {
-        out.push_str(" to ")?;
-        add_quoted(out, path.as_bytes())?;
+        out.add(" to ");
+        add_quoted(out, path.as_bytes());
     }
-    add_reason(out, inputs)?;
-    out.push_str("All else was done; give a path in a folder that is there and can be written.\n")
+    add_reason(out, inputs);
+    out.add("All else was done; give a path in a folder that is there and can be written.\n");
 }
 
 /// What is told of a code alone.

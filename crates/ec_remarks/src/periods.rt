@@ -1,9 +1,8 @@
 //! A hyperperiod that is too long, and the periods that make it.
 
 use crate::inputs::{Doc, number_in};
+use ec_drafts::Draft;
 use ec_unit_text::Key;
-use std::alloc::AllocError;
-use std::fmt::Write;
 use toml::Value;
 
 /// The periods from 1 to 60 that some unit has.
@@ -40,25 +39,25 @@ pub(crate) fn ticks_of(units: &[Value]) -> Option<u64> {
 }
 
 /// Adds a line with the periods of some units, each once, the least first.
-fn add_periods(out: &mut String, units: &[Value]) -> Result<(), AllocError> {
-    out.push_str("   ")?;
+fn add_periods(out: &mut Draft, units: &[Value]) {
+    out.add("   ");
     for period in 1..61i64 {
         if has_period(units, period) {
-            write!(out, " {period}")?;
+            out.add(format_args!(" {period}"));
         }
     }
-    out.push('\n')
+    out.add('\n');
 }
 
 /// Tells the periods, and the ticks after which all units stand as they did.
-pub(crate) fn tell_hyper(out: &mut String, doc: Doc<'_>) -> Result<(), AllocError> {
+pub(crate) fn tell_hyper(out: &mut Draft, doc: Doc<'_>) {
     let units = doc.units();
-    out.push_str("The hyperperiod is too long: the least common multiple of these periods ")?;
+    out.add("The hyperperiod is too long: the least common multiple of these periods ");
     match ticks_of(units) {
-        Some(ticks) => write!(out, "is {ticks} ticks")?,
-        None => out.push_str("has more than 19 digits")?,
+        Some(ticks) => out.add(format_args!("is {ticks} ticks")),
+        None => out.add("has more than 19 digits"),
     }
-    out.push_str(", and at most 1024 can be planned.\n")?;
-    add_periods(out, units)?;
-    out.push_str("Take periods that divide one another, as 2, 4 and 8.\n")
+    out.add(", and at most 1024 can be planned.\n");
+    add_periods(out, units);
+    out.add("Take periods that divide one another, as 2, 4 and 8.\n");
 }

@@ -4,57 +4,41 @@ use crate::inputs::{Doc, number_in, text_in, value_in};
 use crate::label::{add_in, add_pair, add_unit};
 use crate::quoted::add_quoted;
 use crate::refused::Refused;
+use ec_drafts::Draft;
 use ec_unit_text::Key;
-use std::alloc::AllocError;
-use std::fmt::Write;
 use toml::Table;
 
 /// Tells a phase or a slot out of range, with both limits.
-pub(crate) fn tell_range(
-    out: &mut String,
-    doc: Doc<'_>,
-    refused: Refused<'_>,
-) -> Result<(), AllocError> {
+pub(crate) fn tell_range(out: &mut Draft, doc: Doc<'_>, refused: Refused<'_>) {
     let unit = doc.unit(refused.number(3));
     let period = number_in(unit, Key::Period).unwrap_or(60);
     let slots = number_in(doc.top, Key::Slots).unwrap_or(8);
     let (last_phase, last_slot) = (period.saturating_sub(1), slots.saturating_sub(1));
-    add_in(out, doc, refused.place())?;
-    add_pair(out, unit, Key::Phase)?;
-    out.push_str(" and ")?;
-    add_pair(out, unit, Key::Slot)?;
-    write!(out, ", but with its period its phase is 0 to {last_phase}")?;
-    write!(
-        out,
-        ", and with the slots of the file its slot is 0 to {last_slot}.\n"
-    )
+    add_in(out, doc, refused.place());
+    add_pair(out, unit, Key::Phase);
+    out.add(" and ");
+    add_pair(out, unit, Key::Slot);
+    out.add(format_args!(", but with its period its phase is 0 to {last_phase}"));
+    out.add(format_args!(", and with the slots of the file its slot is 0 to {last_slot}.\n"));
 }
 
 /// Tells which half of a place is missing.
-pub(crate) fn tell_half(
-    out: &mut String,
-    doc: Doc<'_>,
-    refused: Refused<'_>,
-) -> Result<(), AllocError> {
+pub(crate) fn tell_half(out: &mut Draft, doc: Doc<'_>, refused: Refused<'_>) {
     let unit = doc.unit(refused.number(3));
-    add_in(out, doc, refused.place())?;
-    add_pair(out, unit, Key::Phase)?;
-    out.push_str(" and ")?;
-    add_pair(out, unit, Key::Slot)?;
-    out.push_str(", but a place is both, a phase and a slot.\nWrite both, or leave both out.\n")
+    add_in(out, doc, refused.place());
+    add_pair(out, unit, Key::Phase);
+    out.add(" and ");
+    add_pair(out, unit, Key::Slot);
+    out.add(", but a place is both, a phase and a slot.\nWrite both, or leave both out.\n");
 }
 
 /// Tells a unit without a place.
-pub(crate) fn tell_no_place(
-    out: &mut String,
-    doc: Doc<'_>,
-    refused: Refused<'_>,
-) -> Result<(), AllocError> {
-    out.push_str("A unit has no place, that is no phase and no slot: ")?;
-    add_unit(out, doc, refused.number(3).unwrap_or(0))?;
-    out.push_str(
+pub(crate) fn tell_no_place(out: &mut Draft, doc: Doc<'_>, refused: Refused<'_>) {
+    out.add("A unit has no place, that is no phase and no slot: ");
+    add_unit(out, doc, refused.number(3).unwrap_or(0));
+    out.add(
         ".\nCosts and frames are those of places: write them for every unit, or let plan find them.\n",
-    )
+    );
 }
 
 /// Whether a unit with this place travels in a tick and a slot.
@@ -68,47 +52,38 @@ fn travels(unit: Option<&Table>, tick: i64, slot: i64) -> bool {
 }
 
 /// Adds the names of the units that travel in a tick and a slot.
-fn add_travelling(out: &mut String, doc: Doc<'_>, tick: i64, slot: i64) -> Result<(), AllocError> {
-    out.push_str("In it travel")?;
+fn add_travelling(out: &mut Draft, doc: Doc<'_>, tick: i64, slot: i64) {
+    out.add("In it travel");
     let mut sign = " ";
     for unit in doc.units() {
         let table = unit.as_table();
         if travels(table, tick, slot) {
-            out.push_str(sign)?;
-            add_quoted(out, text_in(table, Key::Name).unwrap_or("").as_bytes())?;
+            out.add(sign);
+            add_quoted(out, text_in(table, Key::Name).unwrap_or("").as_bytes());
             sign = ", ";
         }
     }
-    out.push_str(".\n")
+    out.add(".\n");
 }
 
 /// Adds a slot that carries too much, from a word of the line on: its tick, the slot, and the bytes.
-pub(crate) fn add_full(
-    out: &mut String,
-    refused: Refused<'_>,
-    at: usize,
-) -> Result<(), AllocError> {
+pub(crate) fn add_full(out: &mut Draft, refused: Refused<'_>, at: usize) {
     let tick = refused.number(at).unwrap_or(0);
     let slot = refused.number(at.saturating_add(1)).unwrap_or(0);
     let bytes = refused.number(at.saturating_add(2)).unwrap_or(0);
-    write!(
-        out,
+    out.add(format_args!(
         "Too much travels in one frame: in tick {tick} slot {slot} has {bytes} bytes"
-    )?;
-    out.push_str(", 12 for each datagram counted, and a frame carries at most 1498.\n")
+    ));
+    out.add(", 12 for each datagram counted, and a frame carries at most 1498.\n");
 }
 
 /// Tells which slot carries too much in which tick, and which units travel in it.
-pub(crate) fn tell_full(
-    out: &mut String,
-    doc: Doc<'_>,
-    refused: Refused<'_>,
-) -> Result<(), AllocError> {
-    add_full(out, refused, 3)?;
+pub(crate) fn tell_full(out: &mut Draft, doc: Doc<'_>, refused: Refused<'_>) {
+    add_full(out, refused, 3);
     let tick = refused.word(3).parse::<i64>().ok().unwrap_or(0);
     let slot = refused.word(4).parse::<i64>().ok().unwrap_or(0);
     if !doc.units().is_empty() {
-        add_travelling(out, doc, tick, slot)?;
+        add_travelling(out, doc, tick, slot);
     }
-    out.push_str("Give some of them another phase or another slot.\n")
+    out.add("Give some of them another phase or another slot.\n");
 }

@@ -3,8 +3,8 @@
 use crate::inputs::Doc;
 use crate::label::{add_in, add_pair, table_of};
 use crate::refused::Refused;
+use ec_drafts::Draft;
 use ec_unit_text::Key;
-use std::alloc::AllocError;
 
 /// The keys whose values are out of range.
 fn keys_of(code: &str) -> &'static [Key] {
@@ -31,21 +31,17 @@ fn rule_of(code: &str) -> &'static str {
 }
 
 /// Tells the values and their range: `In unit "a" (line 3): period = 90, but a period is 1 to 60 ticks.`
-pub(crate) fn tell_range(
-    out: &mut String,
-    doc: Doc<'_>,
-    refused: Refused<'_>,
-) -> Result<(), AllocError> {
+pub(crate) fn tell_range(out: &mut Draft, doc: Doc<'_>, refused: Refused<'_>) {
     let place = refused.place();
     let table = table_of(doc, place);
-    add_in(out, doc, place)?;
+    add_in(out, doc, place);
     if table.is_some() {
         for key in keys_of(refused.code()) {
-            add_pair(out, table, *key)?;
-            out.push_str(", ")?;
+            add_pair(out, table, *key);
+            out.add(", ");
         }
-        out.push_str("but ")?;
+        out.add("but ");
     }
-    out.push_str(rule_of(refused.code()))?;
-    out.push_str(".\n")
+    out.add(rule_of(refused.code()));
+    out.add(".\n");
 }

@@ -1,8 +1,8 @@
 //! A unit text that isn't TOML: where its reader stopped, and what was likely meant.
 
 use crate::quoted::add_bytes;
-use std::alloc::{AllocError, Global};
-use std::fmt::Write;
+use ec_drafts::Draft;
+use std::alloc::Global;
 use toml::de::Error;
 
 /// A place in a text: its line and its column, both from 0. A column counts characters.
@@ -79,29 +79,26 @@ fn hint(line: &str, message: &str) -> &'static str {
 }
 
 /// Tells the line and the column at which the reader stopped, why, the line's text, and what was likely meant.
-pub(crate) fn tell_syntax(
-    out: &mut String,
-    alloc: Global,
-    text: &[u8],
-    error: Error,
-) -> Result<(), AllocError> {
+pub(crate) fn tell_syntax(out: &mut Draft, alloc: Global, text: &[u8], error: Error) {
     let Some(span) = error.span() else {
-        return out.push_str("The file is not TOML.\n");
+        return out.add("The file is not TOML.\n");
     };
     let at = position_of(text, span.start);
     let (line, column) = (at.line.saturating_add(1), at.column.saturating_add(1));
-    write!(out, "The file is not TOML: line {line}, column {column}: ")?;
-    add_bytes(out, error.message().as_bytes(), 100)?;
-    out.push_str(".\n")?;
+    out.add(format_args!("The file is not TOML: line {line}, column {column}: "));
+    add_bytes(out, error.message().as_bytes(), 100);
+    out.add(".\n");
     let Some(bytes) = line_at(text, at.line) else {
-        return Ok(());
+        return;
     };
-    out.push_str("    ")?;
-    add_bytes(out, bytes.trim_ascii_end(), 120)?;
-    out.push('\n')?;
+    out.add("    ");
+    add_bytes(out, bytes.trim_ascii_end(), 120);
+    out.add('\n');
     if std::str::from_utf8(text).is_err() {
-        return out.push_str("The file is not UTF-8: save it as plain text in UTF-8.\n");
+        return out.add("The file is not UTF-8: save it as plain text in UTF-8.\n");
     }
-    let line = String::from_utf8_lossy(alloc, bytes)?;
-    out.push_str(hint(line.as_str(), error.message()))
+    match String::from_utf8_lossy(alloc, bytes) {
+        Ok(line) => out.add(hint(line.as_str(), error.message())),
+        Err(_) => out.give_up(),
+    }
 }

@@ -3,16 +3,12 @@
 use crate::inputs::{Doc, Inputs};
 use crate::refused::Refused;
 use crate::{areas, certs, checks, keys, paths, periods, places, ranges, syntax, units};
+use ec_drafts::Draft;
 use std::alloc::{AllocError, Global};
 use toml::de::Error;
 
 /// Tells a fault of what is in the unit text.
-fn tell_units(
-    out: &mut String,
-    alloc: Global,
-    doc: Doc<'_>,
-    refused: Refused<'_>,
-) -> Result<(), AllocError> {
+fn tell_units(out: &mut Draft, alloc: Global, doc: Doc<'_>, refused: Refused<'_>) {
     match refused.code() {
         "U3" => keys::tell_missing(out, alloc, doc, refused),
         "U4" => keys::tell_type(out, doc, refused),
@@ -31,17 +27,12 @@ fn tell_units(
         "U21" => places::tell_half(out, doc, refused),
         "E2" => places::tell_no_place(out, doc, refused),
         "I4" => places::tell_full(out, doc, refused),
-        _ => Ok(()),
+        _ => {}
     }
 }
 
 /// Tells a fault of a certificate.
-fn tell_cert(
-    out: &mut String,
-    inputs: &Inputs<'_>,
-    doc: Doc<'_>,
-    refused: Refused<'_>,
-) -> Result<(), AllocError> {
+fn tell_cert(out: &mut Draft, inputs: &Inputs<'_>, doc: Doc<'_>, refused: Refused<'_>) {
     match refused.code() {
         "K1" => checks::tell_memory(out, inputs),
         "C2" => certs::tell_bytes(out, inputs),
@@ -55,30 +46,30 @@ fn tell_cert(
         "K6" | "K7" | "K8" => checks::tell_node(out, inputs, doc, refused),
         "K9" => checks::tell_level(out, inputs, refused),
         "E5" => checks::tell_no_plan(out, inputs),
-        _ => Ok(()),
+        _ => {}
     }
 }
 
 /// Tells what a line refuses, of units that are this document, or no TOML for this reason.
 fn tell(
-    out: &mut String,
+    out: &mut Draft,
     alloc: Global,
     inputs: &Inputs<'_>,
     doc: Doc<'_>,
     error: Option<Error>,
     refused: Refused<'_>,
-) -> Result<(), AllocError> {
+) {
     match refused.code() {
         "U2" => match error {
             Some(error) => syntax::tell_syntax(out, alloc, inputs.units, error),
-            None => out.push_str("The file is not TOML.\n"),
+            None => out.add("The file is not TOML.\n"),
         },
         "E3" => paths::tell_read(out, inputs),
         "E4" => paths::tell_write(out, inputs),
         code => {
-            out.push_str(paths::words_of(code))?;
-            tell_units(out, alloc, doc, refused)?;
-            tell_cert(out, inputs, doc, refused)
+            out.add(paths::words_of(code));
+            tell_units(out, alloc, doc, refused);
+            tell_cert(out, inputs, doc, refused);
         }
     }
 }
@@ -97,10 +88,10 @@ pub fn remarks(alloc: Global, line: &str, inputs: &Inputs<'_>) -> Result<String,
         text: text.as_str(),
         top,
     };
-    let mut out = String::new(alloc);
+    let mut out = Draft::new(alloc);
     let refused = Refused { line };
     if refused.word(0) == "refused" {
-        tell(&mut out, alloc, inputs, doc, error, refused)?;
+        tell(&mut out, alloc, inputs, doc, error, refused);
     }
-    Ok(out)
+    out.finish()
 }

@@ -4,24 +4,20 @@ use crate::inputs::{Doc, number_in, text_in, values_in};
 use crate::label::{add_in, add_slave, add_unit};
 use crate::quoted::add_quoted;
 use crate::refused::Refused;
+use ec_drafts::Draft;
 use ec_unit_text::Key;
-use std::alloc::AllocError;
-use std::fmt::Write;
 use toml::{Table, Value};
 
 /// Tells that there are no units.
-pub(crate) fn tell_none(out: &mut String) -> Result<(), AllocError> {
-    out.push_str("The file has no unit.\n")?;
-    out.push_str("Each unit is a table that begins with a line [[unit]], in double brackets.\n")
+pub(crate) fn tell_none(out: &mut Draft) {
+    out.add("The file has no unit.\n");
+    out.add("Each unit is a table that begins with a line [[unit]], in double brackets.\n");
 }
 
 /// Tells how many units there are.
-pub(crate) fn tell_many(out: &mut String, doc: Doc<'_>) -> Result<(), AllocError> {
+pub(crate) fn tell_many(out: &mut Draft, doc: Doc<'_>) {
     let count = doc.units().len();
-    write!(
-        out,
-        "The file has {count} units, and a line has at most 48.\n"
-    )
+    out.add(format_args!("The file has {count} units, and a line has at most 48.\n"));
 }
 
 /// Whether a byte may stand in a name.
@@ -30,31 +26,27 @@ fn is_name_byte(byte: u8) -> bool {
 }
 
 /// Adds why a text is no name.
-fn add_name_cause(out: &mut String, name: &str) -> Result<(), AllocError> {
+fn add_name_cause(out: &mut Draft, name: &str) {
     let bytes = name.as_bytes();
     let count = bytes.len();
     if count == 0 {
-        return out.push_str("This one is empty.\n");
+        return out.add("This one is empty.\n");
     }
     if let Some(byte) = bytes.iter().find(|byte| !is_name_byte(**byte)) {
-        out.push_str("The character ")?;
-        add_quoted(out, &[*byte])?;
-        return out.push_str(" is none of these.\n");
+        out.add("The character ");
+        add_quoted(out, &[*byte]);
+        return out.add(" is none of these.\n");
     }
-    write!(out, "This one has {count}.\n")
+    out.add(format_args!("This one has {count}.\n"));
 }
 
 /// Tells what is wrong with a name.
-pub(crate) fn tell_name(
-    out: &mut String,
-    doc: Doc<'_>,
-    refused: Refused<'_>,
-) -> Result<(), AllocError> {
-    add_in(out, doc, refused.place())?;
-    out.push_str("a name has 1 to 32 characters of a-z, A-Z, 0-9, _ and -.\n")?;
+pub(crate) fn tell_name(out: &mut Draft, doc: Doc<'_>, refused: Refused<'_>) {
+    add_in(out, doc, refused.place());
+    out.add("a name has 1 to 32 characters of a-z, A-Z, 0-9, _ and -.\n");
     match text_in(doc.unit(refused.number(3)), Key::Name) {
         Some(name) => add_name_cause(out, name),
-        None => Ok(()),
+        None => {}
     }
 }
 
@@ -69,34 +61,26 @@ fn unit_named(units: &[Value], name: &str) -> Option<usize> {
 }
 
 /// Tells which two units have one name.
-pub(crate) fn tell_same_name(
-    out: &mut String,
-    doc: Doc<'_>,
-    refused: Refused<'_>,
-) -> Result<(), AllocError> {
-    out.push_str("Two units have one name: ")?;
+pub(crate) fn tell_same_name(out: &mut Draft, doc: Doc<'_>, refused: Refused<'_>) {
+    out.add("Two units have one name: ");
     if let Some(name) = text_in(doc.unit(refused.number(3)), Key::Name) {
         if let Some(first) = unit_named(doc.units(), name) {
-            add_unit(out, doc, first)?;
-            out.push_str(" and ")?;
+            add_unit(out, doc, first);
+            out.add(" and ");
         }
     }
-    add_unit(out, doc, refused.number(3).unwrap_or(0))?;
-    out.push_str(".\nGive each unit a name of its own.\n")
+    add_unit(out, doc, refused.number(3).unwrap_or(0));
+    out.add(".\nGive each unit a name of its own.\n");
 }
 
 /// Tells how many slaves a unit has.
-pub(crate) fn tell_slaves(
-    out: &mut String,
-    doc: Doc<'_>,
-    refused: Refused<'_>,
-) -> Result<(), AllocError> {
+pub(crate) fn tell_slaves(out: &mut Draft, doc: Doc<'_>, refused: Refused<'_>) {
     let count = values_in(doc.unit(refused.number(3)), Key::Slave).len();
-    add_in(out, doc, refused.place())?;
-    write!(out, "there are {count} slaves, but a unit has 1 to 8.\n")?;
-    out.push_str(
+    add_in(out, doc, refused.place());
+    out.add(format_args!("there are {count} slaves, but a unit has 1 to 8.\n"));
+    out.add(
         "Each slave begins with a line [[unit.slave]], below the [[unit]] that it belongs to.\n",
-    )
+    );
 }
 
 /// The process bytes of a slave.
@@ -116,18 +100,13 @@ pub(crate) fn unit_bytes(unit: Option<&Table>) -> i64 {
 }
 
 /// Tells how many bytes a unit has.
-pub(crate) fn tell_bytes(
-    out: &mut String,
-    doc: Doc<'_>,
-    refused: Refused<'_>,
-) -> Result<(), AllocError> {
+pub(crate) fn tell_bytes(out: &mut Draft, doc: Doc<'_>, refused: Refused<'_>) {
     let bytes = unit_bytes(doc.unit(refused.number(3)));
-    add_in(out, doc, refused.place())?;
-    write!(
-        out,
+    add_in(out, doc, refused.place());
+    out.add(format_args!(
         "all its slaves together have {bytes} bytes, but one datagram carries at most 1486.\n"
-    )?;
-    out.push_str("Make two units of it.\n")
+    ));
+    out.add("Make two units of it.\n");
 }
 
 /// The first of a unit's slaves with a station.
@@ -151,19 +130,15 @@ fn place_with(doc: Doc<'_>, station: i64) -> Option<(usize, usize)> {
 }
 
 /// Tells which two slaves have one station.
-pub(crate) fn tell_same_station(
-    out: &mut String,
-    doc: Doc<'_>,
-    refused: Refused<'_>,
-) -> Result<(), AllocError> {
+pub(crate) fn tell_same_station(out: &mut Draft, doc: Doc<'_>, refused: Refused<'_>) {
     let place = refused.place();
-    out.push_str("Two slaves have one station address: ")?;
+    out.add("Two slaves have one station address: ");
     if let Some(station) = number_in(doc.slave(place.unit, place.slave), Key::Station) {
         if let Some((unit, slave)) = place_with(doc, station) {
-            add_slave(out, doc, unit, slave)?;
-            out.push_str(" and ")?;
+            add_slave(out, doc, unit, slave);
+            out.add(" and ");
         }
     }
-    add_slave(out, doc, place.unit.unwrap_or(0), place.slave.unwrap_or(0))?;
-    out.push_str(".\nEach slave of the line has an address of its own.\n")
+    add_slave(out, doc, place.unit.unwrap_or(0), place.slave.unwrap_or(0));
+    out.add(".\nEach slave of the line has an address of its own.\n");
 }

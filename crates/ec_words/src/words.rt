@@ -1,7 +1,8 @@
 //! The command line.
 
-ghost use Rattle.std.specs.Prelude.{◌≡◌, IfOk, IfSome};
+ghost use Rattle.std.specs.Prelude.{◌≡◌, codes, IfOk, IfSome};
 ghost use Rattle.ec_command.specs.Words.{JobFits, HasPath, MayHaveOut};
+ghost use Rattle.ec_words.specs.Names.{name_of};
 ghost use Rattle.ec_words.specs.Numbers.{HasNumbersOf};
 ghost use Rattle.ec_words.specs.Pictures.{MayHavePicture};
 ghost use Rattle.ec_words.specs.Placing.{MayHavePlaces};
@@ -78,6 +79,7 @@ fn numbers_of(matches: &ArgMatches<'_>) -> Option<(usize, u32)>
 
 /// The line of a plan with these options.
 fn plan_line(alloc: Global, matches: &ArgMatches<'_>) -> Result<Line, LineFault>
+    ensures named { IfOk result (λ line. name_of line.job ≡ codes "plan") }
     ensures within { IfOk result (λ line. JobFits line.job) }
     ensures paths { IfOk result (λ line. HasPath line.job line.cert) }
     ensures said { IfOk result (λ line. HasNumbersOf matches.now line.job) }
@@ -99,6 +101,7 @@ fn plan_line(alloc: Global, matches: &ArgMatches<'_>) -> Result<Line, LineFault>
 
 /// The line of a resumed search with these options.
 fn resume_line(alloc: Global, matches: &ArgMatches<'_>) -> Result<Line, LineFault>
+    ensures named { IfOk result (λ line. name_of line.job ≡ codes "resume") }
     ensures within { IfOk result (λ line. JobFits line.job) }
     ensures paths { IfOk result (λ line. HasPath line.job line.cert) }
     ensures said { IfOk result (λ line. HasNumbersOf matches.now line.job) }
@@ -124,6 +127,7 @@ fn resume_line(alloc: Global, matches: &ArgMatches<'_>) -> Result<Line, LineFaul
 
 /// The line of a check with these options.
 fn check_line(alloc: Global, matches: &ArgMatches<'_>) -> Result<Line, LineFault>
+    ensures named { IfOk result (λ line. name_of line.job ≡ codes "check") }
     ensures within { IfOk result (λ line. JobFits line.job) }
     ensures paths { IfOk result (λ line. HasPath line.job line.cert) }
     ensures said { IfOk result (λ line. HasNumbersOf matches.now line.job) }
@@ -141,6 +145,7 @@ fn check_line(alloc: Global, matches: &ArgMatches<'_>) -> Result<Line, LineFault
 
 /// The line of a cost with these options: of a certificate's plan where they have its path.
 fn cost_line(alloc: Global, matches: &ArgMatches<'_>) -> Result<Line, LineFault>
+    ensures named { IfOk result (λ line. name_of line.job ≡ codes "cost") }
     ensures within { IfOk result (λ line. JobFits line.job) }
     ensures paths { IfOk result (λ line. HasPath line.job line.cert) }
     ensures said { IfOk result (λ line. HasNumbersOf matches.now line.job) }
@@ -165,6 +170,7 @@ fn cost_line(alloc: Global, matches: &ArgMatches<'_>) -> Result<Line, LineFault>
 
 /// The line of frames with these options: of a capture where they have the path of its file.
 fn frames_line(alloc: Global, matches: &ArgMatches<'_>) -> Result<Line, LineFault>
+    ensures named { IfOk result (λ line. name_of line.job ≡ codes "frames") }
     ensures within { IfOk result (λ line. JobFits line.job) }
     ensures paths { IfOk result (λ line. HasPath line.job line.cert) }
     ensures said { IfOk result (λ line. HasNumbersOf matches.now line.job) }
@@ -190,6 +196,7 @@ fn frames_line(alloc: Global, matches: &ArgMatches<'_>) -> Result<Line, LineFaul
 
 /// The line of a play with these options.
 fn play_line(alloc: Global, matches: &ArgMatches<'_>) -> Result<Line, LineFault>
+    ensures named { IfOk result (λ line. name_of line.job ≡ codes "play") }
     ensures within { IfOk result (λ line. JobFits line.job) }
     ensures paths { IfOk result (λ line. HasPath line.job line.cert) }
     ensures said { IfOk result (λ line. HasNumbersOf matches.now line.job) }
@@ -208,6 +215,7 @@ fn play_line(alloc: Global, matches: &ArgMatches<'_>) -> Result<Line, LineFault>
 
 /// The line of a command with these options.
 fn line_of(alloc: Global, command: &str, matches: &ArgMatches<'_>) -> Result<Line, LineFault>
+    ensures named { IfOk result (λ line. name_of line.job ≡ command.now) }
     ensures within { IfOk result (λ line. JobFits line.job) }
     ensures paths { IfOk result (λ line. HasPath line.job line.cert) }
     ensures said { IfOk result (λ line. HasNumbersOf matches.now line.job) }

@@ -1,28 +1,10 @@
 ghost use Rattle.std.specs.Prelude.{Some};
 
+use ec_streams::FailsAt;
 use ec_wire::*;
 use std::io;
 use std::io::{ErrorKind, Read, Write};
 use std::test::Fail;
-
-/// A reader of these bytes that fails at a call.
-#[derive(Drop)]
-struct FailsAt<'a> {
-    rest: &'a [u8],
-    calls: u32,
-}
-
-impl<'a> Read for FailsAt<'a> {
-    ghost remaining = { λ r. Some r.rest.now };
-
-    fn read(&mut self, buf: &mut [u8]) -> io::Result<usize> {
-        if self.calls == 0 {
-            return Err(io::Error::from(ErrorKind::TimedOut));
-        }
-        self.calls -= 1;
-        self.rest.read(buf)
-    }
-}
 
 /// A writer that takes at most three bytes at a time, and fails at a call, or takes nothing from there on.
 #[derive(Drop)]

@@ -7,3 +7,6 @@ use Rattle.ec_lines.proofs.cost.push_ticks.Goals as goal
 
 pub loop-t-preserved : goal.loop-t-preserved
 loop-t-preserved c = rw (lines_more (λ t. tick_line t (tick_cost (items_of c.args.loads.now) c.args.loads.now.slots t))) (search rules)
+
+pub returns : goal.returns
+returns c = search rules

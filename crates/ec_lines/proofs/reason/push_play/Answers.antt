@@ -1,4 +1,4 @@
-use Rattle.std.proofs.Common.{codes}
+use Rattle.std.proofs.Common.{rules, codes}
 use Rattle.std.specs.Fmt.{decimal}
 use Rattle.ec_lines.proofs.KeyLemmas.{behind_two, behind_six}
 use Rattle.ec_lines.proofs.reason.push_play.Goals as goal
@@ -12,3 +12,6 @@ pub returns-in-StartCounter-clause-items : goal.returns-in-StartCounter-clause-i
 returns-in-StartCounter-clause-items c =
     let f = c.in-StartCounter in
     rw f.is (behind_two c.args.line.now.items (codes "P6 StartCounter ") (decimal f.frame) _ c.push_one.new.line.items _ c.push_one.ensures.items c.push_pair-in-StartCounter.ensures.items)
+
+pub returns-in-Ring-clause-items : goal.returns-in-Ring-clause-items
+returns-in-Ring-clause-items c = search rules

@@ -1,4 +1,4 @@
-use Rattle.std.proofs.Common.{length, ap, ◌∙◌}
+use Rattle.std.proofs.Common.{rules, length, ap, ◌∙◌}
 use Rattle.ec_play_threads.specs.Plays.{IsLack}
 use Rattle.ec_play_lines.proofs.PlayLemmas.{as_lack, as_many, new_right, only_lacks}
 use Rattle.ec_play_lines.proofs.played.play_together.Goals as goal
@@ -21,3 +21,9 @@ returns-clause-err g c =
     let right = new_right c.play_is_right.ensures.right c.args.units.now c.args.mapping.now c.as_slice-2.result.now _ line.field-0.slaves.items c.requires (c.as_slice-2.ensures.value ∙ line.ensures.image) line.ensures.slaves line.ensures.fit in
     let answer = as_lack c.args.units.now c.args.mapping.now c.as_slice-2.result.now _ line.field-0.slaves.items c.play_plain.result c.play_plain.ensures.answer in
     only_lacks IsLack c.args.units.now c.args.mapping.now c.as_slice-2.result.now _ line.field-0.slaves.items c.play_plain.result right answer
+
+pub returns-then-len-le-MOST_THREADS-clause-answer : goal.returns-then-len-le-MOST_THREADS-clause-answer
+returns-then-len-le-MOST_THREADS-clause-answer g c = search rules
+
+pub play_threads-requires-clause-few : goal.play_threads-requires-clause-few
+play_threads-requires-clause-few g c = search rules

@@ -6,3 +6,6 @@ returns-clause-paths c = search rules
 
 pub returns-clause-out : goal.returns-clause-out
 returns-clause-out c = search rules
+
+pub returns-clause-named : goal.returns-clause-named
+returns-clause-named c = search rules

@@ -1,0 +1,5 @@
+use Rattle.std.proofs.Common.{rules}
+use Rattle.ec_words.proofs.words.line_of.Goals as goal
+
+pub returns-in-check-clause-named : goal.returns-in-check-clause-named
+returns-in-check-clause-named c = search rules
