@@ -104,18 +104,38 @@ fn run_all<S: Search + Send + Sync, R: Threads + Wait + Sync, G: Gate + Sync>(
     Some(joined(rt, handles, seeded.unwrap_or(Ended::Done)))
 }
 
-/// What that many workers (1 to 16) share beside the book: a bound with a reader for each, and tickets for each.
-fn shared_means(
+/// What workers share beside the book, a bound with a reader for each and tickets for each, and room for what comes of each.
+#[derive(Drop)]
+struct Means<A: Drop, B: Drop, C: Drop> {
+    bound: Bound,
+    readers: Vec<Reader>,
+    tickets: Vec<Tickets>,
+    slots: Vec<A>,
+    back: Vec<B>,
+    handles: Vec<C>,
+}
+
+/// The means of that many workers (1 to 16).
+fn gathered<A: Drop, B: Drop, C: Drop>(
     alloc: Global,
     workers: usize,
-) -> Result<(Bound, Vec<Reader>, Vec<Tickets>), AllocError>
+) -> Result<Means<A, B, C>, AllocError>
     requires { (1 ≤ workers) × (workers ≤ 16) }
-    ensures readers { IfOk result (λ r. (vec_len r.1 ≡ workers) × All (IsNewReader r.0) r.1.items) }
-    ensures tickets { IfOk result (λ r. vec_len r.2 ≡ workers) }
+    ensures readers { IfOk result (λ m. (vec_len m.readers ≡ workers) × All (IsNewReader m.bound) m.readers.items) }
+    ensures tickets { IfOk result (λ m. vec_len m.tickets ≡ workers) }
+    ensures slots { IfOk result (λ m. (vec_len m.slots ≡ 0) × (workers ≤ vec_capacity m.slots)) }
+    ensures back { IfOk result (λ m. (vec_len m.back ≡ 0) × (workers ≤ vec_capacity m.back)) }
+    ensures handles { IfOk result (λ m. (vec_len m.handles ≡ 0) × (workers ≤ vec_capacity m.handles)) }
 {
     let (bound, readers) = Bound::new(alloc, workers)?;
-    let tickets = Tickets::new(alloc, workers)?;
-    Ok((bound, readers, tickets))
+    Ok(Means {
+        bound,
+        readers,
+        tickets: Tickets::new(alloc, workers)?,
+        slots: Vec::with_capacity(alloc, workers)?,
+        back: Vec::with_capacity(alloc, workers)?,
+        handles: Vec::with_capacity(alloc, workers)?,
+    })
 }
 
 /// The search of a ledger, by as many workers as it has parts.
@@ -145,16 +165,17 @@ fn search_on<S: Search + Send + Sync, R: Threads + Wait + Sync, G: Gate + Sync>(
         pieces: book.open_pieces(),
         greedy,
     };
-    let Ok((bound, readers, tickets)) = shared_means(alloc, workers) else {
-        return Err(CrewFault::OutOfMemory);
-    };
-    let Ok(slots) = Vec::with_capacity(alloc, workers) else {
-        return Err(CrewFault::OutOfMemory);
-    };
-    let Ok(back) = Vec::with_capacity(alloc, workers) else {
-        return Err(CrewFault::OutOfMemory);
-    };
-    let Ok(handles) = Vec::with_capacity(alloc, workers) else {
+    let Ok(
+        Means {
+            bound,
+            readers,
+            tickets,
+            slots,
+            back,
+            handles,
+        },
+    ) = gathered(alloc, workers)
+    else {
         return Err(CrewFault::OutOfMemory);
     };
     let Ok((shared, seats)) = Shared::<S>::new(alloc, blank, book, units, order, workers) else {

@@ -1,4 +1,4 @@
-use Rattle.std.proofs.Common.{◌≡◌, length, refl, sym, subst, ◌∙◌}
+use Rattle.std.proofs.Common.{rules, ◌≡◌, length, refl, sym, subst, ◌∙◌}
 use Rattle.std.proofs.lemmas.List.{length-map}
 use Rattle.std.proofs.lemmas.Result.{err_from_is_err_and}
 use Rattle.ec_units.specs.Load.{load_of, loads_of}
@@ -85,3 +85,6 @@ returns-clause-sound c =
     let found = found_is (loads_of us) n v c.args.loads.now c.is_turned-turned.result c.in_ok-value.value v.level c.as_slice-order.result.now c.walk.result c.requires c.is_turned-turned.ensures c.in_ok-value.ensures.ok.0 refl c.as_slice-order.ensures c.walk.ensures.judged in
     let yes_of : IsCertified us n v = record { head = head; shown = tree_from us n v c.in_ok-walk.field-0 low (sym found ∙ c.in_ok-walk.was) } in
     claim_from c.trees_bound.ensures c.levels_bound.ensures us n v _ yes_of (c.verdict_at.ensures v.best c.in_ok-value.ensures.ok.0)
+
+pub returns-then-not-is_for-clause-memory : goal.returns-then-not-is_for-clause-memory
+returns-then-not-is_for-clause-memory c = search rules

@@ -1,4 +1,4 @@
-use Rattle.std.proofs.Common.{ℕ, List, map, sym, ap, ◌∙◌}
+use Rattle.std.proofs.Common.{rules, ℕ, List, map, sym, ap, ◌∙◌}
 use Rattle.std.proofs.lemmas.List.{map-append}
 use Rattle.std.specs.declared.thread.PromisedHandle.{PromisedHandle}
 use Rattle.arrayvec.specs.ArrayVec.{ArrayVec}
@@ -27,3 +27,6 @@ returns-in-Some-clause-frames g c =
           ∙ ap (λ w. line_outs g.X.Pass.out g.X.Pass.next (map slave c.args.handles.items) (bytes_in w)) c.in-Some.ensures.1,
     ))
     c.join_all.ensures.frames
+
+pub returns-in-None-clause-fault : goal.returns-in-None-clause-fault
+returns-in-None-clause-fault g c = search rules

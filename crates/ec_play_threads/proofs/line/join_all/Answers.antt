@@ -1,4 +1,5 @@
-use Rattle.std.proofs.Common.{rules, ◌≡◌, ◌∙◌, ◌++◌, ◌∷◌, ap, sym, map, List, refl, subst, append_assoc}
+use Rattle.std.proofs.lemmas.Grind.{common_steps}
+use Rattle.std.proofs.Common.{arith, rules, ◌≡◌, ◌∙◌, ◌++◌, ◌∷◌, ap, sym, map, List, refl, subst, append_assoc}
 use Rattle.std.specs.Prelude.{IfSome}
 use Rattle.std.specs.Vec.Iter.{into_iter_items}
 use Rattle.rtrb.specs.Ends.{SameRing}
@@ -38,3 +39,6 @@ loop-handle-preserved g c =
       o ∙ ap (λ hs. line_outs out next (map slave hs) sent0) (sym items) ∙ i.2,
       rw (c.in-Ok-push.ensures.items, append_assoc) (ap (λ fs. c.loop-handle.slaves.items ++ fs) f ∙ ap (λ hs. c.loop-handle.slaves.items ++ line_finals out next (map slave hs) sent0) (sym items) ∙ i.3),
     )
+
+pub returns-clause-frames : goal.returns-clause-frames
+returns-clause-frames g c = grind (arith, common_steps)

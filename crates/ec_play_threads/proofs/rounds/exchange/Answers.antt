@@ -1,4 +1,5 @@
-use Rattle.std.proofs.Common.{◌++◌, length, map, refl, sym, ap, ◌∙◌, arith, append-nil}
+use Rattle.std.proofs.lemmas.Grind.{common_steps}
+use Rattle.std.proofs.Common.{rules, ◌++◌, length, map, refl, sym, ap, ◌∙◌, arith, append-nil}
 use Rattle.rtrb.specs.Ring.{sent, received}
 use Rattle.ec_play.specs.Faults.{first_fault}
 use Rattle.ec_play.specs.Trips.{sent_in}
@@ -19,3 +20,9 @@ loop-init g c =
       room = c.in-Ok.ensures.exact;
       right = ap (λ w. first_fault c.args.from (map sent_in c.args.due.now) (bytes_in w)) none ∙ none_yet sent_in c.args.from c.args.due.now;
     }
+
+pub returns-then-len-due-clause-many : goal.returns-then-len-due-clause-many
+returns-then-len-due-clause-many g c = search rules
+
+pub returns-in-Some-take_next-clause-fault : goal.returns-in-Some-take_next-clause-fault
+returns-in-Some-take_next-clause-fault g c = grind (arith, common_steps)

@@ -5,3 +5,6 @@ use Rattle.ec_tickets.proofs.bound.Bound.lower.Goals as goal
 
 pub fetch_min-requires : goal.fetch_min-requires
 fetch_min-requires c = (ap (λ (r : ReaderView). r.bound) c.reader.view_is ∙ c.requires.ours ∙ sym c.self.view_is, search rules, lowers _ _ _ _)
+
+pub returns : goal.returns
+returns c = search rules

@@ -5,3 +5,6 @@ use Rattle.ec_tickets.proofs.bound.Bound.read.Goals as goal
 
 pub load-requires : goal.load-requires
 load-requires c = (ap (λ (r : ReaderView). r.bound) c.reader.view_is ∙ c.requires ∙ sym c.self.view_is, search rules, sees _ _ _)
+
+pub returns : goal.returns
+returns c = search rules

@@ -1,0 +1,5 @@
+use Rattle.std.proofs.Common.{rules}
+use Rattle.ec_bounds.proofs.bound.tick_bound.Goals as goal
+
+pub returns : goal.returns
+returns c = search rules
