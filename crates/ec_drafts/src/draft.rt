@@ -1,6 +1,6 @@
 //! A text under way.
 
-ghost use Rattle.std.specs.Prelude.{◌≡◌, [], None, Some, IfOk, string_bytes};
+ghost use Rattle.std.specs.Prelude.{◌≡◌, [], None, Some, IfErr, IfOk, string_bytes};
 ghost use Rattle.ec_drafts.specs.Drafts.{IsAdded};
 
 use std::alloc::{AllocError, Global};
@@ -56,7 +56,8 @@ impl Draft {
     ///
     /// `AllocError` where memory ran out over a piece.
     pub fn finish(self) -> Result<String, AllocError>
-        ensures { IfOk result (λ text. self ≡ Some (string_bytes text)) }
+        ensures ok { IfOk result (λ text. self ≡ Some (string_bytes text)) }
+        ensures err { IfErr result (λ _. self ≡ None) }
     {
         if self.is_whole {
             Ok(self.text)
