@@ -1,25 +1,27 @@
-ghost use Rattle.std.specs.Prelude.{◌≡◌};
+ghost use Rattle.std.specs.Prelude.{◌≡◌, length, sum_by};
 
+use super::byte_of;
 use ec_frames::*;
-use std::test::Fail;
+use std::alloc::{AllocError, Global};
+use std::fmt::Write;
 
-/// The table of the standard by hand: code, name, kind of address, reads, writes.
-const TABLE: [(u8, &[u8], AddressKind, bool, bool); 15] = [
-    (0, b"NOP", AddressKind::None, false, false),
-    (1, b"APRD", AddressKind::Position, true, false),
-    (2, b"APWR", AddressKind::Position, false, true),
-    (3, b"APRW", AddressKind::Position, true, true),
-    (4, b"FPRD", AddressKind::Station, true, false),
-    (5, b"FPWR", AddressKind::Station, false, true),
-    (6, b"FPRW", AddressKind::Station, true, true),
-    (7, b"BRD", AddressKind::Broadcast, true, false),
-    (8, b"BWR", AddressKind::Broadcast, false, true),
-    (9, b"BRW", AddressKind::Broadcast, true, true),
-    (10, b"LRD", AddressKind::Logical, true, false),
-    (11, b"LWR", AddressKind::Logical, false, true),
-    (12, b"LRW", AddressKind::Logical, true, true),
-    (13, b"ARMW", AddressKind::Position, true, true),
-    (14, b"FRMW", AddressKind::Station, true, true),
+/// The table of the standard by hand: code, name, kind of address, reads, writes. A code stands at its own place.
+const TABLE: [(u8, &str, AddressKind, bool, bool); 15] = [
+    (0, "NOP", AddressKind::None, false, false),
+    (1, "APRD", AddressKind::Position, true, false),
+    (2, "APWR", AddressKind::Position, false, true),
+    (3, "APRW", AddressKind::Position, true, true),
+    (4, "FPRD", AddressKind::Station, true, false),
+    (5, "FPWR", AddressKind::Station, false, true),
+    (6, "FPRW", AddressKind::Station, true, true),
+    (7, "BRD", AddressKind::Broadcast, true, false),
+    (8, "BWR", AddressKind::Broadcast, false, true),
+    (9, "BRW", AddressKind::Broadcast, true, true),
+    (10, "LRD", AddressKind::Logical, true, false),
+    (11, "LWR", AddressKind::Logical, false, true),
+    (12, "LRW", AddressKind::Logical, true, true),
+    (13, "ARMW", AddressKind::Position, true, true),
+    (14, "FRMW", AddressKind::Station, true, true),
 ];
 
 /// The frame of one LRW of six zero bytes at 0x00010000, by hand. 26 zeros fill up to 60 bytes.
@@ -28,6 +30,35 @@ const SIX_BYTES: [u8; 60] = [
     0x0C, 0x00, 0x00, 0x00, 0x01, 0x00, 0x06, 0x00, 0x00, 0x00, 0, 0, 0, 0, 0, 0, 0, 0, 0, 0, 0, 0,
     0, 0, 0, 0, 0, 0, 0, 0, 0, 0, 0, 0, 0, 0, 0, 0, 0, 0, 0, 0, 0, 0,
 ];
+
+/// Bytes of `SIX_BYTES` that are changed, each its place and in hex what it becomes, and what is read then: the fault or
+/// the datagrams. Words without an equals sign are remarks.
+const CHANGES: &str = "\
+nothing => View { command: Lrw, index: 0, address: 65536, circulating: false, event: 0, counter: 0, bytes: [0, 0, 0, 0, 0, 0] }
+12=08 13=00 => F5 NotEtherCat
+13=00 => F5 NotEtherCat
+15=40 => F6 FrameType 4
+14=FF 15=17 => F7 Length
+16=0F => F8 UnknownCommand 15
+14=11 => F9 DataPastEnd
+23=80 => F10 MoreAtEnd
+14=13 => F11 RestAfterLast
+no datagram at all: 14=00 => F9 DataPastEnd
+of two faults the first: 13=00 15=40 => F5 NotEtherCat
+of two faults the first: 14=FF 15=47 => F6 FrameType 4
+of two faults the first: 14=FF 15=17 16=0F => F7 Length
+of two faults the first: 14=09 16=0F => F9 DataPastEnd
+of two faults the first: 14=0A 16=0F => F8 UnknownCommand 15
+addresses aren't looked at: 00=01 06=03 => View { command: Lrw, index: 0, address: 65536, circulating: false, event: 0, counter: 0, bytes: [0, 0, 0, 0, 0, 0] }
+nor reserved bits: 15=18 23=38 => View { command: Lrw, index: 0, address: 65536, circulating: false, event: 0, counter: 0, bytes: [0, 0, 0, 0, 0, 0] }
+nor what follows the length: 34=AA 59=01 => View { command: Lrw, index: 0, address: 65536, circulating: false, event: 0, counter: 0, bytes: [0, 0, 0, 0, 0, 0] }
+each field: 17=09 19=01 23=78 24=34 25=12 26=07 31=08 32=01 33=02 => View { command: Lrw, index: 9, address: 65792, circulating: true, event: 4660, counter: 513, bytes: [7, 0, 0, 0, 0, 8] }";
+
+/// The datagrams of a frame of three.
+const THREE: &str = "\
+View { command: Brd, index: 0, address: 19922944, circulating: false, event: 0, counter: 0, bytes: [1, 2] }\
+View { command: Nop, index: 1, address: 0, circulating: false, event: 0, counter: 0, bytes: [] }\
+View { command: Fpwr, index: 2, address: 4294902761, circulating: false, event: 0, counter: 0, bytes: [3, 4, 5] }";
 
 fn lrw(len: u16) -> Datagram
     ensures { result.len ≡ len }
@@ -39,133 +70,125 @@ fn lrw(len: u16) -> Datagram
     }
 }
 
-/// `SIX_BYTES` with these bytes changed.
-fn changed(changes: &[(usize, u8)]) -> [u8; 60] {
+/// `SIX_BYTES` with the bytes of a row changed.
+fn changed(row: &str) -> [u8; 60] {
     let mut bytes = SIX_BYTES;
-    for &(at, byte) in changes {
+    for word in row.split_whitespace() {
+        let (at, byte) = word.split_once('=').unwrap_or(("", ""));
+        let at = at.parse::<usize>().unwrap_or(60);
         if at < 60 {
-            bytes[at] = byte;
+            bytes[at] = byte_of(byte);
         }
     }
     bytes
 }
 
-#[test]
-fn each_code(rt: HostRuntime) -> Result<(), Fail> {
-    for (code, name, kind, does_read, does_write) in TABLE {
-        let command = command_of(code).ok_or("a code of the table")?;
-        assert_eq!(rt; code_of(command), code);
-        assert_eq!(rt; name_of(command).as_bytes(), name);
-        assert_eq!(rt; address_kind(command), kind);
-        assert_eq!(rt; reads(command), does_read, "{code}");
-        assert_eq!(rt; writes(command), does_write, "{code}");
+/// The datagrams of a frame, one after the other.
+fn views_of(alloc: Global, parsed: &Parsed<'_>) -> Result<String, AllocError> {
+    let mut text = String::new(alloc);
+    for view in datagrams(parsed) {
+        write!(text, "{view:?}")?;
     }
-    for code in 15..=255u8 {
-        assert_eq!(rt; command_of(code), None, "{code}");
+    Ok(text)
+}
+
+/// What is read of a frame: the fault, or the datagrams.
+fn reading(alloc: Global, frame: &[u8]) -> Result<String, AllocError> {
+    match parse(frame) {
+        Ok(parsed) => views_of(alloc, &parsed),
+        Err(fault) => fault.to_string(alloc),
     }
-    Ok(())
+}
+
+/// What is told of the command of a code, in the order of the table.
+fn row_of(code: u8) -> Option<(u8, &'static str, AddressKind, bool, bool)> {
+    let command = command_of(code)?;
+    Some((
+        code_of(command),
+        name_of(command),
+        address_kind(command),
+        reads(command),
+        writes(command),
+    ))
 }
 
 #[test]
-fn six_bytes_on_the_wire(rt: HostRuntime) -> Result<(), Fail> {
-    let frame = build(&[lrw(6)], &[0; 6])?;
-    assert_eq!(rt; frame.as_slice(), SIX_BYTES.as_slice());
-    Ok(())
+fn each_code(rt: HostRuntime) {
+    for code in 0..=255u8 {
+        let row = TABLE.get(usize::from(code)).copied();
+        assert_eq!(rt; row_of(code), row, "{code}");
+    }
+}
+
+/// How long the frame of these datagrams is, or why there is none.
+fn length_of(list: &[Datagram], bytes: &[u8]) -> Result<usize, BuildFault>
+    requires { sum_by (λ d. d.len) list.now ≡ length bytes.now }
+{
+    Ok(build(list, bytes)?.len())
 }
 
 #[test]
-fn limits_of_build(rt: HostRuntime) -> Result<(), Fail> {
-    assert_eq!(rt; build(&[], &[]).err(), Some(BuildFault::NoDatagram));
-    assert_eq!(rt; build(&[lrw(1486)], &[0; 1486])?.len(), 1514);
-    assert_eq!(rt;
-        build(&[lrw(1487)], &[0; 1487]).err(),
-        Some(BuildFault::DataLength)
-    );
-    assert_eq!(rt; build(&[lrw(737), lrw(737)], &[0; 1474])?.len(), 1514);
-    assert_eq!(rt;
-        build(&[lrw(737), lrw(738)], &[0; 1475]).err(),
-        Some(BuildFault::FrameFull)
-    );
-    Ok(())
-}
-
-#[test]
-fn faults_of_changed_frames(rt: HostRuntime) {
-    let rows: [(&[(usize, u8)], Option<FrameFault>); 18] = [
-        (&[], None),
-        (&[(12, 0x08), (13, 0x00)], Some(FrameFault::NotEtherCat)),
-        (&[(13, 0x00)], Some(FrameFault::NotEtherCat)),
-        (&[(15, 0x40)], Some(FrameFault::FrameType(4))),
-        (&[(14, 0xFF), (15, 0x17)], Some(FrameFault::Length)),
-        (&[(16, 0x0F)], Some(FrameFault::UnknownCommand(15))),
-        (&[(14, 0x11)], Some(FrameFault::DataPastEnd)),
-        (&[(23, 0x80)], Some(FrameFault::MoreAtEnd)),
-        (&[(14, 0x13)], Some(FrameFault::RestAfterLast)),
-        // no datagram at all
-        (&[(14, 0x00)], Some(FrameFault::DataPastEnd)),
-        // two faults: the first of them
-        (&[(13, 0x00), (15, 0x40)], Some(FrameFault::NotEtherCat)),
-        (&[(14, 0xFF), (15, 0x47)], Some(FrameFault::FrameType(4))),
-        (
-            &[(14, 0xFF), (15, 0x17), (16, 0x0F)],
-            Some(FrameFault::Length),
-        ),
-        (&[(14, 0x09), (16, 0x0F)], Some(FrameFault::DataPastEnd)),
-        (
-            &[(14, 0x0A), (16, 0x0F)],
-            Some(FrameFault::UnknownCommand(15)),
-        ),
-        // what isn't looked at: the addresses, the reserved bits, what follows the length
-        (&[(0, 0x01), (6, 0x03)], None),
-        (&[(15, 0x18), (23, 0x38)], None),
-        (&[(34, 0xAA), (59, 0x01)], None),
+fn limits_of_build(rt: HostRuntime) -> Result<(), AllocError> {
+    let lengths = [
+        length_of(&[], &[]),
+        length_of(&[lrw(1486)], &[0; 1486]),
+        length_of(&[lrw(1487)], &[0; 1487]),
+        length_of(&[lrw(737), lrw(737)], &[0; 1474]),
+        length_of(&[lrw(737), lrw(738)], &[0; 1475]),
     ];
-    for (changes, fault) in rows {
-        assert_eq!(rt; parse(&changed(changes)).err(), fault, "{changes:?}");
+    let wanted = [
+        Err(BuildFault::NoDatagram),
+        Ok(1514),
+        Err(BuildFault::DataLength),
+        Ok(1514),
+        Err(BuildFault::FrameFull),
+    ];
+    let text = BuildFault::FrameFull.to_string(rt.alloc())?;
+    assert_eq!(rt; (lengths, text.as_str()), (wanted, "F3 FrameFull"));
+    Ok(())
+}
+
+#[test]
+fn changed_frames(rt: HostRuntime) -> Result<(), AllocError> {
+    for row in CHANGES.lines() {
+        let (changes, wanted) = row.split_once(" => ").unwrap_or((row, ""));
+        let answer = reading(rt.alloc(), &changed(changes))?;
+        assert_eq!(rt; answer.as_str(), wanted, "{changes}");
     }
+    Ok(())
 }
 
 #[test]
 fn cut_frames(rt: HostRuntime) {
-    for cut in 0..=60 {
+    for cut in 0..61usize {
         let fault = match cut {
             0..=15 => Some(FrameFault::Short),
             16..=33 => Some(FrameFault::Length),
             _ => None,
         };
-        assert_eq!(rt; parse(&SIX_BYTES[..cut]).err(), fault, "{cut} bytes");
+        assert!(rt; parse(&SIX_BYTES[..cut]).err() == fault, "{cut} bytes");
     }
 }
 
 #[test]
-fn fields_of_a_datagram(rt: HostRuntime) -> Result<(), Fail> {
-    let frame = changed(&[
-        (17, 9),
-        (19, 1),
-        (23, 0x78),
-        (24, 0x34),
-        (25, 0x12),
-        (26, 7),
-        (31, 8),
-        (32, 0x01),
-        (33, 0x02),
-    ]);
-    let parsed = parse(&frame)?;
-    let mut views = datagrams(&parsed);
-    let view = views.next().ok_or("a datagram")?;
-    assert!(rt; views.next().is_none());
-    assert_eq!(rt; view.command, Command::Lrw);
-    assert_eq!(rt; view.index, 9);
-    assert_eq!(rt; view.address, 0x0001_0100);
-    assert!(rt; view.circulating);
-    assert_eq!(rt; view.event, 0x1234);
-    assert_eq!(rt; view.counter, 0x0201);
-    assert_eq!(rt; view.bytes, [7, 0, 0, 0, 0, 8].as_slice());
+fn six_bytes_on_the_wire(rt: HostRuntime) -> Result<(), BuildFault> {
+    let frame = build(&[lrw(6)], &[0; 6])?;
+    assert_eq!(rt; frame.as_slice(), SIX_BYTES.as_slice());
     Ok(())
 }
 
+/// What is read of the frame of these datagrams, or why there is none.
+fn read_back(alloc: Global, list: &[Datagram], bytes: &[u8]) -> Result<String, AllocError>
+    requires { sum_by (λ d. d.len) list.now ≡ length bytes.now }
+{
+    match build(list, bytes) {
+        Ok(frame) => reading(alloc, frame.as_slice()),
+        Err(fault) => fault.to_string(alloc),
+    }
+}
+
 #[test]
-fn datagrams_in_order(rt: HostRuntime) -> Result<(), Fail> {
+fn datagrams_in_order(rt: HostRuntime) -> Result<(), AllocError> {
     let list = [
         Datagram {
             command: Command::Brd,
@@ -183,38 +206,11 @@ fn datagrams_in_order(rt: HostRuntime) -> Result<(), Fail> {
             len: 3,
         },
     ];
-    let frame = build(&list, &[1, 2, 3, 4, 5])?;
-    assert_eq!(rt; frame.len(), 60);
-    let parsed = parse(&frame)?;
-    let mut index = 0u8;
-    let pieces: [&[u8]; 3] = [&[1, 2], &[], &[3, 4, 5]];
-    for ((view, datagram), bytes) in datagrams(&parsed).zip(list).zip(pieces) {
-        assert_eq!(rt; view.command, datagram.command);
-        assert_eq!(rt; view.address, datagram.address);
-        assert_eq!(rt; view.index, index);
-        assert_eq!(rt; view.bytes, bytes);
-        assert!(rt; !view.circulating);
-        assert_eq!(rt; (view.event, view.counter), (0, 0));
-        index = index.saturating_add(1);
-    }
-    assert_eq!(rt; index, 3);
-    Ok(())
-}
-
-#[test]
-fn printed_faults(rt: HostRuntime) -> Result<(), Fail> {
-    let alloc = rt.alloc();
+    let bytes = [1, 2, 3, 4, 5];
+    let answer = read_back(rt.alloc(), &list, &bytes)?;
     assert_eq!(rt;
-        format!(in alloc; "{}", BuildFault::FrameFull)?.as_bytes(),
-        b"F3 FrameFull".as_slice()
-    );
-    assert_eq!(rt;
-        format!(in alloc; "{}", FrameFault::FrameType(4))?.as_bytes(),
-        b"F6 FrameType 4".as_slice()
-    );
-    assert_eq!(rt;
-        format!(in alloc; "{}", FrameFault::RestAfterLast)?.as_bytes(),
-        b"F11 RestAfterLast".as_slice()
+        (length_of(&list, &bytes), answer.as_str()),
+        (Ok(60), THREE)
     );
     Ok(())
 }

@@ -1,7 +1,6 @@
 ghost use Rattle.std.specs.Prelude.{◌≤◌, All};
 
 use ec_hyper::*;
-use std::test::Fail;
 
 // The hyperperiod in ticks, or 0 where it is too long.
 fn ticks_of(periods: &[u16]) -> u32
@@ -13,25 +12,34 @@ fn ticks_of(periods: &[u16]) -> u32
     }
 }
 
-#[test]
-fn hyperperiods(rt: HostRuntime) -> Result<(), Fail> {
-    assert_eq!(rt; ticks_of(&[]), 1);
-    assert_eq!(rt; ticks_of(&[1]), 1);
-    assert_eq!(rt; ticks_of(&[2, 3]), 6);
-    assert_eq!(rt; ticks_of(&[4, 6, 10]), 60);
-    assert_eq!(rt; ticks_of(&[60, 17]), 1020);
-    assert_eq!(rt; ticks_of(&[31, 33]), 1023);
-    assert_eq!(rt; ticks_of(&[25, 41]), 0);
-    assert_eq!(rt; ticks_of(&[60, 59]), 0);
-    Ok(())
+/// How often a unit of this period travels in the hyperperiod of 4 and 6.
+fn times_of(period: u16) -> Option<u32>
+    requires { 1 ≤ period }
+{
+    let hyper = Hyper::of(&[4, 6]).ok()?;
+    Some(hyper.times(period))
 }
 
 #[test]
-fn every_fourth_tick(rt: HostRuntime) -> Result<(), Fail> {
-    assert!(rt; Hyper::active(4, 3, 7));
-    assert!(rt; !Hyper::active(4, 3, 8));
-    let hyper = Hyper::of(&[4, 6]).ok().ok_or("too long")?;
-    assert_eq!(rt; hyper.times(4), 3);
-    assert_eq!(rt; hyper.times(6), 2);
-    Ok(())
+fn hyperperiods(rt: HostRuntime) {
+    let ticks = [
+        ticks_of(&[]),
+        ticks_of(&[1]),
+        ticks_of(&[2, 3]),
+        ticks_of(&[4, 6, 10]),
+        ticks_of(&[60, 17]),
+        ticks_of(&[31, 33]),
+        ticks_of(&[25, 41]),
+        ticks_of(&[60, 59]),
+    ];
+    let every_fourth = [Hyper::active(4, 3, 7), Hyper::active(4, 3, 8)];
+    let times = [times_of(4), times_of(6)];
+    assert_eq!(rt;
+        (ticks, every_fourth, times),
+        (
+            [1, 1, 6, 60, 1020, 1023, 0, 0],
+            [true, false],
+            [Some(3), Some(2)]
+        )
+    );
 }

@@ -3,7 +3,6 @@
 use ec_placing::{PlacingFault, place_text};
 use ec_units::Place;
 use std::alloc::{AllocError, Global};
-use std::fmt::Write;
 
 /// Rows of three: the places, each a phase and a slot; the text; and what it becomes, or `Form` or `NotUnits`. Rows are
 /// parted by `~`, and the three by `^`.
@@ -159,30 +158,22 @@ fn placed(alloc: Global, text: &str, places: &[Place]) -> Result<String, AllocEr
     }
 }
 
-/// The rows whose text becomes something else.
-fn wrong_rows(alloc: Global, rows: &str) -> Result<String, AllocError> {
-    let mut wrong = String::new(alloc);
-    for row in rows.split('~') {
-        let mut parts = row.split('^');
-        let places = places_of(alloc, parts.next().unwrap_or(""))?;
-        let text = parts.next().unwrap_or("");
-        let becomes = placed(alloc, text, &places)?;
-        if becomes.as_str() != parts.next().unwrap_or("no row") {
-            write!(wrong, "{row}\nbecomes {}\n", becomes.as_str())?;
-        }
-    }
-    Ok(wrong)
+/// A part of a row.
+fn part_of(row: &str, at: usize) -> &str {
+    row.split('^').nth(at).unwrap_or("no part")
+}
+
+/// What the text of a row becomes.
+fn becomes(alloc: Global, row: &str) -> Result<String, AllocError> {
+    let places = places_of(alloc, part_of(row, 0))?;
+    placed(alloc, part_of(row, 1), places.as_slice())
 }
 
 #[test]
 fn texts_with_their_places(rt: HostRuntime) -> Result<(), AllocError> {
-    assert_eq!(rt; wrong_rows(rt.alloc(), ROWS)?.as_str(), "");
-    Ok(())
-}
-
-#[test]
-fn a_wrong_text_is_told(rt: HostRuntime) -> Result<(), AllocError> {
-    let wrong = wrong_rows(rt.alloc(), "0 0^tick_ns^Form")?;
-    assert_eq!(rt; wrong.as_str(), "0 0^tick_ns^Form\nbecomes NotUnits\n");
+    for row in ROWS.split('~') {
+        let text = becomes(rt.alloc(), row)?;
+        assert_eq!(rt; text.as_str(), part_of(row, 2), "{row}");
+    }
     Ok(())
 }

@@ -1,4 +1,4 @@
-use Rattle.std.proofs.Common.{ap, ◌∙◌, Err}
+use Rattle.std.proofs.Common.{rules, ap, ◌∙◌, Err}
 use Rattle.std.proofs.lemmas.Result.{err_from_is_err_and}
 use Rattle.ec_workers.specs.Answers.{asked_for}
 use Rattle.ec_answers.proofs.PlanLemmas.{plan_unread}
@@ -8,3 +8,9 @@ pub returns-in_err-line-clause-told : goal.returns-in_err-line-clause-told
 returns-in_err-line-clause-told g c = λ read.
     let p = err_from_is_err_and c.from_residual.result c.from_residual.ensures.1 in
     plan_unread _ (asked_for c.args.workers c.args.nodes) c.in_err-line.field-0.0 c.from_residual.result (p.1 ∙ ap (λ e. Err e) p.2) (c.in_err-line.ensures.told read)
+
+pub returns-clause-told : goal.returns-clause-told
+returns-clause-told g c = search rules
+
+pub returns-clause-outcome : goal.returns-clause-outcome
+returns-clause-outcome g c = search rules
