@@ -518,6 +518,7 @@ int main(int argc, char **argv) {
             string l = t.substr(at, e - at);
             at = e + 1;
             no++;
+            if (l == "====") break;
             if (l == "~") {
                 first = true;
                 continue;

@@ -3,6 +3,7 @@
 use crate::call::Call;
 use crate::steps::{Dice, agrees};
 use ec_bounds::{Rest, average_bound, full_bound, tick_bound, weight_bound};
+use ec_drafts::Draft;
 use ec_loads::Loads;
 use ec_units::{Place, Units};
 use std::alloc::{AllocError, Global};
@@ -53,26 +54,25 @@ impl Bench {
     }
 
     /// Gives a unit the place that a call says.
-    fn place(&mut self, alloc: Global, call: &Call<'_>) -> Result<String, AllocError> {
+    fn place(&mut self, call: Call<'_>, out: &mut Draft) {
         let unit = call.index(1);
-        let places = call.places(alloc, 2)?;
-        match places.as_slice().first() {
+        match call.place(2) {
             Some(place) if unit < self.loads.places().len() => {
-                self.put(unit, *place);
-                String::from_str(alloc, "-")
+                self.put(unit, place);
+                out.add('-');
             }
-            _ => String::from_str(alloc, "no unit or no place"),
+            _ => out.add("no unit or no place"),
         }
     }
 
     /// Takes the place of the unit away that a call says.
-    fn remove(&mut self, alloc: Global, call: &Call<'_>) -> Result<String, AllocError> {
+    fn remove(&mut self, call: Call<'_>, out: &mut Draft) {
         let unit = call.index(1);
         if unit < self.loads.places().len() {
             self.free(unit);
-            String::from_str(alloc, "-")
+            out.add('-');
         } else {
-            String::from_str(alloc, "no unit")
+            out.add("no unit");
         }
     }
 
@@ -124,47 +124,52 @@ impl Bench {
     }
 
     /// Whether the weights of a call hold at its value.
-    fn weigh(&self, alloc: Global, call: &Call<'_>) -> Result<String, AllocError> {
-        let weights = call.weights(alloc, 2)?;
-        weight_bound(&self.loads, &self.rest, weights.as_slice(), call.number(1)).to_string(alloc)
+    fn weigh(&self, alloc: Global, call: Call<'_>, out: &mut Draft) {
+        let weights = call.weights(alloc, 2, out);
+        out.add(weight_bound(&self.loads, &self.rest, weights.as_slice(), call.number(1)));
     }
 
-    /// What a call of a bound answers.
-    fn bounded(&self, alloc: Global, call: &Call<'_>) -> Result<String, AllocError> {
+    /// The number that a call asks of the loads, if it asks one.
+    fn number(&self, call: Call<'_>) -> Option<u64> {
+        match call.name() {
+            "payload" => Some(u64::from(self.loads.payload(call.count(1), call.small(2)))),
+            "cost" => Some(self.loads.cost(call.count(1))),
+            "raw" => Some(self.loads.raw(call.count(1))),
+            "raw_total" => Some(self.loads.raw_total()),
+            "demand" => Some(u64::from(self.rest.demand())),
+            _ => None,
+        }
+    }
+
+    /// Adds what a call of a tick, a slot or a bound answers.
+    fn bound(&self, alloc: Global, call: Call<'_>, out: &mut Draft) {
         let value = call.number(1);
         match call.name() {
-            "tick_bound" => format!(in alloc; "{:?}", tick_bound(&self.loads, value)),
-            "full_bound" => format!(in alloc; "{:?}", full_bound(&self.loads)),
-            "average_bound" => average_bound(&self.loads, &self.rest, value).to_string(alloc),
-            "weight_bound" => self.weigh(alloc, call),
-            "demand" => self.rest.demand().to_string(alloc),
-            _ => String::from_str(alloc, "no call"),
+            "top" => out.add(format_args!("{:?}", self.loads.top())),
+            "full" => out.add(format_args!("{:?}", self.loads.full())),
+            "tick_bound" => out.add(format_args!("{:?}", tick_bound(&self.loads, value))),
+            "full_bound" => out.add(format_args!("{:?}", full_bound(&self.loads))),
+            "average_bound" => out.add(average_bound(&self.loads, &self.rest, value)),
+            "weight_bound" => self.weigh(alloc, call, out),
+            _ => out.add("no call"),
         }
     }
 
-    /// What a call of the loads answers that leaves them as they are.
-    fn told(&self, alloc: Global, call: &Call<'_>) -> Result<String, AllocError> {
-        match call.name() {
-            "payload" => self
-                .loads
-                .payload(call.count(1), call.small(2))
-                .to_string(alloc),
-            "cost" => self.loads.cost(call.count(1)).to_string(alloc),
-            "raw" => self.loads.raw(call.count(1)).to_string(alloc),
-            "raw_total" => self.loads.raw_total().to_string(alloc),
-            "top" => format!(in alloc; "{:?}", self.loads.top()),
-            "full" => format!(in alloc; "{:?}", self.loads.full()),
-            _ => self.bounded(alloc, call),
+    /// Adds what a call of the loads answers that leaves them as they are.
+    fn tell(&self, alloc: Global, call: Call<'_>, out: &mut Draft) {
+        match self.number(call) {
+            Some(number) => out.add(number),
+            None => self.bound(alloc, call, out),
         }
     }
 
-    /// What a call of the loads or of a bound answers.
-    pub(crate) fn answer(&mut self, alloc: Global, call: &Call<'_>) -> Result<String, AllocError> {
+    /// Adds what a call of the loads or of a bound answers.
+    pub(crate) fn answer(&mut self, alloc: Global, call: Call<'_>, out: &mut Draft) {
         match call.name() {
-            "place" => self.place(alloc, call),
-            "remove" => self.remove(alloc, call),
-            "steps" => self.steps(call.count(1)).to_string(alloc),
-            _ => self.told(alloc, call),
+            "place" => self.place(call, out),
+            "remove" => self.remove(call, out),
+            "steps" => out.add(self.steps(call.count(1))),
+            _ => self.tell(alloc, call, out),
         }
     }
 }

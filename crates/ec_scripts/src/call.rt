@@ -1,13 +1,13 @@
 //! The words of a call.
 
+use ec_drafts::Draft;
 use ec_units::Place;
-use std::alloc::{AllocError, Global};
+use std::alloc::Global;
 
-/// A call: its text, and its words, its name first.
-#[derive(Drop)]
+/// A call: its text, whose first word is its name.
+#[derive(Clone, Copy)]
 pub(crate) struct Call<'a> {
     text: &'a str,
-    words: Vec<&'a str>,
 }
 
 /// A place: its phase and its slot, with a comma between them.
@@ -20,77 +20,71 @@ fn place_of(word: &str) -> Option<Place> {
 }
 
 impl<'a> Call<'a> {
-    pub(crate) fn of(alloc: Global, text: &'a str) -> Result<Call<'a>, AllocError> {
-        let mut words = Vec::new(alloc);
-        for word in text.split_whitespace() {
-            words.push(word)?;
-        }
-        Ok(Call { text, words })
+    pub(crate) fn of(text: &'a str) -> Call<'a> {
+        Call { text }
     }
 
     /// A word, or none.
-    pub(crate) fn word(&self, at: usize) -> &'a str {
-        match self.words.get(at) {
-            Some(word) => word,
-            None => "",
-        }
+    pub(crate) fn word(self, at: usize) -> &'a str {
+        self.text.split_whitespace().nth(at).unwrap_or("")
     }
 
     /// The name.
-    pub(crate) fn name(&self) -> &'a str {
+    pub(crate) fn name(self) -> &'a str {
         self.word(0)
     }
 
     /// The number that a word is, if it is one.
-    pub(crate) fn number(&self, at: usize) -> Option<u64> {
+    pub(crate) fn number(self, at: usize) -> Option<u64> {
         self.word(at).parse::<u64>().ok()
     }
 
     /// The same, where 0 stands for none.
-    pub(crate) fn count(&self, at: usize) -> u32 {
+    pub(crate) fn count(self, at: usize) -> u32 {
         self.word(at).parse::<u32>().ok().unwrap_or(0)
     }
 
-    pub(crate) fn small(&self, at: usize) -> u8 {
+    pub(crate) fn small(self, at: usize) -> u8 {
         self.word(at).parse::<u8>().ok().unwrap_or(0)
     }
 
-    pub(crate) fn index(&self, at: usize) -> usize {
+    pub(crate) fn index(self, at: usize) -> usize {
         self.word(at).parse::<usize>().ok().unwrap_or(usize::MAX)
     }
 
-    /// The places that the words from this one on are, up to the first that is none.
-    pub(crate) fn places(&self, alloc: Global, from: usize) -> Result<Vec<Place>, AllocError> {
+    /// The place that a word is, if it is one.
+    pub(crate) fn place(self, at: usize) -> Option<Place> {
+        place_of(self.word(at))
+    }
+
+    /// The places that the words from this one on are, up to the first that is none. Want of memory is noted in the
+    /// answer.
+    pub(crate) fn places(self, alloc: Global, from: usize, out: &mut Draft) -> Vec<Place> {
         let mut places = Vec::new(alloc);
-        for word in self.words.as_slice().iter().skip(from) {
-            let Some(place) = place_of(word) else {
-                return Ok(places);
-            };
-            places.push(place)?;
+        for word in self.text.split_whitespace().skip(from) {
+            match place_of(word) {
+                Some(place) => note(places.push(place).is_ok(), out),
+                None => break,
+            }
         }
-        Ok(places)
+        places
     }
 
-    /// The numbers that the words from this one on are, up to the first that is none.
-    pub(crate) fn weights(&self, alloc: Global, from: usize) -> Result<Vec<u16>, AllocError> {
+    /// The numbers that the words from this one on are, up to the first that is none. Want of memory is noted in the
+    /// answer.
+    pub(crate) fn weights(self, alloc: Global, from: usize, out: &mut Draft) -> Vec<u16> {
         let mut weights = Vec::new(alloc);
-        for word in self.words.as_slice().iter().skip(from) {
-            let Some(weight) = word.parse::<u16>().ok() else {
-                return Ok(weights);
-            };
-            weights.push(weight)?;
+        for word in self.text.split_whitespace().skip(from) {
+            match word.parse::<u16>() {
+                Ok(weight) => note(weights.push(weight).is_ok(), out),
+                Err(_) => break,
+            }
         }
-        Ok(weights)
-    }
-
-    /// The words from this one on.
-    pub(crate) fn rest(&self, from: usize) -> &[&'a str] {
-        let words = self.words.as_slice();
-        &words[from.min(words.len())..]
+        weights
     }
 
     /// The text after so many words, each with one space behind it.
-    pub(crate) fn after(&self, words: usize) -> &'a str {
+    pub(crate) fn after(self, words: usize) -> &'a str {
         let mut text = self.text;
         for _ in 0..words {
             text = match text.split_once(' ') {
@@ -99,5 +93,12 @@ impl<'a> Call<'a> {
             };
         }
         text
+    }
+}
+
+/// Notes in an answer that memory ran out, where it did.
+pub(crate) fn note(is_given: bool, out: &mut Draft) {
+    if !is_given {
+        out.give_up();
     }
 }

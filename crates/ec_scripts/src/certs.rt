@@ -1,15 +1,20 @@
 //! Certificates as texts, in scripts on one line with a bar for each line feed.
 
-ghost use Rattle.std.specs.Prelude.{Some};
+ghost use Rattle.std.specs.Prelude.{IsTrue, None};
+ghost use Rattle.std.specs.Option.{ForSome};
+ghost use Rattle.ec_cert.specs.Shapes.{cert_view};
+ghost use Rattle.ec_cert.specs.WellFormed.{IsWellFormed};
+ghost use Rattle.ec_workers.specs.Outcomes.{IsPartialCert};
 
 use crate::call::Call;
+use crate::texts::add_unbarred;
 use ec_cert::{Cert, Tree, split_of, well_formed};
 use ec_cert_text::{read_cert, write_cert};
 use ec_checker::check;
+use ec_drafts::Draft;
 use ec_units::Units;
 use ec_wire::Io;
 use std::alloc::{AllocError, Global};
-use std::fmt::Write as _;
 use std::io::{ErrorKind, Write};
 use std::{io, mem};
 
@@ -17,15 +22,16 @@ use std::{io, mem};
 const EXAMPLE: &str =
     "ecplan 1\nslots 1\nunit a 200 2\nunit b 200 3\norder 0 1\nvalue 464\nplace 0 0\nplace 0 0\ntree\nS 2\nS 3\nT 0\nT 4\nT 2\nS 3\nT 3\nT 1\nT 5\nend\n";
 
-/// A writer that takes at most three bytes at a time, and fails where it has no room.
+/// A writer into a text, with bars for line feeds, that takes at most three bytes at a time, and fails where it has no
+/// room.
 #[derive(Drop)]
-struct Slow {
-    held: Vec<u8>,
+struct Slow<'a> {
+    text: &'a mut Draft,
     room: usize,
 }
 
-impl Write for Slow {
-    ghost contents = { λ w. Some w.held.items };
+impl<'a> Write for Slow<'a> {
+    ghost contents = { λ _. None };
 
     fn write(&mut self, buf: &[u8]) -> io::Result<usize> {
         if self.room == 0 {
@@ -33,7 +39,13 @@ impl Write for Slow {
         }
         let count = buf.len().min(3).min(self.room);
         self.room -= count;
-        self.held.extend_from_slice(&buf[..count])?;
+        for byte in &buf[..count] {
+            self.text.add(if *byte == b'\n' {
+                '|'
+            } else {
+                char::from(*byte)
+            });
+        }
         Ok(count)
     }
 
@@ -42,195 +54,227 @@ impl Write for Slow {
     }
 }
 
-/// A text with line feeds for its bars.
-pub(crate) fn unbarred(alloc: Global, text: &str) -> Result<Vec<u8>, AllocError> {
-    let mut bytes = Vec::new(alloc);
-    for byte in text.as_bytes() {
-        bytes.push(if *byte == b'|' { b'\n' } else { *byte })?;
-    }
-    Ok(bytes)
-}
-
-/// A text with bars for its line feeds.
-fn barred(alloc: Global, text: &[u8]) -> Result<String, AllocError> {
-    let mut bytes = Vec::new(alloc);
-    for byte in text {
-        bytes.push(if *byte == b'\n' { b'|' } else { *byte })?;
-    }
-    match String::from_utf8(bytes) {
-        Ok(text) => Ok(text),
-        Err(_) => String::from_str(alloc, "no text"),
-    }
-}
-
-/// What a writer with room for so many bytes gets of a certificate.
-pub(crate) fn written(alloc: Global, cert: &Cert, room: usize) -> Result<String, AllocError> {
+/// Adds what a writer with room for so many bytes gets of a certificate.
+pub(crate) fn add_written(out: &mut Draft, cert: &Cert, room: usize) {
     if !well_formed(cert) {
-        return String::from_str(alloc, "not well formed");
+        return out.add("not well formed");
     }
-    let mut sheet = Slow {
-        held: Vec::new(alloc),
-        room,
-    };
-    let mut io = Io::new(&mut sheet);
-    let answer = write_cert(cert, &mut io);
-    drop(io);
-    let mut text = barred(alloc, sheet.held.as_slice())?;
-    if answer.is_err() {
-        text.push_str(" failed")?;
-    }
-    Ok(text)
-}
-
-/// The example, with the lines from `first` to `last` replaced by `new`.
-fn edited(alloc: Global, first: usize, last: usize, new: &str) -> Result<Vec<u8>, AllocError> {
-    let mut text = String::new(alloc);
-    for (i, line) in EXAMPLE.lines().enumerate() {
-        if i == first.saturating_sub(1) {
-            text.push_str(new)?;
-        }
-        if i < first.saturating_sub(1) || last <= i {
-            text.push_str(line)?;
-            text.push_str("|")?;
-        }
-    }
-    unbarred(alloc, text.as_str())
-}
-
-/// What reading such a text answers: that it is right, or the fault.
-fn reading(alloc: Global, text: &[u8]) -> Result<String, AllocError> {
-    match read_cert(alloc, text) {
-        Ok(_) => String::from_str(alloc, "right"),
-        Err(fault) => format!(in alloc; "{fault:?}"),
+    let is_whole = write_slowly(out, cert, room);
+    if !is_whole {
+        out.add(" failed");
     }
 }
 
-/// What writing such a text's certificate again gives, to a writer with room for so many bytes.
-fn rewritten(alloc: Global, text: &[u8], room: usize) -> Result<String, AllocError> {
-    match read_cert(alloc, text) {
-        Ok(cert) => written(alloc, &cert, room),
-        Err(fault) => format!(in alloc; "{fault:?}"),
-    }
+/// Writes a certificate to a writer with room for so many bytes, and says whether it was enough.
+fn write_slowly(out: &mut Draft, cert: &Cert, room: usize) -> bool
+    requires { IsWellFormed (cert_view cert.now) }
+{
+    let mut slow = Slow { text: out, room };
+    let mut io = Io::new(&mut slow);
+    write_cert(cert, &mut io).is_ok()
 }
 
-/// What the checker answers of such a text for these units.
-fn checked(alloc: Global, units: &Units, text: &[u8]) -> Result<String, AllocError> {
-    match read_cert(alloc, text) {
-        Ok(cert) => format!(in alloc; "{:?}", check(alloc, units, &cert)),
-        Err(fault) => format!(in alloc; "{fault:?}"),
-    }
+/// Adds what the checker answers of a certificate.
+pub(crate) fn add_verdict(out: &mut Draft, alloc: Global, units: &Units, cert: &Cert) {
+    let verdict = check(alloc, units, cert);
+    out.add(format_args!("{verdict:?}"));
 }
 
-/// What the checker answers of such a text's certificate with so many splits of one child each above its tree, which may be
-/// more than a text can have.
-fn towered(alloc: Global, units: &Units, text: &[u8], splits: usize) -> Result<String, AllocError> {
-    let mut cert = match read_cert(alloc, text) {
-        Ok(cert) => cert,
-        Err(fault) => return format!(in alloc; "{fault:?}"),
-    };
-    for _ in 0..splits.min(60) {
-        let mut children = Vec::new(alloc);
-        children.push(mem::replace(&mut cert.tree, Tree::OpenLeaf))?;
-        cert.tree = split_of(alloc, children)?;
-    }
-    format!(in alloc; "{:?}", check(alloc, units, &cert))
-}
-
-/// A text that a call makes: the first bytes of the example, the example with a tab for a byte, or twice; a
-/// certificate of so many splits below one another, of so many units, or so many spaces.
-fn made(alloc: Global, call: &Call<'_>) -> Result<Vec<u8>, AllocError> {
-    let mut bytes = Vec::new(alloc);
-    let count = call.index(1).min(70_000_000);
-    match call.name() {
-        "front" => bytes.extend_from_slice(&EXAMPLE.as_bytes()[..count.min(EXAMPLE.len())])?,
-        "tab" => {
-            bytes.extend_from_slice(EXAMPLE.as_bytes())?;
-            if count < bytes.len() {
-                bytes[count] = 9;
+/// Whether a certificate shows no more than a level, so that a search can go on with it; else adds what the checker
+/// answers of it.
+fn goes_on(out: &mut Draft, alloc: Global, units: &Units, cert: &Cert) -> bool
+    requires { IsWellFormed (cert_view cert.now) }
+    ensures { IsTrue result → IsPartialCert units.now.units units.now.slots (cert_view cert.now) }
+{
+    match check(alloc, units, cert) {
+        Ok(verdict) => match cert.level {
+            Some(_) => true,
+            None => {
+                out.add(format_args!("Ok({verdict:?})"));
+                false
             }
+        },
+        Err(fault) => {
+            out.add(format_args!("Err({fault:?})"));
+            false
         }
-        "twice" => {
-            bytes.extend_from_slice(EXAMPLE.as_bytes())?;
-            bytes.extend_from_slice(EXAMPLE.as_bytes())?;
-        }
-        _ => return repeated(alloc, call, count),
     }
-    Ok(bytes)
 }
 
-/// A text with so many equal lines.
-fn repeated(alloc: Global, call: &Call<'_>, count: usize) -> Result<Vec<u8>, AllocError> {
-    let (head, line, end) = match call.name() {
-        "splits" => (
-            "ecplan 1\nslots 1\nunit a 4 1\norder 0\nvalue none\ntree\n",
-            "S 1\n",
-            "F 0 0\nend\n",
-        ),
-        "units" => ("ecplan 1\nslots 8\n", "unit a 1486 60\n", ""),
-        _ => ("", " ", ""),
+/// The certificate of a text, with bars, with which a search can go on; else adds what reading or the checker answers.
+pub(crate) fn resumable(out: &mut Draft, alloc: Global, units: &Units, barred: &str) -> Option<Cert>
+    ensures { ForSome result (λ cert. IsPartialCert units.now.units units.now.slots (cert_view cert)) }
+{
+    let mut text = Draft::new(alloc);
+    add_unbarred(&mut text, barred);
+    let Ok(text) = text.finish() else {
+        out.give_up();
+        return None;
     };
-    let mut bytes = Vec::new(alloc);
-    bytes.extend_from_slice(head.as_bytes())?;
-    for _ in 0..count {
-        bytes.extend_from_slice(line.as_bytes())?;
+    match read_cert(alloc, text.as_bytes()) {
+        Ok(cert) => if goes_on(out, alloc, units, &cert) {
+            Some(cert)
+        } else {
+            None
+        },
+        Err(fault) => {
+            out.add(format_args!("{fault:?}"));
+            None
+        }
     }
-    bytes.extend_from_slice(end.as_bytes())?;
-    Ok(bytes)
 }
 
-/// Adds sixty splits into sixty leaves each, which this tick closes.
-fn add_splits(text: &mut String, tick: u32) -> Result<(), AllocError> {
-    text.push_str("S 60\n")?;
-    for _ in 0..60u32 {
-        text.push_str("S 60\n")?;
-        for _ in 0..60u32 {
-            write!(text, "T {tick}\n")?;
+/// Adds the example, with the lines from `first` to `last` replaced by `new`.
+fn add_edited(text: &mut Draft, first: usize, last: usize, new: &str) {
+    let first = first.saturating_sub(1);
+    for (i, line) in EXAMPLE.lines().enumerate() {
+        if i == first {
+            add_unbarred(text, new);
         }
+        if i < first || last <= i {
+            text.add(line);
+            text.add('\n');
+        }
+    }
+}
+
+/// A tree below a split of one child.
+fn above(alloc: Global, tree: Tree) -> Result<Tree, AllocError> {
+    let mut children = Vec::new(alloc);
+    children.push(tree)?;
+    split_of(alloc, children)
+}
+
+/// Puts so many splits of one child each above a tree.
+fn raise(alloc: Global, tree: &mut Tree, splits: usize) -> Result<(), AllocError> {
+    for _ in 0..splits.min(60) {
+        *tree = above(alloc, mem::replace(tree, Tree::OpenLeaf))?;
     }
     Ok(())
 }
 
-/// A certificate of 219,661 nodes: three units of 1 byte every 60 ticks, all placed in each branch, and each leaf
+/// Adds what the checker answers of a certificate with so many splits of one child each above its tree, which may be more
+/// than a text can have.
+fn check_below(out: &mut Draft, alloc: Global, units: &Units, cert: &mut Cert, splits: usize) {
+    match raise(alloc, &mut cert.tree, splits) {
+        Ok(()) => add_verdict(out, alloc, units, cert),
+        Err(_) => out.give_up(),
+    }
+}
+
+/// Adds the first bytes of the example.
+fn add_front(text: &mut Draft, count: usize) {
+    for c in EXAMPLE.chars().take(count) {
+        text.add(c);
+    }
+}
+
+/// Adds the example with a tab for a byte.
+fn add_tabbed(text: &mut Draft, at: usize) {
+    for (i, c) in EXAMPLE.chars().enumerate() {
+        text.add(if i == at { '\t' } else { c });
+    }
+}
+
+/// Adds so many equal lines.
+fn add_lines(text: &mut Draft, alloc: Global, line: &str, count: usize) {
+    match line.repeat(alloc, count) {
+        Ok(lines) => text.add(lines),
+        Err(_) => text.give_up(),
+    }
+}
+
+/// Adds a text that a call makes: the first bytes of the example, the example with a tab for a byte, or twice; a
+/// certificate of so many splits below one another, of so many units, or so many spaces.
+fn add_made(text: &mut Draft, alloc: Global, call: Call<'_>) {
+    let count = call.index(1).min(70_000_000);
+    match call.name() {
+        "front" => add_front(text, count),
+        "tab" => add_tabbed(text, count),
+        "twice" => {
+            text.add(EXAMPLE);
+            text.add(EXAMPLE);
+        }
+        "splits" => {
+            text.add("ecplan 1\nslots 1\nunit a 4 1\norder 0\nvalue none\ntree\n");
+            add_lines(text, alloc, "S 1\n", count);
+            text.add("F 0 0\nend\n");
+        }
+        "units" => {
+            text.add("ecplan 1\nslots 8\n");
+            add_lines(text, alloc, "unit a 1486 60\n", count);
+        }
+        _ => add_lines(text, alloc, " ", count),
+    }
+}
+
+/// Adds sixty leaves below a split, which this tick closes.
+fn add_leaves(text: &mut Draft, tick: u32) {
+    text.add("S 60\n");
+    for _ in 0..60u32 {
+        text.add(format_args!("T {tick}\n"));
+    }
+}
+
+/// Adds sixty splits into sixty leaves each, which this tick closes.
+fn add_splits(text: &mut Draft, tick: u32) {
+    text.add("S 60\n");
+    for _ in 0..60u32 {
+        add_leaves(text, tick);
+    }
+}
+
+/// Adds a certificate of 219,661 nodes: three units of 1 byte every 60 ticks, all placed in each branch, and each leaf
 /// closed by the tick of the first unit; those of the last phase by this tick.
-fn wide(alloc: Global, last: u32) -> Result<Vec<u8>, AllocError> {
-    let mut text = String::from_str(
-        alloc,
-        "ecplan 1\nslots 1\nunit a 1 60\nunit b 1 60\nunit c 1 60\norder 0 1 2\nvalue 84\nplace 0 0\nplace 0 0\nplace 0 0\ntree\nS 60\n",
-    )?;
+fn add_wide(text: &mut Draft, last: u32) {
+    text.add("ecplan 1\nslots 1\nunit a 1 60\nunit b 1 60\nunit c 1 60\norder 0 1 2\nvalue 84\n");
+    text.add("place 0 0\nplace 0 0\nplace 0 0\ntree\nS 60\n");
     for tick in 0..59u32 {
-        add_splits(&mut text, tick)?;
+        add_splits(text, tick);
     }
-    add_splits(&mut text, last)?;
-    text.push_str("end\n")?;
-    Ok(text.into_bytes())
+    add_splits(text, last);
+    text.add("end\n");
 }
 
-/// The text that a call is about.
-fn text_of(alloc: Global, call: &Call<'_>) -> Result<Vec<u8>, AllocError> {
+/// Adds the text that a call is about.
+fn add_text(text: &mut Draft, alloc: Global, call: Call<'_>) {
     match call.name() {
-        "read" | "check" => unbarred(alloc, call.after(1)),
-        "write" | "tower" => unbarred(alloc, call.after(2)),
-        "example" => Vec::from_slice(alloc, EXAMPLE.as_bytes()),
-        "wide" => wide(alloc, call.count(1)),
-        "lines" | "judge" => edited(alloc, call.index(1), call.index(2), call.after(3)),
-        _ => made(alloc, call),
+        "read" | "check" => add_unbarred(text, call.after(1)),
+        "write" | "tower" => add_unbarred(text, call.after(2)),
+        "example" => text.add(EXAMPLE),
+        "wide" => add_wide(text, call.count(1)),
+        "lines" | "judge" => add_edited(text, call.index(1), call.index(2), call.after(3)),
+        _ => add_made(text, alloc, call),
     }
 }
 
-/// What a call about this text answers.
-fn told(alloc: Global, units: &Units, call: &Call<'_>, text: &[u8]) -> Result<String, AllocError> {
+/// Adds what a call about this certificate answers.
+fn judge(out: &mut Draft, alloc: Global, units: &Units, call: Call<'_>, cert: &mut Cert) {
     match call.name() {
-        "write" | "example" => rewritten(alloc, text, call.index(1)),
-        "check" | "wide" | "judge" => checked(alloc, units, text),
-        "tower" => towered(alloc, units, text, call.index(1)),
-        _ => reading(alloc, text),
+        "write" | "example" => add_written(out, cert, call.index(1)),
+        "check" | "wide" | "judge" => add_verdict(out, alloc, units, cert),
+        "tower" => check_below(out, alloc, units, cert, call.index(1)),
+        _ => out.add("right"),
     }
 }
 
-/// What a call about certificates answers: `read TEXT`, `write ROOM TEXT`, `check TEXT`; `lines FIRST LAST TEXT` and
-/// `judge FIRST LAST TEXT` read and check the example with these lines replaced, `example ROOM` writes it; `wide LAST`
-/// checks one of many nodes, `tower SPLITS TEXT` one with so many splits more; any other name reads a text that it makes.
-pub(crate) fn answer(alloc: Global, units: &Units, call: &Call<'_>) -> Result<String, AllocError> {
-    let text = text_of(alloc, call)?;
-    told(alloc, units, call, text.as_slice())
+/// Adds what a call about this text answers.
+fn read(out: &mut Draft, alloc: Global, units: &Units, call: Call<'_>, text: &[u8]) {
+    match read_cert(alloc, text) {
+        Ok(mut cert) => judge(out, alloc, units, call, &mut cert),
+        Err(fault) => out.add(format_args!("{fault:?}")),
+    }
+}
+
+/// Adds what a call about certificates answers: `read TEXT`, `write ROOM TEXT`, `check TEXT`; `lines FIRST LAST TEXT`
+/// and `judge FIRST LAST TEXT` read and check the example with these lines replaced, `example ROOM` writes it; `wide
+/// LAST` checks one of many nodes, `tower SPLITS TEXT` one with so many splits more; any other name reads a text that
+/// it makes.
+pub(crate) fn answer(alloc: Global, units: &Units, call: Call<'_>, out: &mut Draft) {
+    let mut text = Draft::new(alloc);
+    add_text(&mut text, alloc, call);
+    match text.finish() {
+        Ok(text) => read(out, alloc, units, call, text.as_bytes()),
+        Err(_) => out.give_up(),
+    }
 }

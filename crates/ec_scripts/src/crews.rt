@@ -1,86 +1,182 @@
-//! What a search of several workers finds.
+//! What searches find, of one worker and of several.
 
 ghost use Rattle.std.specs.Prelude.{◌≤◌};
 
 use crate::call::Call;
-use ec_cert::{Best, Cert};
-use ec_checker::check;
+use crate::certs::{add_verdict, add_written};
+use crate::samples::add_places;
+use ec_cert::Cert;
+use ec_drafts::Draft;
 use ec_units::Units;
-use ec_workers::{Cut, Gate, Outcome, solve};
+use ec_workers::{Gate, Outcome, SolveFault, solve};
 use std::alloc::{AllocError, Global};
 use std::hint;
 use std::sync::Wait;
 use std::sync::atomic::{AtomicBool, AtomicU64, Ordering};
 use std::thread::Threads;
 
-/// A gate that counts the calls of all workers.
+/// A gate that counts the calls of all workers, and apart those that aren't of worker 0 and piece 0.
 #[derive(Drop)]
 pub(crate) struct Told {
-    calls: AtomicU64,
+    pub calls: AtomicU64,
+    pub others: AtomicU64,
 }
 
 impl Told {
     pub(crate) fn new() -> Told {
         Told {
             calls: AtomicU64::new(0),
+            others: AtomicU64::new(0),
         }
     }
 }
 
 impl Gate for Told {
-    fn before(&self, _worker: usize, _piece: u64, _value: Option<u64>) {
+    fn before(&self, worker: usize, piece: u64, _value: Option<u64>) {
         self.calls.fetch_add(1, Ordering::SeqCst);
+        if worker != 0 || piece != 0 {
+            self.others.fetch_add(1, Ordering::SeqCst);
+        }
     }
 }
 
-/// What the checker answers of a certificate.
-fn checked(alloc: Global, units: &Units, cert: &Cert) -> Result<String, AllocError> {
-    let verdict = check(alloc, units, cert);
-    format!(in alloc; "{verdict:?}")
+/// How many workers search, 1 to 16 of them, and within how many nodes, at least one.
+#[derive(Clone, Copy)]
+pub(crate) struct Crew {
+    pub workers: usize,
+    pub nodes: u32,
 }
 
-/// A search without a proof, as a text.
-fn unproved(alloc: Global, best: &Option<Best>, cut: Cut) -> Result<String, AllocError> {
-    match best {
-        None => format!(in alloc; "unproved none {cut:?}"),
-        Some(best) => format!(in alloc; "unproved {} {cut:?}", best.busiest),
+/// What is told of a search.
+#[derive(Clone, Copy)]
+pub(crate) enum Shown {
+    /// How it ended, and the places of its plan.
+    Plan,
+    /// The same, and of a search without a proof its tree.
+    Tree,
+    /// How it ended, and what the checker answers of its certificate: all that is the same whatever the order in which
+    /// workers made it.
+    End,
+    /// What the checker answers of its certificate.
+    Verdict,
+    /// Its certificate, with bars.
+    Cert,
+}
+
+/// Adds how a search ended.
+fn add_end(out: &mut Draft, outcome: &Outcome) {
+    match outcome {
+        Outcome::Optimal { busiest, .. } => out.add(format_args!("optimal {busiest}")),
+        Outcome::NoPlan { .. } => out.add("no plan"),
+        Outcome::Unproved { best, cut, .. } => match best {
+            Some(best) => out.add(format_args!("unproved {} {cut:?}", best.busiest)),
+            None => out.add(format_args!("unproved none {cut:?}")),
+        },
     }
 }
 
-/// What is the same of an outcome whatever the order in which the workers made it.
-pub(crate) fn outcome_text(
+/// The certificate of a search that ended with a proof.
+fn proof_of(outcome: &Outcome) -> Option<&Cert> {
+    match outcome {
+        Outcome::Optimal { cert, .. } => Some(cert),
+        Outcome::NoPlan { cert } => Some(cert),
+        Outcome::Unproved { .. } => None,
+    }
+}
+
+/// Adds how a search ended and its plan, and of a search without a proof, where it is asked for, its tree.
+fn add_plan(out: &mut Draft, outcome: &Outcome, whole: bool) {
+    add_end(out, outcome);
+    match outcome {
+        Outcome::Optimal { plan, .. } => {
+            out.add(' ');
+            add_places(out, plan.places.as_slice());
+        }
+        Outcome::Unproved { tree, .. } if whole => out.add(format_args!(" {tree:?}")),
+        _ => {}
+    }
+}
+
+/// Adds how a search ended, and what the checker answers of its certificate, if it has one.
+pub(crate) fn add_outcome(out: &mut Draft, alloc: Global, units: &Units, outcome: &Outcome) {
+    add_end(out, outcome);
+    if let Some(cert) = proof_of(outcome) {
+        out.add(' ');
+        add_verdict(out, alloc, units, cert);
+    }
+}
+
+/// Adds the certificate of a search, or what the checker answers of it.
+fn add_proof(out: &mut Draft, alloc: Global, units: &Units, outcome: &Outcome, whole: bool) {
+    match proof_of(outcome) {
+        Some(cert) if whole => add_written(out, cert, usize::MAX),
+        Some(cert) => add_verdict(out, alloc, units, cert),
+        None if whole => {}
+        None => out.add("unproved"),
+    }
+}
+
+/// Adds what is asked of a search.
+fn add_shown(out: &mut Draft, alloc: Global, units: &Units, outcome: &Outcome, shown: Shown) {
+    match shown {
+        Shown::Plan => add_plan(out, outcome, false),
+        Shown::Tree => add_plan(out, outcome, true),
+        Shown::End => add_outcome(out, alloc, units, outcome),
+        Shown::Verdict => add_proof(out, alloc, units, outcome, false),
+        Shown::Cert => add_proof(out, alloc, units, outcome, true),
+    }
+}
+
+/// Adds why no search began, where that is asked.
+fn add_fault(out: &mut Draft, fault: SolveFault, shown: Shown) {
+    match shown {
+        Shown::Verdict => out.add("refused"),
+        Shown::Cert => {}
+        _ => out.add(format_args!("{fault:?}")),
+    }
+}
+
+/// Searches, and adds what is found.
+pub(crate) fn search(
+    rt: &(impl Threads + Wait + Sync),
     alloc: Global,
     units: &Units,
-    outcome: &Outcome,
-) -> Result<String, AllocError> {
-    match outcome {
-        Outcome::Optimal { busiest, cert, .. } => {
-            let verdict = checked(alloc, units, cert)?;
-            format!(in alloc; "optimal {busiest} {}", verdict.as_str())
-        }
-        Outcome::NoPlan { cert } => {
-            let verdict = checked(alloc, units, cert)?;
-            format!(in alloc; "no plan {}", verdict.as_str())
-        }
-        Outcome::Unproved { best, cut, .. } => unproved(alloc, best, *cut),
+    crew: Crew,
+    gate: &(impl Gate + Sync),
+    shown: Shown,
+    out: &mut Draft,
+) {
+    let workers = crew.workers.clamp(1, 16);
+    let nodes = crew.nodes.clamp(1, 10_000_000);
+    match solve(rt, alloc, units, workers, nodes, gate) {
+        Ok(outcome) => add_shown(out, alloc, units, &outcome, shown),
+        Err(fault) => add_fault(out, fault, shown),
     }
 }
 
-/// What 1 to 16 workers find within so many nodes, and what the checker answers of it.
+/// What a search finds, as a text.
 pub(crate) fn found(
     rt: &(impl Threads + Wait + Sync),
     alloc: Global,
     units: &Units,
-    workers: usize,
-    nodes: u32,
-    gate: &(impl Gate + Sync),
+    crew: Crew,
 ) -> Result<String, AllocError> {
-    let workers = workers.clamp(1, 16);
-    let nodes = nodes.clamp(1, 10_000_000);
-    match solve(rt, alloc, units, workers, nodes, gate) {
-        Ok(outcome) => outcome_text(alloc, units, &outcome),
-        Err(fault) => format!(in alloc; "{fault:?}"),
+    let mut text = Draft::new(alloc);
+    search(rt, alloc, units, crew, &Told::new(), Shown::End, &mut text);
+    text.finish()
+}
+
+/// The workers that a word of a call is, and the nodes that the next one is.
+pub(crate) fn crew_of(call: Call<'_>, at: usize) -> Crew {
+    Crew {
+        workers: call.index(at),
+        nodes: call.count(at.saturating_add(1)),
     }
+}
+
+/// One worker, with so many nodes.
+pub(crate) fn alone(nodes: u32) -> Crew {
+    Crew { workers: 1, nodes }
 }
 
 /// What so many workers find; with `told`, also before how many nodes the gate was told: `crew WORKERS NODES told`.
@@ -88,15 +184,50 @@ pub(crate) fn crewed(
     rt: &(impl Threads + Wait + Sync),
     alloc: Global,
     units: &Units,
-    call: &Call<'_>,
-) -> Result<String, AllocError> {
+    call: Call<'_>,
+    out: &mut Draft,
+) {
     let gate = Told::new();
-    let text = found(rt, alloc, units, call.index(1), call.count(2), &gate)?;
-    if call.word(3) != "told" {
-        return Ok(text);
+    search(rt, alloc, units, crew_of(call, 1), &gate, Shown::End, out);
+    if call.word(3) == "told" {
+        out.add(format_args!(" told {}", gate.calls.load(Ordering::SeqCst)));
     }
-    let calls = gate.calls.load(Ordering::SeqCst);
-    format!(in alloc; "{} told {calls}", text.as_str())
+}
+
+/// Whether a search finds this.
+fn is_same(
+    rt: &(impl Threads + Wait + Sync),
+    alloc: Global,
+    units: &Units,
+    crew: Crew,
+    first: &str,
+    out: &mut Draft,
+) -> bool {
+    match found(rt, alloc, units, crew) {
+        Ok(text) => text.as_str() == first,
+        Err(_) => {
+            out.give_up();
+            false
+        }
+    }
+}
+
+/// Adds what the first of many searches found, and how many of them find the same.
+fn add_same(
+    rt: &(impl Threads + Wait + Sync),
+    alloc: Global,
+    units: &Units,
+    call: Call<'_>,
+    first: &str,
+    out: &mut Draft,
+) {
+    let mut same = 1u32;
+    for _ in 1..call.count(1) {
+        if is_same(rt, alloc, units, crew_of(call, 2), first, out) {
+            same = same.saturating_add(1);
+        }
+    }
+    out.add(format_args!("{first} {same} times"));
 }
 
 /// What the first of many searches finds, and how many of them find the same: `again TIMES WORKERS NODES`.
@@ -104,18 +235,13 @@ pub(crate) fn crewed_again(
     rt: &(impl Threads + Wait + Sync),
     alloc: Global,
     units: &Units,
-    call: &Call<'_>,
-) -> Result<String, AllocError> {
-    let gate = Told::new();
-    let first = found(rt, alloc, units, call.index(2), call.count(3), &gate)?;
-    let mut same = 1u32;
-    for _ in 1..call.count(1) {
-        let text = found(rt, alloc, units, call.index(2), call.count(3), &gate)?;
-        if text.as_str() == first.as_str() {
-            same = same.saturating_add(1);
-        }
+    call: Call<'_>,
+    out: &mut Draft,
+) {
+    match found(rt, alloc, units, crew_of(call, 2)) {
+        Ok(first) => add_same(rt, alloc, units, call, first.as_str(), out),
+        Err(_) => out.give_up(),
     }
-    format!(in alloc; "{} {same} times", first.as_str())
 }
 
 /// How often a worker looks whether the others have come.
@@ -125,28 +251,32 @@ const LOOKS: u32 = 100_000_000;
 /// one of them waited in vain.
 #[derive(Drop)]
 struct Meeting {
-    flags: Vec<AtomicBool>,
+    flags: AtomicU64,
+    all: u64,
     missed: AtomicBool,
 }
 
+/// The flag of a worker, a bit.
+fn flag_of(worker: usize) -> u64 {
+    match worker {
+        0..64 => 1 << worker,
+        _ => 0,
+    }
+}
+
 impl Meeting {
-    fn new(alloc: Global, workers: usize) -> Result<Meeting, AllocError> {
-        let mut flags = Vec::new(alloc);
-        for _ in 0..workers.clamp(1, 16) {
-            flags.push(AtomicBool::new(false))?;
-        }
-        Ok(Meeting {
-            flags,
+    /// A meeting of 1 to 16 workers.
+    fn new(workers: usize) -> Meeting {
+        Meeting {
+            flags: AtomicU64::new(0),
+            all: flag_of(workers.clamp(1, 16)).saturating_sub(1),
             missed: AtomicBool::new(false),
-        })
+        }
     }
 
     /// Whether all have come.
     fn is_full(&self) -> bool {
-        self.flags
-            .as_slice()
-            .iter()
-            .all(|flag| flag.load(Ordering::SeqCst))
+        self.flags.load(Ordering::SeqCst) == self.all
     }
 
     /// Waits until all have come, or in vain.
@@ -163,10 +293,8 @@ impl Meeting {
 
 impl Gate for Meeting {
     fn before(&self, worker: usize, _piece: u64, _value: Option<u64>) {
-        let Some(flag) = self.flags.as_slice().get(worker) else {
-            return;
-        };
-        if !flag.swap(true, Ordering::SeqCst) {
+        let flag = flag_of(worker);
+        if self.flags.fetch_or(flag, Ordering::SeqCst) & flag == 0 {
             self.wait();
         }
     }
@@ -178,13 +306,11 @@ pub(crate) fn met(
     rt: &(impl Threads + Wait + Sync),
     alloc: Global,
     units: &Units,
-    call: &Call<'_>,
-) -> Result<String, AllocError> {
-    let gate = Meeting::new(alloc, call.index(1))?;
-    let text = found(rt, alloc, units, call.index(1), call.count(2), &gate)?;
-    if gate.missed.load(Ordering::SeqCst) || !gate.is_full() {
-        format!(in alloc; "{} missed", text.as_str())
-    } else {
-        format!(in alloc; "{} met", text.as_str())
-    }
+    call: Call<'_>,
+    out: &mut Draft,
+) {
+    let gate = Meeting::new(call.index(1));
+    search(rt, alloc, units, crew_of(call, 1), &gate, Shown::End, out);
+    let is_met = gate.is_full() && !gate.missed.load(Ordering::SeqCst);
+    out.add(if is_met { " met" } else { " missed" });
 }

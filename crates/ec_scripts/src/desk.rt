@@ -3,22 +3,20 @@
 ghost use Rattle.std.specs.Prelude.{◌≡◌, ℕ, ◌<◌, ◌↔◌, IsTrue, IfOk, length};
 ghost use Rattle.ec_loads.specs.Search.{node_count};
 ghost use Rattle.ec_cert.specs.Shapes.{cert_view, shape_of};
-ghost use Rattle.ec_cert.specs.WellFormed.{IsWellFormed};
 ghost use Rattle.ec_symmetry.specs.Orders.{IsOrder};
 ghost use Rattle.ec_book.specs.Books.{IsBookOf};
 ghost use Rattle.ec_workers.specs.Outcomes.{IsPartialCert};
 
 use crate::call::Call;
-use crate::certs::unbarred;
+use crate::certs::resumable;
 use crate::guide::{Wish, found_below, is_reached};
-use crate::samples::places_text;
-use ec_book::{Book, BookFault, Taken};
+use crate::samples::add_places;
+use ec_book::{Book, BookFault, Finished, Taken};
 use ec_branch::search_order;
 use ec_cert::{Cert, Tree};
-use ec_cert_text::read_cert;
-use ec_checker::check;
+use ec_drafts::Draft;
 use ec_loads::{Places, Plan};
-use ec_units::Units;
+use ec_units::{Place, Units};
 use std::alloc::{AllocError, Global};
 use std::marker::Model;
 use std::mem;
@@ -59,28 +57,28 @@ fn has_nodes(tree: &Tree) -> bool
     }
 }
 
-/// What a refusal, or none, is told as.
-fn refusal_text(alloc: Global, answer: Result<(), BookFault>) -> Result<String, AllocError> {
-    format!(in alloc; "{answer:?}")
-}
-
-/// What is handed out: piece, value, grant and prefix.
-fn taken_text(alloc: Global, answer: Result<Taken, BookFault>) -> Result<String, AllocError> {
+/// Adds what is handed out: piece, value, grant and prefix.
+fn add_taken(out: &mut Draft, answer: &Result<Taken, BookFault>) {
     match answer {
         Ok(Taken::Piece(took)) => {
-            let places = places_text(alloc, took.prefix.as_slice())?;
-            format!(in alloc;
-                "piece {} {:?} {} ({})",
-                took.piece,
-                took.value,
-                took.grant,
-                places.as_str()
-            )
+            out.add(format_args!("piece {} {:?} {} (", took.piece, took.value, took.grant));
+            add_places(out, took.prefix.as_slice());
+            out.add(')');
         }
-        Ok(Taken::Later) => String::from_str(alloc, "later"),
-        Ok(Taken::Done) => String::from_str(alloc, "done"),
-        Err(fault) => format!(in alloc; "{fault:?}"),
+        Ok(Taken::Later) => out.add("later"),
+        Ok(Taken::Done) => out.add("done"),
+        Err(fault) => out.add(format_args!("{fault:?}")),
     }
+}
+
+/// Adds what a book ends with: the nodes that were spent, the tree, the value of the best plan, and the steps.
+fn add_finished(out: &mut Draft, done: &Finished) {
+    let best = match &done.best {
+        Some(best) => best.busiest,
+        None => 0,
+    };
+    out.add(format_args!("{} {:?}", done.spent, done.tree));
+    out.add(format_args!(" {best} {}", done.log.as_slice().len()));
 }
 
 /// A book that goes on with a certificate, and the order of its units.
@@ -112,127 +110,135 @@ impl Desk {
         })
     }
 
-    /// Reports what a search below no place or one finds at a value with so many nodes.
-    fn report(&mut self, alloc: Global, call: &Call<'_>) -> Result<String, AllocError> {
-        let worker = call.index(1);
-        let Some(piece) = call.number(2) else {
-            return String::from_str(alloc, "no piece");
-        };
+    /// Reports what a search below these places finds at a value with so many nodes.
+    fn report_below(
+        &mut self,
+        alloc: Global,
+        call: Call<'_>,
+        piece: u64,
+        prefix: &[Place],
+        out: &mut Draft,
+    ) {
         let wish = Wish {
             value: call.number(3),
             floor: 0,
             stops: false,
             grant: call.count(4),
         };
-        let prefix = call.places(alloc, 5)?;
         let order = self.order.as_slice();
-        if wish.grant == 0 || !is_reached(&self.units, order, prefix.as_slice()) {
-            return String::from_str(alloc, "no node, or a place that is not reached");
+        if wish.grant == 0 || !is_reached(&self.units, order, prefix) {
+            return out.add("no node, or a place that is not reached");
         }
-        let (sub, _) = found_below(alloc, &self.units, order, prefix.as_slice(), wish)?;
+        let Ok((sub, _)) = found_below(alloc, &self.units, order, prefix, wish) else {
+            return out.give_up();
+        };
         if !has_nodes(&sub.tree) {
-            return String::from_str(alloc, "an open leaf alone");
+            return out.add("an open leaf alone");
         }
-        match self.book.report(worker, piece, prefix.as_slice(), sub) {
-            Ok(()) => refusal_text(alloc, Ok(())),
-            Err((fault, _)) => refusal_text(alloc, Err(fault)),
+        match self.book.report(call.index(1), piece, prefix, sub) {
+            Ok(()) => out.add("Ok(())"),
+            Err((fault, _)) => out.add(format_args!("Err({fault:?})")),
+        }
+    }
+
+    /// Reports what a search below no place or one finds.
+    fn report(&mut self, alloc: Global, call: Call<'_>, out: &mut Draft) {
+        let prefix = call.places(alloc, 5, out);
+        match call.number(2) {
+            Some(piece) => self.report_below(alloc, call, piece, prefix.as_slice(), out),
+            None => out.add("no piece"),
         }
     }
 
     /// Offers a plan of these places.
-    fn better(&mut self, alloc: Global, call: &Call<'_>) -> Result<String, AllocError> {
+    fn better(&mut self, alloc: Global, call: Call<'_>, out: &mut Draft) {
         let plan = Plan {
-            places: Places::new(call.places(alloc, 2)?),
+            places: Places::new(call.places(alloc, 2, out)),
         };
         match self.book.better(call.index(1), plan) {
-            Ok(()) => refusal_text(alloc, Ok(())),
-            Err((fault, _)) => refusal_text(alloc, Err(fault)),
+            Ok(()) => out.add("Ok(())"),
+            Err((fault, _)) => out.add(format_args!("Err({fault:?})")),
         }
     }
 
-    /// What is handed out: the lowest free piece, or the one of this number.
-    fn take(&mut self, alloc: Global, call: &Call<'_>) -> Result<String, AllocError> {
+    /// Takes the lowest free piece, or the one of this number.
+    fn take(&mut self, call: Call<'_>, out: &mut Draft) {
         let most = call.count(2);
         if most == 0 {
-            return String::from_str(alloc, "no grant");
+            return out.add("no grant");
         }
-        match call.number(3) {
-            Some(piece) => taken_text(alloc, self.book.take_piece(call.index(1), piece, most)),
-            None => taken_text(alloc, self.book.take(call.index(1), most)),
+        let answer = match call.number(3) {
+            Some(piece) => self.book.take_piece(call.index(1), piece, most),
+            None => self.book.take(call.index(1), most),
+        };
+        add_taken(out, &answer);
+    }
+
+    /// Gives a piece back.
+    fn back(&mut self, call: Call<'_>, out: &mut Draft) {
+        match call.number(2) {
+            Some(piece) => {
+                let answer = self.book.back(call.index(1), piece);
+                out.add(format_args!("{answer:?}"));
+            }
+            None => out.add("no piece"),
         }
     }
 
-    /// Ends the book, and begins another; tells the nodes that were spent, the tree and the best plan. The book stays where
-    /// it doesn't end.
-    fn finish(&mut self, alloc: Global) -> Result<String, AllocError> {
-        let fresh = Book::new(alloc, &self.units, self.order.as_slice(), self.nodes)?;
-        let book = mem::replace(&mut self.book, fresh);
-        match book.finish() {
-            Ok(done) => {
-                let best = match &done.best {
-                    None => 0,
-                    Some(best) => best.busiest,
-                };
-                let steps = done.log.as_slice().len();
-                format!(in alloc; "{} {:?} {best} {steps}", done.spent, done.tree)
-            }
+    /// Ends the book, and begins another. The book stays where it doesn't end.
+    fn finish(&mut self, alloc: Global, out: &mut Draft) {
+        let Ok(fresh) = Book::new(alloc, &self.units, self.order.as_slice(), self.nodes) else {
+            return out.give_up();
+        };
+        match mem::replace(&mut self.book, fresh).finish() {
+            Ok(done) => add_finished(out, &done),
             Err((book, _)) => {
                 self.book = book;
-                String::from_str(alloc, "memory")
+                out.add("memory");
             }
         }
     }
 
-    /// Begins a book that goes on with a certificate, where the checker shows of it no more than a level; else tells what
-    /// the checker answers, and the book stays.
-    fn resume_by(&mut self, alloc: Global, cert: &Cert, nodes: u64) -> Result<String, AllocError>
-        requires { IsWellFormed (cert_view cert.now) }
-    {
-        match check(alloc, &self.units, cert) {
-            Ok(verdict) => match cert.level {
-                Some(_) => {
-                    let Ok((book, order)) = resumed(alloc, &self.units, cert, nodes) else {
-                        return String::from_str(alloc, "memory");
-                    };
-                    self.book = book;
-                    self.order = order;
-                    self.nodes = nodes;
-                    refusal_text(alloc, Ok(()))
-                }
-                None => format!(in alloc; "Ok({verdict:?})"),
-            },
-            Err(fault) => format!(in alloc; "Err({fault:?})"),
-        }
-    }
-
-    /// The same with the text of a certificate.
-    fn resume(&mut self, alloc: Global, call: &Call<'_>) -> Result<String, AllocError> {
+    /// Begins a book that goes on with the certificate of a text, where the checker shows of it no more than a level; else
+    /// adds what the checker answers, and the book stays.
+    fn resume(&mut self, alloc: Global, call: Call<'_>, out: &mut Draft) {
         let nodes = call.number(1).unwrap_or(0);
-        let text = unbarred(alloc, call.after(2))?;
-        match read_cert(alloc, text.as_slice()) {
-            Ok(cert) => self.resume_by(alloc, &cert, nodes),
-            Err(fault) => format!(in alloc; "{fault:?}"),
+        let Some(cert) = resumable(out, alloc, &self.units, call.after(2)) else {
+            return;
+        };
+        match resumed(alloc, &self.units, &cert, nodes) {
+            Ok((book, order)) => {
+                self.book = book;
+                self.order = order;
+                self.nodes = nodes;
+                out.add("Ok(())");
+            }
+            Err(_) => out.add("memory"),
         }
     }
 
-    /// What a call of the book answers.
-    pub(crate) fn answer(&mut self, alloc: Global, call: &Call<'_>) -> Result<String, AllocError> {
+    /// Adds what the book tells of itself.
+    fn tell(&self, call: Call<'_>, out: &mut Draft) {
         match call.name() {
-            "take" => self.take(alloc, call),
-            "report" => self.report(alloc, call),
-            "better" => self.better(alloc, call),
-            "back" => match call.number(2) {
-                Some(piece) => refusal_text(alloc, self.book.back(call.index(1), piece)),
-                None => String::from_str(alloc, "no piece"),
-            },
             "counts" => {
                 let steps = self.book.log().len();
-                format!(in alloc; "{} {} {steps}", self.book.spent(), self.book.open_pieces())
+                out.add(format_args!("{} {} {steps}", self.book.spent(), self.book.open_pieces()));
             }
-            "log" => format!(in alloc; "{:?}", self.book.log()),
-            "finish" => self.finish(alloc),
-            "resume" => self.resume(alloc, call),
-            _ => String::from_str(alloc, "no call"),
+            "log" => out.add(format_args!("{:?}", self.book.log())),
+            _ => out.add("no call"),
+        }
+    }
+
+    /// Adds what a call of the book answers.
+    pub(crate) fn answer(&mut self, alloc: Global, call: Call<'_>, out: &mut Draft) {
+        match call.name() {
+            "take" => self.take(call, out),
+            "report" => self.report(alloc, call, out),
+            "better" => self.better(alloc, call, out),
+            "back" => self.back(call, out),
+            "finish" => self.finish(alloc, out),
+            "resume" => self.resume(alloc, call, out),
+            _ => self.tell(call, out),
         }
     }
 }

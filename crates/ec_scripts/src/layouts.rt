@@ -1,53 +1,38 @@
 //! Layouts of plans in logical memory, and the frames that carry them.
 
-ghost use Rattle.std.specs.Prelude.{IfOk};
-ghost use Rattle.std.specs.Option.{ForSome};
 ghost use Rattle.ec_player.specs.Frames.{HasLayout};
 
 use crate::call::Call;
+use ec_drafts::Draft;
 use ec_fmmu::{Fmmu, Mapping, fmmu_bytes, layout};
 use ec_frames::Frame;
 use ec_loads::{Loads, Places, Plan, is_legal};
 use ec_player::tick_frames;
-use ec_units::{Place, Units};
+use ec_units::Units;
 use ec_wire::frame_wire;
 use std::alloc::{AllocError, Global};
-use std::fmt::Write;
 
-/// The layout of a plan, if it is legal.
-fn mapping_of(alloc: Global, units: &Units, plan: &Plan) -> Result<Option<Mapping>, AllocError>
-    ensures { IfOk result (λ found. ForSome found (HasLayout units.now)) }
-{
-    match is_legal(units, plan) {
-        Ok(()) => Ok(Some(layout(alloc, units, plan)?)),
-        Err(_) => Ok(None),
-    }
-}
-
-/// Adds bytes with two hexadecimal digits each.
-fn add_hex(text: &mut String, bytes: &[u8]) -> Result<(), AllocError> {
+/// Adds bytes with two hexadecimal digits each, and a space before them.
+fn add_hex(out: &mut Draft, bytes: &[u8]) {
+    out.add(' ');
     for byte in bytes {
-        write!(text, "{byte:02x}")?;
+        out.add(format_args!("{byte:02x}"));
     }
-    Ok(())
 }
 
-/// Adds the bytes of a slave's records, with a space before each.
-fn add_records(text: &mut String, records: &[Fmmu]) -> Result<(), AllocError> {
+/// Adds the bytes of a slave's records.
+fn add_slave(out: &mut Draft, records: &[Fmmu]) {
     for record in records {
-        text.push(' ')?;
-        add_hex(text, &fmmu_bytes(record))?;
+        add_hex(out, &fmmu_bytes(record));
     }
-    Ok(())
 }
 
-/// The number of bytes in all, and the bytes of all records.
-fn records_text(alloc: Global, mapping: &Mapping) -> Result<String, AllocError> {
-    let mut text = format!(in alloc; "{} bytes", mapping.total)?;
+/// Adds the number of bytes in all, and the bytes of all records.
+fn add_records(out: &mut Draft, mapping: &Mapping) {
+    out.add(format_args!("{} bytes", mapping.total));
     for records in mapping.fmmus.as_slice() {
-        add_records(&mut text, records)?;
+        add_slave(out, records);
     }
-    Ok(text)
 }
 
 /// The frames of a tick with an image of zeros.
@@ -63,111 +48,113 @@ fn frames_at(
     tick_frames(alloc, units, mapping, image.as_slice(), tick)
 }
 
-/// The bytes of a tick's frames, with a space before each.
-fn frames_text(
-    alloc: Global,
-    units: &Units,
-    mapping: &Mapping,
-    tick: u32,
-) -> Result<String, AllocError>
-    requires { HasLayout units.now mapping.now }
-{
-    let frames = frames_at(alloc, units, mapping, tick)?;
-    let mut text = format!(in alloc; "{} frames", frames.len())?;
-    for frame in frames.as_slice() {
-        text.push(' ')?;
-        add_hex(&mut text, frame.as_slice())?;
+/// Adds how many frames there are, and the bytes of each.
+fn add_frames(out: &mut Draft, frames: &[Frame]) {
+    out.add(format_args!("{} frames", frames.len()));
+    for frame in frames {
+        add_hex(out, frame.as_slice());
     }
-    Ok(text)
 }
 
-/// What frames take on the wire, in bytes.
-fn wire_of(frames: &[Frame]) -> u32 {
+/// Adds what frames take on the wire, in bytes.
+fn add_wire(out: &mut Draft, frames: &[Frame]) {
     let mut sum = 0u32;
     for frame in frames {
         let payload = (frame.len().clamp(16, 1514) - 14) as u32;
         sum = sum.saturating_add(frame_wire(payload));
     }
-    sum
+    out.add(format_args!(" {sum}"));
 }
 
-/// What the frames of a tick take on the wire, in bytes.
-fn tick_wire(alloc: Global, units: &Units, mapping: &Mapping, tick: u32) -> Result<u32, AllocError>
+/// Adds the frames of a tick, or what they take on the wire.
+fn add_tick(
+    out: &mut Draft,
+    alloc: Global,
+    units: &Units,
+    mapping: &Mapping,
+    tick: u32,
+    whole: bool,
+)
     requires { HasLayout units.now mapping.now }
 {
-    let frames = frames_at(alloc, units, mapping, tick)?;
-    Ok(wire_of(frames.as_slice()))
-}
-
-/// What the frames of each tick take on the wire, in bytes, with a space before each.
-fn wire_text(alloc: Global, units: &Units, mapping: &Mapping) -> Result<String, AllocError>
-    requires { HasLayout units.now mapping.now }
-{
-    let mut text = String::from_str(alloc, "wire")?;
-    for tick in 0..units.hyper().ticks() {
-        let bytes = tick_wire(alloc, units, mapping, tick)?;
-        write!(text, " {bytes}")?;
+    match frames_at(alloc, units, mapping, tick) {
+        Ok(frames) if whole => add_frames(out, frames.as_slice()),
+        Ok(frames) => add_wire(out, frames.as_slice()),
+        Err(_) => out.give_up(),
     }
-    Ok(text)
 }
 
-/// Loads of units at these places.
-fn loads_of(alloc: Global, units: &Units, places: &[Place]) -> Result<Loads, AllocError> {
-    let mut loads = Loads::new(alloc, units)?;
-    for (unit, place) in places.iter().enumerate() {
+/// Adds what the frames of each tick take on the wire, in bytes.
+fn add_ticks(out: &mut Draft, alloc: Global, units: &Units, mapping: &Mapping)
+    requires { HasLayout units.now mapping.now }
+{
+    out.add("wire");
+    for tick in 0..units.hyper().ticks() {
+        add_tick(out, alloc, units, mapping, tick, false);
+    }
+}
+
+/// Gives the first units the places of a plan.
+fn put_all(loads: &mut Loads, plan: &Plan) {
+    for (unit, place) in plan.places.as_slice().iter().enumerate() {
         if unit < loads.places().len() {
             loads.place(unit, *place);
         }
     }
-    Ok(loads)
 }
 
-/// Adds the cost of each tick in bytes, with a space before each.
-fn add_costs(text: &mut String, loads: &Loads) -> Result<(), AllocError> {
+/// Adds the cost of each tick in bytes.
+fn add_costs(out: &mut Draft, loads: &Loads) {
+    out.add("costs");
     for tick in 0..loads.ticks() {
-        write!(text, " {}", loads.cost(tick))?;
+        out.add(format_args!(" {}", loads.cost(tick)));
     }
-    Ok(())
 }
 
-/// The costs of a plan's ticks.
-fn costs_text(alloc: Global, units: &Units, plan: &Plan) -> Result<String, AllocError> {
-    let loads = loads_of(alloc, units, plan.places.as_slice())?;
-    let mut text = String::from_str(alloc, "costs")?;
-    add_costs(&mut text, &loads)?;
-    Ok(text)
+/// Adds the costs of a plan's ticks.
+fn add_plan(out: &mut Draft, alloc: Global, units: &Units, plan: &Plan) {
+    match Loads::new(alloc, units) {
+        Ok(mut loads) => {
+            put_all(&mut loads, plan);
+            add_costs(out, &loads);
+        }
+        Err(_) => out.give_up(),
+    }
 }
 
-/// What a call about a layout of these units answers.
-fn told(
-    alloc: Global,
-    units: &Units,
-    mapping: &Mapping,
-    call: &Call<'_>,
-) -> Result<String, AllocError>
+/// Adds what a call about a layout of these units answers.
+fn tell(out: &mut Draft, alloc: Global, units: &Units, mapping: &Mapping, call: Call<'_>)
     requires { HasLayout units.now mapping.now }
 {
     match call.name() {
-        "groups" => format!(in alloc; "{:?}", mapping.groups.as_slice()),
-        "records" => records_text(alloc, mapping),
-        "frames" => frames_text(alloc, units, mapping, call.count(1)),
-        "wire" => wire_text(alloc, units, mapping),
-        _ => String::from_str(alloc, "no call"),
+        "groups" => out.add(format_args!("{:?}", mapping.groups.as_slice())),
+        "records" => add_records(out, mapping),
+        "frames" => add_tick(out, alloc, units, mapping, call.count(1), true),
+        "wire" => add_ticks(out, alloc, units, mapping),
+        _ => out.add("no call"),
     }
 }
 
-/// What a call about a plan of these units answers: `groups PLACE..`, `records PLACE..`, `frames TICK PLACE..` and
-/// `wire PLACE..` of a legal plan's layout, and `costs PLACE..` of its loads.
-pub(crate) fn answer(alloc: Global, units: &Units, call: &Call<'_>) -> Result<String, AllocError> {
-    let from = if call.word(0) == "frames" { 2 } else { 1 };
-    let plan = Plan {
-        places: Places::new(call.places(alloc, from)?),
-    };
-    if call.word(0) == "costs" {
-        return costs_text(alloc, units, &plan);
+/// Adds what a call about the layout of a plan answers, where it is legal.
+fn judge(out: &mut Draft, alloc: Global, units: &Units, plan: &Plan, call: Call<'_>) {
+    match is_legal(units, plan) {
+        Ok(()) => match layout(alloc, units, plan) {
+            Ok(mapping) => tell(out, alloc, units, &mapping, call),
+            Err(_) => out.give_up(),
+        },
+        Err(_) => out.add("not legal"),
     }
-    match mapping_of(alloc, units, &plan)? {
-        Some(mapping) => told(alloc, units, &mapping, call),
-        None => String::from_str(alloc, "not legal"),
+}
+
+/// Adds what a call about a plan of these units answers: `groups PLACE..`, `records PLACE..`, `frames TICK PLACE..` and
+/// `wire PLACE..` of a legal plan's layout, and `costs PLACE..` of its loads.
+pub(crate) fn answer(alloc: Global, units: &Units, call: Call<'_>, out: &mut Draft) {
+    let from = if call.name() == "frames" { 2 } else { 1 };
+    let plan = Plan {
+        places: Places::new(call.places(alloc, from, out)),
+    };
+    match call.name() {
+        "costs" => add_plan(out, alloc, units, &plan),
+        _ => judge(out, alloc, units, &plan, call),
     }
 }

@@ -1,5 +1,5 @@
-//! Does the scripts on standard input, lines of calls with what they answer, and tells each line that is answered
-//! otherwise.
+//! Does the scripts on standard input, lines of calls with what they answer, and the jobs of the table behind them, and
+//! tells each line and each row that is answered otherwise.
 #![tactic(auto)]
 
 mod bench;
@@ -16,11 +16,13 @@ mod script;
 mod searching;
 mod steps;
 mod sweep;
+mod table;
 mod texts;
 
+use call::Call;
+use ec_drafts::Draft;
 use script::Script;
-use std::alloc::{AllocError, Global};
-use std::fmt::Write;
+use std::alloc::Global;
 use std::io;
 use std::str::Lines;
 use std::sync::Wait;
@@ -29,75 +31,84 @@ use std::thread::Threads;
 /// What stands between a call and its answer.
 const SIGN: &str = " => ";
 
+/// The line between the scripts and the table.
+const LINE: &str = "====\n";
+
 /// Does a line, and tells it where it is answered otherwise than it says; a line without an answer is to say `-`.
 fn tell(
     rt: &(impl Threads + Wait + Sync),
     alloc: Global,
     script: &mut Script,
     line: &str,
-    out: &mut String,
-) -> Result<(), AllocError> {
+    out: &mut Draft,
+) {
     let (call, wanted) = line.split_once(SIGN).unwrap_or((line, "-"));
-    let answer = script.answer(rt, alloc, call)?;
-    if answer.as_str() != wanted {
-        let answer = answer.as_str();
-        write!(out, "{line}\nanswers {answer}\n")?;
+    let mut answer = Draft::new(alloc);
+    script.answer(rt, alloc, Call::of(call), &mut answer);
+    match answer.finish() {
+        Ok(answer) => if answer.as_str() != wanted {
+            out.add(format_args!("{line}\nanswers {}\n", answer.as_str()));
+        },
+        Err(_) => out.give_up(),
     }
-    Ok(())
 }
 
 /// Does the lines of a script, and gives how many there are.
 fn tell_all(
     rt: &(impl Threads + Wait + Sync),
     alloc: Global,
-    script: &mut Script,
+    mut script: Script,
     lines: Lines<'_>,
-    out: &mut String,
-) -> Result<u32, AllocError> {
+    out: &mut Draft,
+) -> u32 {
     let mut count = 0u32;
     for line in lines {
         if !line.is_empty() && !line.starts_with('#') {
-            tell(rt, alloc, script, line, out)?;
+            tell(rt, alloc, &mut script, line, out);
             count = count.saturating_add(1);
         }
     }
-    Ok(count)
+    count
 }
 
 /// Does a script: its first line names its subject, and each other one is a call, is empty, or begins with a number
-/// sign and is a remark.
-fn perform(
-    rt: &(impl Threads + Wait + Sync),
-    alloc: Global,
-    text: &str,
-    out: &mut String,
-) -> Result<u32, AllocError> {
+/// sign and is a remark. Gives how many calls there are.
+fn perform(rt: &(impl Threads + Wait + Sync), alloc: Global, text: &str, out: &mut Draft) -> u32 {
     let mut lines = text.lines();
     let head = lines.next().unwrap_or("");
-    let Some(mut script) = Script::of(alloc, head)? else {
-        write!(out, "no script: {head}\n")?;
-        return Ok(0);
-    };
-    tell_all(rt, alloc, &mut script, lines, out)
+    match Script::of(alloc, Call::of(head)) {
+        Some(script) => tell_all(rt, alloc, script, lines, out),
+        None => {
+            out.add(format_args!("no script: {head}\n"));
+            0
+        }
+    }
 }
 
-/// What there is to tell of all scripts, and how many lines they have.
-fn report(
-    rt: &(impl Threads + Wait + Sync),
-    alloc: Global,
-    scripts: &str,
-) -> Result<String, AllocError> {
-    let mut out = String::new(alloc);
+/// Adds what there is to tell of all scripts, and how many lines they have.
+fn report(rt: &(impl Threads + Wait + Sync), alloc: Global, scripts: &str, out: &mut Draft) {
     let mut count = 0u32;
     for text in scripts.split("~\n") {
-        count = count.saturating_add(perform(rt, alloc, text, &mut out)?);
+        count = count.saturating_add(perform(rt, alloc, text, out));
     }
-    write!(out, "{count} lines\n")?;
-    Ok(out)
+    out.add(format_args!("{count} lines\n"));
+}
+
+/// Adds what there is to tell of the scripts, and of the table where there is one.
+fn report_all(rt: &(impl Threads + Wait + Sync), alloc: Global, text: &str, out: &mut Draft) {
+    match text.split_once(LINE) {
+        Some((scripts, rows)) => {
+            report(rt, alloc, scripts, out);
+            table::report(rt, alloc, rows, out);
+        }
+        None => report(rt, alloc, text, out),
+    }
 }
 
 fn main(rt: HostRuntime) -> io::Result<()> {
-    let scripts = io::read_to_string(rt.alloc(), rt.reader())?;
-    let out = report(&rt, rt.alloc(), scripts.as_str())?;
+    let text = io::read_to_string(rt.alloc(), rt.reader())?;
+    let mut out = Draft::new(rt.alloc());
+    report_all(&rt, rt.alloc(), text.as_str(), &mut out);
+    let out = out.finish()?;
     rt.print(out.as_str())
 }

@@ -2,16 +2,15 @@
 
 ghost use Rattle.std.specs.Prelude.{◌≤◌};
 ghost use Rattle.ec_cert.specs.Shapes.{cert_view};
-ghost use Rattle.ec_cert.specs.WellFormed.{IsWellFormed};
 ghost use Rattle.ec_workers.specs.Answers.{Asked, IsOutcome};
 ghost use Rattle.ec_workers.specs.Outcomes.{IsPartialCert};
 
 use crate::call::Call;
-use crate::certs::{unbarred, written};
-use crate::crews::{Told, outcome_text};
+use crate::certs::{add_verdict, add_written, resumable};
+use crate::crews::{Crew, Told, add_outcome, alone, crew_of};
 use ec_cert::Cert;
-use ec_cert_text::read_cert;
-use ec_checker::{check, level};
+use ec_checker::level;
+use ec_drafts::Draft;
 use ec_units::Units;
 use ec_workers::{Outcome, partial, solve, solve_from};
 use std::alloc::{AllocError, Global};
@@ -37,180 +36,168 @@ fn cert_of(alloc: Global, units: &Units, outcome: Outcome) -> Result<Cert, Alloc
     }
 }
 
-/// What is told of a certificate whose search ended with this text: the text, of a search without a proof with its level
-/// and what the checker answers.
-fn told(alloc: Global, units: &Units, text: &str, cert: &Cert) -> Result<String, AllocError> {
+/// Adds of the certificate of a search without a proof its level, and what the checker answers of it.
+fn add_level(told: &mut Draft, alloc: Global, units: &Units, cert: &Cert) {
     match cert.level {
         Some(level) => {
-            let verdict = check(alloc, units, cert);
-            format!(in alloc; "{text} {level} {verdict:?}")
+            told.add(format_args!(" {level} "));
+            add_verdict(told, alloc, units, cert);
         }
-        None => String::from_str(alloc, text),
+        None => {}
     }
 }
 
-/// The same with the certificate, with bars. Where memory ran out over it, that is told.
-fn shown(
+/// Adds that, and the certificate to a text of its own. Where memory ran out over it, that is told.
+fn add_cert(
+    told: &mut Draft,
+    text: &mut Draft,
     alloc: Global,
     units: &Units,
-    text: &str,
     cert: &Result<Cert, AllocError>,
-) -> Result<(String, String), AllocError> {
+) {
     match cert {
         Ok(cert) => {
-            let told = told(alloc, units, text, cert)?;
-            Ok((told, written(alloc, cert, usize::MAX)?))
+            add_level(told, alloc, units, cert);
+            add_written(text, cert, usize::MAX);
         }
-        Err(_) => {
-            let told = format!(in alloc; "{text} OutOfMemory")?;
-            Ok((told, String::new(alloc)))
-        }
+        Err(_) => told.add(" OutOfMemory"),
     }
 }
 
-/// The same of a text that may be missing for want of memory.
-fn both_shown(
-    alloc: Global,
-    units: &Units,
-    text: &Result<String, AllocError>,
-    cert: &Result<Cert, AllocError>,
-) -> Result<(String, String), AllocError> {
-    match text {
-        Ok(text) => shown(alloc, units, text.as_str(), cert),
-        Err(_) => Err(AllocError),
-    }
-}
-
-/// What a search ended with as a text, of one without a proof its level and what the checker answers of its certificate,
-/// and that certificate, with bars. Where memory ran out over the level or the certificate, that is told.
-fn ended(alloc: Global, units: &Units, outcome: Outcome) -> Result<(String, String), AllocError>
+/// Adds what a search ended with, of one without a proof its level and what the checker answers of its certificate, and
+/// that certificate, with bars, to a text of its own. Where memory ran out over the level or the certificate, that is
+/// told.
+fn end(told: &mut Draft, text: &mut Draft, alloc: Global, units: &Units, outcome: Outcome)
     requires { (asked : Asked) × IsOutcome units.now.units units.now.slots asked outcome }
 {
-    let text = outcome_text(alloc, units, &outcome);
+    add_outcome(told, alloc, units, &outcome);
     let cert = cert_of(alloc, units, outcome);
-    both_shown(alloc, units, &text, &cert)
+    add_cert(told, text, alloc, units, &cert);
 }
 
-/// What so many workers find that go on with a certificate, over so many nodes more, and their certificate.
-fn went_on(
-    rt: &(impl Threads + Wait + Sync),
-    alloc: Global,
-    units: &Units,
-    cert: &Cert,
-    workers: usize,
-    nodes: u32,
-) -> Result<(String, String), AllocError>
-    requires { IsPartialCert units.now.units units.now.slots (cert_view cert.now) }
-{
-    let workers = workers.clamp(1, 16);
-    let nodes = nodes.clamp(1, 10_000_000);
-    match solve_from(rt, alloc, units, cert, workers, nodes, &Told::new()) {
-        Ok(outcome) => ended(alloc, units, outcome),
-        Err(fault) => Ok((format!(in alloc; "{fault:?}")?, String::new(alloc))),
-    }
-}
-
-/// What so many workers find that go on with a certificate, where the checker shows of it no more than a level; else
-/// what it answers.
-fn judged(
-    rt: &(impl Threads + Wait + Sync),
-    alloc: Global,
-    units: &Units,
-    call: &Call<'_>,
-    cert: &Cert,
-) -> Result<(String, String), AllocError>
-    requires { IsWellFormed (cert_view cert.now) }
-{
-    let told = match check(alloc, units, cert) {
-        Ok(verdict) => match cert.level {
-            Some(_) => return went_on(rt, alloc, units, cert, call.index(1), call.count(2)),
-            None => format!(in alloc; "Ok({verdict:?})")?,
-        },
-        Err(fault) => format!(in alloc; "Err({fault:?})")?,
-    };
-    Ok((told, String::new(alloc)))
-}
-
-/// The same of the text of a certificate, where the checker shows of it no more than a level; else what it answers.
-fn resumed(
-    rt: &(impl Threads + Wait + Sync),
-    alloc: Global,
-    units: &Units,
-    call: &Call<'_>,
-) -> Result<(String, String), AllocError> {
-    let text = unbarred(alloc, call.after(3))?;
-    match read_cert(alloc, text.as_slice()) {
-        Ok(cert) => judged(rt, alloc, units, call, &cert),
-        Err(fault) => Ok((format!(in alloc; "{fault:?}")?, String::new(alloc))),
-    }
-}
-
-/// What so many workers find within so many nodes, and their certificate.
+/// Adds what so many workers find, and their certificate.
 fn cut(
     rt: &(impl Threads + Wait + Sync),
     alloc: Global,
     units: &Units,
-    workers: usize,
-    nodes: u32,
-) -> Result<(String, String), AllocError> {
-    let workers = workers.clamp(1, 16);
-    let nodes = nodes.clamp(1, 10_000_000);
+    crew: Crew,
+    told: &mut Draft,
+    text: &mut Draft,
+) {
+    let workers = crew.workers.clamp(1, 16);
+    let nodes = crew.nodes.clamp(1, 10_000_000);
     match solve(rt, alloc, units, workers, nodes, &Told::new()) {
-        Ok(outcome) => ended(alloc, units, outcome),
-        Err(fault) => Ok((format!(in alloc; "{fault:?}")?, String::new(alloc))),
+        Ok(outcome) => end(told, text, alloc, units, outcome),
+        Err(fault) => told.add(format_args!("{fault:?}")),
     }
 }
 
-/// What is found.
-fn first(both: Result<(String, String), AllocError>) -> Result<String, AllocError> {
-    match both {
-        Ok((text, _)) => Ok(text),
-        Err(error) => Err(error),
+/// Adds what so many workers find that go on with a certificate, over so many nodes more, and their certificate.
+fn go_on(
+    rt: &(impl Threads + Wait + Sync),
+    alloc: Global,
+    units: &Units,
+    cert: &Cert,
+    crew: Crew,
+    told: &mut Draft,
+    text: &mut Draft,
+)
+    requires { IsPartialCert units.now.units units.now.slots (cert_view cert.now) }
+{
+    let workers = crew.workers.clamp(1, 16);
+    let nodes = crew.nodes.clamp(1, 10_000_000);
+    match solve_from(rt, alloc, units, cert, workers, nodes, &Told::new()) {
+        Ok(outcome) => end(told, text, alloc, units, outcome),
+        Err(fault) => told.add(format_args!("{fault:?}")),
     }
 }
 
-/// The certificate of it.
-fn second(both: Result<(String, String), AllocError>) -> Result<String, AllocError> {
-    match both {
-        Ok((_, cert)) => Ok(cert),
-        Err(error) => Err(error),
+/// The same of the text of a certificate, with bars, where the checker shows of it no more than a level; else adds what
+/// it answers.
+fn resume(
+    rt: &(impl Threads + Wait + Sync),
+    alloc: Global,
+    units: &Units,
+    barred: &str,
+    crew: Crew,
+    told: &mut Draft,
+    text: &mut Draft,
+) {
+    match resumable(told, alloc, units, barred) {
+        Some(cert) => go_on(rt, alloc, units, &cert, crew, told, text),
+        None => {}
     }
 }
 
-/// What a search in two parts finds, the second of which goes on with the certificate that the first one wrote.
+/// Adds what a search in two parts finds, the second of which goes on with the certificate that the first one wrote.
+/// What else they tell goes to another text.
 fn onward(
     rt: &(impl Threads + Wait + Sync),
     alloc: Global,
     units: &Units,
-    call: &Call<'_>,
-) -> Result<String, AllocError> {
-    let cert = second(cut(rt, alloc, units, call.index(1), call.count(2)))?;
-    let text = format!(in alloc;
-        "resume {} {} {}",
-        call.index(1),
-        call.count(3),
-        cert.as_str()
-    )?;
-    let again = Call::of(alloc, text.as_str())?;
-    first(resumed(rt, alloc, units, &again))
+    call: Call<'_>,
+    out: &mut Draft,
+    other: &mut Draft,
+) {
+    let mut cert = Draft::new(alloc);
+    cut(rt, alloc, units, crew_of(call, 1), other, &mut cert);
+    let more = Crew {
+        workers: call.index(1),
+        nodes: call.count(3),
+    };
+    match cert.finish() {
+        Ok(cert) => resume(rt, alloc, units, cert.as_str(), more, out, other),
+        Err(_) => out.give_up(),
+    }
 }
 
-/// What a call about searches that are gone on with answers: `level NODES` what one worker finds, its level and what the
-/// checker answers of its certificate; `partial NODES` that certificate; `resume WORKERS NODES CERT` what is found by
-/// going on with a certificate, and `resumed WORKERS NODES CERT` the certificate of that; `onward WORKERS NODES MORE`
-/// what a search finds that is cut after so many nodes and gone on with by more.
+/// Adds what is asked of a search, and what else it tells to another text.
+fn tell(
+    rt: &(impl Threads + Wait + Sync),
+    alloc: Global,
+    units: &Units,
+    call: Call<'_>,
+    out: &mut Draft,
+    other: &mut Draft,
+) {
+    let nodes = call.count(1);
+    match call.name() {
+        "level" => cut(rt, alloc, units, alone(nodes), out, other),
+        "partial" => cut(rt, alloc, units, alone(nodes), other, out),
+        "resume" => resume(
+            rt,
+            alloc,
+            units,
+            call.after(3),
+            crew_of(call, 1),
+            out,
+            other,
+        ),
+        "resumed" => resume(
+            rt,
+            alloc,
+            units,
+            call.after(3),
+            crew_of(call, 1),
+            other,
+            out,
+        ),
+        "onward" => onward(rt, alloc, units, call, out, other),
+        _ => out.add("no call"),
+    }
+}
+
+/// Adds what a call about searches that are gone on with answers: `level NODES` what one worker finds, its level and
+/// what the checker answers of its certificate; `partial NODES` that certificate; `resume WORKERS NODES CERT` what is
+/// found by going on with a certificate, and `resumed WORKERS NODES CERT` the certificate of that; `onward WORKERS NODES
+/// MORE` what a search finds that is cut after so many nodes and gone on with by more.
 pub(crate) fn answer(
     rt: &(impl Threads + Wait + Sync),
     alloc: Global,
     units: &Units,
-    call: &Call<'_>,
-) -> Result<String, AllocError> {
-    match call.name() {
-        "level" => first(cut(rt, alloc, units, 1, call.count(1))),
-        "partial" => second(cut(rt, alloc, units, 1, call.count(1))),
-        "resume" => first(resumed(rt, alloc, units, call)),
-        "resumed" => second(resumed(rt, alloc, units, call)),
-        "onward" => onward(rt, alloc, units, call),
-        _ => String::from_str(alloc, "no call"),
-    }
+    call: Call<'_>,
+    out: &mut Draft,
+) {
+    let mut other = Draft::new(alloc);
+    tell(rt, alloc, units, call, out, &mut other);
 }

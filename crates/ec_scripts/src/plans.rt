@@ -1,23 +1,15 @@
 //! Plans of a line, and the places that units may take.
 
-use crate::call::Call;
-use crate::samples::places_text;
+use crate::call::{Call, note};
+use crate::samples::{add_place, add_places};
+use ec_drafts::Draft;
 use ec_loads::{Places, Plan, busiest, is_legal};
 use ec_symmetry::{Children, canonical, choices, used_slots};
-use ec_units::{Place, Units};
-use std::alloc::{AllocError, Global};
-
-/// The places that are left, in their order.
-fn all_of(alloc: Global, children: Children) -> Result<Vec<Place>, AllocError> {
-    let mut places = Vec::new(alloc);
-    for place in children {
-        places.push(place)?;
-    }
-    Ok(places)
-}
+use ec_units::Units;
+use std::alloc::Global;
 
 /// The places of a unit, which a call names by period, slot count and used slots.
-fn children_of(call: &Call<'_>) -> Children {
+fn children_of(call: Call<'_>) -> Children {
     let period = call.count(1).min(60) as u16;
     choices(
         period,
@@ -27,97 +19,92 @@ fn children_of(call: &Call<'_>) -> Children {
     )
 }
 
-/// How many children there are, counted one by one, and without a walk.
-fn counts_text(alloc: Global, children: Children) -> Result<String, AllocError> {
+/// Adds the places that are left, in their order.
+fn add_children(out: &mut Draft, children: Children) {
+    let mut is_first = true;
+    for place in children {
+        add_place(out, place, is_first);
+        is_first = false;
+    }
+}
+
+/// Adds how many children there are, counted one by one, and without a walk.
+fn add_counts(out: &mut Draft, children: Children) {
     let count = children.len();
     let walked = children.count();
-    format!(in alloc; "{walked} {count}")
+    out.add(format_args!("{walked} {count}"));
 }
 
-/// The plan that the children reach, in turned time or not, where the plan is legal and the order has units of the line
-/// alone.
-fn renamed(
-    alloc: Global,
-    units: &Units,
-    plan: &Plan,
-    order: &[u8],
-    turned: bool,
-) -> Result<String, AllocError> {
+/// Adds the plan that the children reach, in turned time or not, where the plan is legal and the order has units of the
+/// line alone.
+fn rename(out: &mut Draft, alloc: Global, units: &Units, plan: &Plan, order: &[u8], turned: bool) {
     let count = units.units.as_slice().len();
     if !order.iter().all(|unit| usize::from(*unit) < count) {
-        return String::from_str(alloc, "no order");
+        return out.add("no order");
     }
     match is_legal(units, plan) {
-        Ok(()) => {
-            let other = canonical(alloc, plan, units, order, turned)?;
-            places_text(alloc, other.places.as_slice())
-        }
-        Err(_) => String::from_str(alloc, "not legal"),
+        Ok(()) => match canonical(alloc, plan, units, order, turned) {
+            Ok(other) => add_places(out, other.places.as_slice()),
+            Err(_) => out.give_up(),
+        },
+        Err(_) => out.add("not legal"),
     }
 }
 
-/// The unit numbers in a word, each one digit.
-fn order_of(alloc: Global, word: &str) -> Result<Vec<u8>, AllocError> {
+/// The unit numbers in a word, each one digit. Want of memory is noted in the answer.
+fn order_of(alloc: Global, word: &str, out: &mut Draft) -> Vec<u8> {
     let mut order = Vec::new(alloc);
     for digit in word.as_bytes() {
-        order.push(digit.saturating_sub(b'0'))?;
+        note(order.push(digit.saturating_sub(b'0')).is_ok(), out);
     }
-    Ok(order)
+    order
 }
 
-/// The plan that the children reach from the one of a call, in the order that its first word is, in turned time or not.
-fn renamed_by(alloc: Global, units: &Units, call: &Call<'_>) -> Result<String, AllocError> {
+/// Adds the plan that the children reach from the one of a call, in the order that its first word is, in turned time or
+/// not.
+fn rename_by(out: &mut Draft, alloc: Global, units: &Units, call: Call<'_>, turned: bool) {
     let plan = Plan {
-        places: Places::new(call.places(alloc, 2)?),
+        places: Places::new(call.places(alloc, 2, out)),
     };
-    let order = order_of(alloc, call.word(1))?;
-    renamed(
-        alloc,
-        units,
-        &plan,
-        order.as_slice(),
-        call.name() == "turned",
-    )
+    let order = order_of(alloc, call.word(1), out);
+    rename(out, alloc, units, &plan, order.as_slice(), turned);
 }
 
-/// The places of a unit.
-fn choices_text(alloc: Global, children: Children) -> Result<String, AllocError> {
-    let places = all_of(alloc, children)?;
-    places_text(alloc, places.as_slice())
-}
-
-/// The busiest tick of a plan, where it is legal.
-fn busiest_text(alloc: Global, units: &Units, plan: &Plan) -> Result<String, AllocError> {
+/// Adds the busiest tick of a plan, where it is legal.
+fn add_busiest(out: &mut Draft, units: &Units, plan: &Plan) {
     match is_legal(units, plan) {
-        Ok(()) => format!(in alloc; "{:?}", busiest(units, plan)),
-        Err(_) => String::from_str(alloc, "not legal"),
+        Ok(()) => out.add(format_args!("{:?}", busiest(units, plan))),
+        Err(_) => out.add("not legal"),
     }
 }
 
-/// What a call about this plan answers, or about places.
-fn judged(
-    alloc: Global,
-    units: &Units,
-    plan: &Plan,
-    call: &Call<'_>,
-) -> Result<String, AllocError> {
+/// Adds what a call about this plan answers.
+fn judge(out: &mut Draft, units: &Units, plan: &Plan, call: Call<'_>) {
     match call.name() {
-        "legal" => format!(in alloc; "{:?}", is_legal(units, plan)),
-        "busiest" => busiest_text(alloc, units, plan),
-        "canonical" | "turned" => renamed_by(alloc, units, call),
+        "legal" => out.add(format_args!("{:?}", is_legal(units, plan))),
+        "busiest" => add_busiest(out, units, plan),
         "used" if plan.places.as_slice().len() <= 48 => {
-            used_slots(plan.places.as_slice()).to_string(alloc)
+            out.add(used_slots(plan.places.as_slice()));
         }
-        "choices" => choices_text(alloc, children_of(call)),
-        "count" => counts_text(alloc, children_of(call)),
-        _ => String::from_str(alloc, "no call"),
+        _ => out.add("no call"),
     }
 }
 
-/// What a call about plans of these units answers.
-pub(crate) fn answer(alloc: Global, units: &Units, call: &Call<'_>) -> Result<String, AllocError> {
+/// Adds what a call about the plan that its words are answers.
+fn judge_by(out: &mut Draft, alloc: Global, units: &Units, call: Call<'_>) {
     let plan = Plan {
-        places: Places::new(call.places(alloc, 1)?),
+        places: Places::new(call.places(alloc, 1, out)),
     };
-    judged(alloc, units, &plan, call)
+    judge(out, units, &plan, call);
+}
+
+/// Adds what a call about plans of these units, or about places, answers.
+pub(crate) fn answer(alloc: Global, units: &Units, call: Call<'_>, out: &mut Draft) {
+    match call.name() {
+        "canonical" => rename_by(out, alloc, units, call, false),
+        "turned" => rename_by(out, alloc, units, call, true),
+        "choices" => add_children(out, children_of(call)),
+        "count" => add_counts(out, children_of(call)),
+        _ => judge_by(out, alloc, units, call),
+    }
 }

@@ -1,9 +1,9 @@
 //! Lines of units that scripts name, and places as words.
 
+use ec_drafts::Draft;
 use ec_unit_text::read_units;
 use ec_units::{Place, Units};
-use std::alloc::{AllocError, Global};
-use std::fmt::Write;
+use std::alloc::Global;
 
 /// So many units alike: the output and input bytes of each one's slave, and its period in ticks.
 #[derive(Clone, Copy)]
@@ -15,23 +15,22 @@ struct Sizes {
 }
 
 /// Adds these units, numbered on, each with one slave.
-fn add_units(text: &mut String, from: u32, sizes: &Sizes) -> Result<(), AllocError> {
+fn add_units(text: &mut Draft, from: u32, sizes: Sizes) {
     let Sizes {
         out_bytes,
         in_bytes,
         period,
         count,
-    } = *sizes;
+    } = sizes;
     for number in from..from.saturating_add(count) {
         let letter = char::from(b'a' + (number % 26) as u8);
         let station = number.saturating_add(1001);
         let suffix = if number < 26 { "" } else { "_" };
-        write!(
-            text,
-            "[[unit]]\nname = \"{letter}{suffix}\"\nperiod = {period}\n[[unit.slave]]\nstation = {station}\nout_bytes = {out_bytes}\nin_bytes = {in_bytes}\n"
-        )?;
+        text.add(format_args!("[[unit]]\nname = \"{letter}{suffix}\"\nperiod = {period}\n"));
+        text.add(format_args!(
+            "[[unit.slave]]\nstation = {station}\nout_bytes = {out_bytes}\nin_bytes = {in_bytes}\n"
+        ));
     }
-    Ok(())
 }
 
 /// Output and input bytes; the latter are 0 where no plus sign stands before them.
@@ -57,44 +56,41 @@ fn sizes_of(word: &str) -> Option<Sizes> {
     })
 }
 
-/// The text of the units a, b, c and so on that these words are, where each word is some.
-pub(crate) fn line_text(
-    alloc: Global,
-    slots: u8,
-    words: &[&str],
-) -> Result<Option<String>, AllocError> {
-    let mut text = format!(in alloc; "tick_ns = 1000000\nslots = {slots}\n")?;
+/// Adds the text of the units a, b, c and so on that these words are, and says whether each word is some.
+pub(crate) fn add_line(text: &mut Draft, slots: u8, words: &str) -> bool {
+    text.add(format_args!("tick_ns = 1000000\nslots = {slots}\n"));
     let mut number = 0u32;
-    for word in words {
+    for word in words.split_whitespace() {
         let Some(sizes) = sizes_of(word) else {
-            return Ok(None);
+            return false;
         };
-        add_units(&mut text, number, &sizes)?;
+        add_units(text, number, sizes);
         number = number.saturating_add(sizes.count);
     }
-    Ok(Some(text))
+    true
 }
 
-/// The same units, where they make a line.
-pub(crate) fn line_of(
-    alloc: Global,
-    slots: u8,
-    words: &[&str],
-) -> Result<Option<Units>, AllocError> {
-    match line_text(alloc, slots, words)? {
-        Some(text) => Ok(read_units(alloc, text.as_bytes()).ok()),
-        None => Ok(None),
+/// The same units, where they make a line and memory doesn't run out.
+pub(crate) fn line_of(alloc: Global, slots: u8, words: &str) -> Option<Units> {
+    let mut text = Draft::new(alloc);
+    if !add_line(&mut text, slots, words) {
+        return None;
     }
+    let text = text.finish().ok()?;
+    read_units(alloc, text.as_bytes()).ok()
 }
 
-/// Places as words, with a space between them.
-pub(crate) fn places_text(alloc: Global, places: &[Place]) -> Result<String, AllocError> {
-    let mut text = String::new(alloc);
-    for place in places {
-        let space = if text.as_str().is_empty() { "" } else { " " };
-        let phase = place.phase;
-        let slot = place.slot;
-        write!(text, "{space}{phase},{slot}")?;
+/// Adds a place as a word, with a space before it where it isn't the first.
+pub(crate) fn add_place(out: &mut Draft, place: Place, is_first: bool) {
+    if !is_first {
+        out.add(' ');
     }
-    Ok(text)
+    out.add(format_args!("{},{}", place.phase, place.slot));
+}
+
+/// Adds places as words, with a space between them.
+pub(crate) fn add_places(out: &mut Draft, places: &[Place]) {
+    for (i, place) in places.iter().enumerate() {
+        add_place(out, *place, i == 0);
+    }
 }

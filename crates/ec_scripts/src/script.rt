@@ -5,89 +5,117 @@ use crate::call::Call;
 use crate::desk::Desk;
 use crate::samples::line_of;
 use crate::{certs, layouts, plans, searching, sweep, texts};
+use ec_drafts::Draft;
 use ec_units::Units;
-use std::alloc::{AllocError, Global};
+use std::alloc::Global;
 use std::sync::Wait;
 use std::thread::Threads;
+
+/// What calls about a line ask for.
+#[derive(Clone, Copy)]
+pub(crate) enum Subject {
+    /// Plans, and places.
+    Plans,
+    /// Layouts of plans, and their frames.
+    Layouts,
+    /// Certificates that are read for it.
+    Certs,
+    /// Searches.
+    Search,
+}
 
 /// What the calls of a script are asked of.
 #[derive(Drop)]
 pub(crate) enum Script {
     /// Unit texts.
     Texts,
-    /// Loads and bounds of a line.
-    Loads(Bench),
-    /// Plans of a line, and places.
-    Plans(Units),
-    /// Layouts of a line's plans, and their frames.
-    Layouts(Units),
-    /// Certificates, read for a line.
-    Certs(Units),
-    /// Searches of a line.
-    Search(Units),
     /// Searches of many lines with so many slots.
     Sweep(u8),
+    /// Loads and bounds of a line.
+    Loads(Bench),
     /// A book for a line.
     Book(Desk),
+    /// A line.
+    Line(Subject, Units),
+}
+
+/// The loads of a line.
+fn loads_for(alloc: Global, units: &Units) -> Option<Script> {
+    match Bench::new(alloc, units) {
+        Ok(bench) => Some(Script::Loads(bench)),
+        Err(_) => None,
+    }
+}
+
+/// A book for a line, with so many nodes.
+fn book_for(alloc: Global, units: Units, nodes: u64) -> Option<Script> {
+    match Desk::new(alloc, units, nodes) {
+        Ok(desk) => Some(Script::Book(desk)),
+        Err(_) => None,
+    }
+}
+
+/// Adds what a call about these units answers, by the subject.
+fn answer_line(
+    rt: &(impl Threads + Wait + Sync),
+    alloc: Global,
+    subject: Subject,
+    units: &Units,
+    call: Call<'_>,
+    out: &mut Draft,
+) {
+    match subject {
+        Subject::Plans => plans::answer(alloc, units, call, out),
+        Subject::Layouts => layouts::answer(alloc, units, call, out),
+        Subject::Certs => certs::answer(alloc, units, call, out),
+        Subject::Search => searching::answer(rt, alloc, units, call, out),
+    }
 }
 
 impl Script {
-    /// The script of this first line: its subject, the slot count, of a book the nodes, and the units.
-    pub(crate) fn of(alloc: Global, head: &str) -> Result<Option<Script>, AllocError> {
-        let call = Call::of(alloc, head)?;
-        match call.name() {
-            "texts" => Ok(Some(Script::Texts)),
-            "sweep" => Ok(Some(Script::Sweep(call.small(1)))),
-            "book" => Script::of_line(alloc, &call, 3),
-            _ => Script::of_line(alloc, &call, 2),
+    /// The script of this first line: its subject, the slot count, of a book the nodes, and the units. There is none
+    /// where the line names none, or memory runs out over it.
+    pub(crate) fn of(alloc: Global, head: Call<'_>) -> Option<Script> {
+        match head.name() {
+            "texts" => Some(Script::Texts),
+            "sweep" => Some(Script::Sweep(head.small(1))),
+            "book" => match line_of(alloc, head.small(1), head.after(3)) {
+                Some(units) => book_for(alloc, units, head.number(2).unwrap_or(0)),
+                None => None,
+            },
+            _ => match line_of(alloc, head.small(1), head.after(2)) {
+                Some(units) => Script::about(alloc, head.name(), units),
+                None => None,
+            },
         }
     }
 
-    /// The script for a line, whose units are the words from this one on.
-    fn of_line(alloc: Global, call: &Call<'_>, from: usize) -> Result<Option<Script>, AllocError> {
-        match line_of(alloc, call.small(1), call.rest(from))? {
-            Some(units) => Script::of_units(alloc, call, units),
-            None => Ok(None),
-        }
-    }
-
-    /// The script for these units.
-    fn of_units(
-        alloc: Global,
-        call: &Call<'_>,
-        units: Units,
-    ) -> Result<Option<Script>, AllocError> {
-        Ok(match call.name() {
-            "loads" => Some(Script::Loads(Bench::new(alloc, &units)?)),
-            "plans" => Some(Script::Plans(units)),
-            "layouts" => Some(Script::Layouts(units)),
-            "certs" => Some(Script::Certs(units)),
-            "search" => Some(Script::Search(units)),
-            "book" => {
-                let nodes = call.number(2).unwrap_or(0);
-                Some(Script::Book(Desk::new(alloc, units, nodes)?))
-            }
+    /// The script of this name for these units.
+    fn about(alloc: Global, name: &str, units: Units) -> Option<Script> {
+        match name {
+            "loads" => loads_for(alloc, &units),
+            "plans" => Some(Script::Line(Subject::Plans, units)),
+            "layouts" => Some(Script::Line(Subject::Layouts, units)),
+            "certs" => Some(Script::Line(Subject::Certs, units)),
+            "search" => Some(Script::Line(Subject::Search, units)),
             _ => None,
-        })
+        }
     }
 
-    /// What a call answers.
+    /// Adds what a call answers.
     pub(crate) fn answer(
         &mut self,
         rt: &(impl Threads + Wait + Sync),
         alloc: Global,
-        text: &str,
-    ) -> Result<String, AllocError> {
-        let call = Call::of(alloc, text)?;
+        call: Call<'_>,
+        out: &mut Draft,
+    ) {
         match self {
-            Script::Texts => texts::answer(alloc, &call),
-            Script::Loads(bench) => bench.answer(alloc, &call),
-            Script::Plans(units) => plans::answer(alloc, units, &call),
-            Script::Layouts(units) => layouts::answer(alloc, units, &call),
-            Script::Certs(units) => certs::answer(alloc, units, &call),
-            Script::Search(units) => searching::answer(rt, alloc, units, &call),
-            Script::Sweep(slots) => sweep::answer(rt, alloc, *slots, &call),
-            Script::Book(desk) => desk.answer(alloc, &call),
+            Script::Texts => texts::answer(alloc, call, out),
+            Script::Sweep(slots) => sweep::answer(rt, alloc, *slots, call, out),
+            Script::Loads(bench) => bench.answer(alloc, call, out),
+            Script::Book(desk) => desk.answer(alloc, call, out),
+            Script::Line(subject, units) => answer_line(rt, alloc, *subject, units, call, out),
         }
     }
 }

@@ -1,191 +1,69 @@
 //! The order of the units, the greedy plan, trees below a prefix, and what a search of one worker finds and writes.
 
-ghost use Rattle.std.specs.Prelude.{◌≤◌};
+ghost use Rattle.std.specs.Prelude.{length};
+ghost use Rattle.ec_symmetry.specs.Orders.{IsOrder};
 
 use crate::call::Call;
-use crate::certs::written;
-use crate::crews::{crewed, crewed_again, met};
-use crate::guide::{Wish, found_below, is_reached};
+use crate::crews::{Shown, Told, alone, crewed, crewed_again, met, search};
+use crate::guide::{Heard, Wish, found_below, is_reached};
 use crate::onward;
-use crate::samples::places_text;
+use crate::samples::add_places;
 use ec_branch::{greedy, search_order};
-use ec_cert::{Best, Cert};
-use ec_checker::check;
-use ec_loads::{busiest, is_legal};
+use ec_cert::Subtree;
+use ec_drafts::Draft;
+use ec_loads::{Plan, busiest, is_legal};
 use ec_units::Units;
-use ec_workers::{Gate, Outcome, SolveFault, solve};
-use std::alloc::{AllocError, Global};
+use std::alloc::Global;
 use std::sync::Wait;
-use std::sync::atomic::{AtomicU64, Ordering};
+use std::sync::atomic::Ordering;
 use std::thread::Threads;
 
-/// A gate that counts the calls, and apart those that aren't of worker 0 and piece 0.
-#[derive(Drop)]
-struct Counting {
-    calls: AtomicU64,
-    others: AtomicU64,
-}
-
-impl Gate for Counting {
-    fn before(&self, worker: usize, piece: u64, _value: Option<u64>) {
-        self.calls.fetch_add(1, Ordering::SeqCst);
-        if worker != 0 || piece != 0 {
-            self.others.fetch_add(1, Ordering::SeqCst);
-        }
-    }
-}
-
-/// The value of the best plan, if there is one.
-fn value_text(alloc: Global, best: &Option<Best>) -> Result<String, AllocError> {
-    match best {
-        None => String::from_str(alloc, "none"),
-        Some(best) => best.busiest.to_string(alloc),
-    }
-}
-
-/// An outcome as a text, with the tree where it is asked for.
-fn outcome_text(alloc: Global, outcome: &Outcome, whole: bool) -> Result<String, AllocError> {
-    match outcome {
-        Outcome::Optimal { plan, busiest, .. } => {
-            let places = places_text(alloc, plan.places.as_slice())?;
-            format!(in alloc; "optimal {busiest} {}", places.as_str())
-        }
-        Outcome::NoPlan { .. } => String::from_str(alloc, "no plan"),
-        Outcome::Unproved {
-            best,
-            tree,
-            cut,
-            ..
-        } => {
-            let value = value_text(alloc, best)?;
-            if whole {
-                format!(in alloc; "unproved {} {cut:?} {tree:?}", value.as_str())
-            } else {
-                format!(in alloc; "unproved {} {cut:?}", value.as_str())
-            }
-        }
-    }
-}
-
-/// What a search ended with, or why none began.
-fn ended(
-    alloc: Global,
-    found: &Result<Outcome, SolveFault>,
-    whole: bool,
-) -> Result<String, AllocError> {
-    match found {
-        Ok(outcome) => outcome_text(alloc, outcome, whole),
-        Err(fault) => format!(in alloc; "{fault:?}"),
-    }
-}
-
-/// What one worker finds within so many nodes.
-fn found(
-    rt: &(impl Threads + Wait + Sync),
-    alloc: Global,
-    units: &Units,
-    call: &Call<'_>,
-    gate: &Counting,
-) -> Result<String, AllocError> {
-    let nodes = call.count(1).clamp(1, 10_000_000);
-    let found = solve(rt, alloc, units, 1, nodes, gate);
-    ended(alloc, &found, call.word(2) == "whole")
-}
-
-/// What one worker finds within so many nodes, and before how many of them its gate was told, and of how many others
-/// than worker 0 with piece 0.
+/// Adds what one worker finds within so many nodes, and before how many of them its gate was told, and of how many
+/// others than worker 0 with piece 0.
 fn solved(
     rt: &(impl Threads + Wait + Sync),
     alloc: Global,
     units: &Units,
-    call: &Call<'_>,
-) -> Result<String, AllocError> {
-    let gate = Counting {
-        calls: AtomicU64::new(0),
-        others: AtomicU64::new(0),
+    call: Call<'_>,
+    out: &mut Draft,
+) {
+    let shown = if call.word(2) == "whole" {
+        Shown::Tree
+    } else {
+        Shown::Plan
     };
-    let text = found(rt, alloc, units, call, &gate)?;
+    let gate = Told::new();
+    search(rt, alloc, units, alone(call.count(1)), &gate, shown, out);
     let calls = gate.calls.load(Ordering::SeqCst);
     let others = gate.others.load(Ordering::SeqCst);
-    format!(in alloc; "{} told {calls} {others}", text.as_str())
+    out.add(format_args!(" told {calls} {others}"));
 }
 
-fn cert_of(outcome: Outcome) -> Option<Cert> {
-    match outcome {
-        Outcome::Optimal { cert, .. } => Some(cert),
-        Outcome::NoPlan { cert } => Some(cert),
-        Outcome::Unproved { .. } => None,
-    }
-}
-
-/// The text of a certificate, and what the checker answers of it.
-fn shown(
-    alloc: Global,
-    units: &Units,
-    cert: &Option<Cert>,
-) -> Result<(String, String), AllocError> {
-    let Some(cert) = cert else {
-        return Ok((String::new(alloc), String::from_str(alloc, "unproved")?));
-    };
-    let verdict = check(alloc, units, cert);
-    let verdict = format!(in alloc; "{verdict:?}")?;
-    Ok((written(alloc, cert, usize::MAX)?, verdict))
-}
-
-/// The text of the certificate that a search writes, and what the checker answers of it.
-fn certified(
+/// Adds the certificate that a search writes, or what the checker answers of it.
+fn certify(
     rt: &(impl Threads + Wait + Sync),
     alloc: Global,
     units: &Units,
-) -> Result<(String, String), AllocError> {
-    let gate = Counting {
-        calls: AtomicU64::new(0),
-        others: AtomicU64::new(0),
-    };
-    match solve(rt, alloc, units, 1, 1_000_000, &gate) {
-        Ok(outcome) => {
-            let cert = cert_of(outcome);
-            shown(alloc, units, &cert)
-        }
-        Err(_) => Ok((String::new(alloc), String::from_str(alloc, "refused")?)),
-    }
+    shown: Shown,
+    out: &mut Draft,
+) {
+    search(rt, alloc, units, alone(1_000_000), &Told::new(), shown, out);
 }
 
-/// The text of the certificate that a search writes.
-fn cert_text(
-    rt: &(impl Threads + Wait + Sync),
-    alloc: Global,
-    units: &Units,
-) -> Result<String, AllocError> {
-    let (text, _) = certified(rt, alloc, units)?;
-    Ok(text)
-}
-
-/// What the checker answers of it.
-fn verdict_text(
-    rt: &(impl Threads + Wait + Sync),
-    alloc: Global,
-    units: &Units,
-) -> Result<String, AllocError> {
-    let (_, verdict) = certified(rt, alloc, units)?;
-    Ok(verdict)
-}
-
-/// How many lines of that text are this one.
-fn lines_text(
+/// Adds how many lines of that certificate are this one.
+fn add_count(
     rt: &(impl Threads + Wait + Sync),
     alloc: Global,
     units: &Units,
     wanted: &str,
-) -> Result<String, AllocError> {
-    let text = cert_text(rt, alloc, units)?;
-    count_of(text.as_str(), wanted).to_string(alloc)
-}
-
-/// The order in which a search gives units their places.
-fn order_text(alloc: Global, units: &Units) -> Result<String, AllocError> {
-    let order = search_order(alloc, units)?;
-    format!(in alloc; "{order:?}")
+    out: &mut Draft,
+) {
+    let mut text = Draft::new(alloc);
+    certify(rt, alloc, units, Shown::Cert, &mut text);
+    match text.finish() {
+        Ok(text) => out.add(count_of(text.as_str(), wanted)),
+        Err(_) => out.give_up(),
+    }
 }
 
 /// How many lines of a text, each with a bar behind it, are this one; of no text, how many there are.
@@ -199,60 +77,88 @@ fn count_of(text: &str, wanted: &str) -> u32 {
     count
 }
 
-/// The places of the greedy plan and its greatest cost, where there is one.
-fn greedy_text(alloc: Global, units: &Units) -> Result<String, AllocError> {
-    let Some(plan) = greedy(alloc, units)? else {
-        return String::from_str(alloc, "none");
-    };
-    let places = places_text(alloc, plan.places.as_slice())?;
-    match is_legal(units, &plan) {
-        Ok(()) => {
-            let cost = busiest(units, &plan).0;
-            format!(in alloc; "{} {cost}", places.as_str())
-        }
-        Err(illegal) => format!(in alloc; "{illegal:?}"),
+/// Adds the order in which a search gives units their places.
+fn add_order(out: &mut Draft, alloc: Global, units: &Units) {
+    match search_order(alloc, units) {
+        Ok(order) => out.add(format_args!("{order:?}")),
+        Err(_) => out.give_up(),
     }
 }
 
-/// The tree that a search finds, its threshold, and how often its guide was asked, told, and told a plan that wasn't
-/// cheaper: `explore VALUE FLOOR GRANT stops|goes PLACE..`.
-fn explored(alloc: Global, units: &Units, call: &Call<'_>) -> Result<String, AllocError> {
+/// Adds the places of a plan and its greatest cost.
+fn add_plan(out: &mut Draft, units: &Units, plan: &Plan) {
+    match is_legal(units, plan) {
+        Ok(()) => {
+            add_places(out, plan.places.as_slice());
+            out.add(format_args!(" {}", busiest(units, plan).0));
+        }
+        Err(illegal) => out.add(format_args!("{illegal:?}")),
+    }
+}
+
+/// Adds the places of the greedy plan and its greatest cost, where there is one.
+fn add_greedy(out: &mut Draft, alloc: Global, units: &Units) {
+    match greedy(alloc, units) {
+        Ok(Some(plan)) => add_plan(out, units, &plan),
+        Ok(None) => out.add("none"),
+        Err(_) => out.give_up(),
+    }
+}
+
+/// Adds a tree, its threshold, and how often the guide was asked, told, and told a plan that wasn't cheaper.
+fn add_tree(out: &mut Draft, sub: &Subtree, heard: Heard) {
+    out.add(format_args!("{:?} {:?}", sub.tree, sub.threshold));
+    out.add(format_args!(" asked {} told {}", heard.asked, heard.told));
+    out.add(format_args!(" dearer {}", heard.dearer));
+}
+
+/// Adds what a search below these places finds, in this order of the units.
+fn explore_in(out: &mut Draft, alloc: Global, units: &Units, order: &[u8], call: Call<'_>)
+    requires { IsOrder (length units.now.units) order.now }
+{
     let wish = Wish {
         value: call.number(1),
         floor: call.number(2).unwrap_or(0),
         grant: call.count(3),
         stops: call.word(4) == "stops",
     };
-    let prefix = call.places(alloc, 5)?;
-    let order = search_order(alloc, units)?;
-    if wish.grant == 0 || !is_reached(units, order.as_slice(), prefix.as_slice()) {
-        return String::from_str(alloc, "no node, or a place that is not reached");
+    let prefix = call.places(alloc, 5, out);
+    if wish.grant == 0 || !is_reached(units, order, prefix.as_slice()) {
+        return out.add("no node, or a place that is not reached");
     }
-    let (sub, heard) = found_below(alloc, units, order.as_slice(), prefix.as_slice(), wish)?;
-    format!(in alloc;
-        "{:?} {:?} asked {} told {} dearer {}",
-        sub.tree, sub.threshold, heard.asked, heard.told, heard.dearer
-    )
+    match found_below(alloc, units, order, prefix.as_slice(), wish) {
+        Ok((sub, heard)) => add_tree(out, &sub, heard),
+        Err(_) => out.give_up(),
+    }
 }
 
-/// What a call about searches of these units answers.
+/// Adds what a search below these places finds: `explore VALUE FLOOR GRANT stops|goes PLACE..`.
+fn explored(out: &mut Draft, alloc: Global, units: &Units, call: Call<'_>) {
+    match search_order(alloc, units) {
+        Ok(order) => explore_in(out, alloc, units, order.as_slice(), call),
+        Err(_) => out.give_up(),
+    }
+}
+
+/// Adds what a call about searches of these units answers.
 pub(crate) fn answer(
     rt: &(impl Threads + Wait + Sync),
     alloc: Global,
     units: &Units,
-    call: &Call<'_>,
-) -> Result<String, AllocError> {
+    call: Call<'_>,
+    out: &mut Draft,
+) {
     match call.name() {
-        "order" => order_text(alloc, units),
-        "greedy" => greedy_text(alloc, units),
-        "explore" => explored(alloc, units, call),
-        "solve" => solved(rt, alloc, units, call),
-        "crew" => crewed(rt, alloc, units, call),
-        "again" => crewed_again(rt, alloc, units, call),
-        "meet" => met(rt, alloc, units, call),
-        "checked" => verdict_text(rt, alloc, units),
-        "lines" => lines_text(rt, alloc, units, call.after(1)),
-        "certificate" => cert_text(rt, alloc, units),
-        _ => onward::answer(rt, alloc, units, call),
+        "order" => add_order(out, alloc, units),
+        "greedy" => add_greedy(out, alloc, units),
+        "explore" => explored(out, alloc, units, call),
+        "solve" => solved(rt, alloc, units, call, out),
+        "crew" => crewed(rt, alloc, units, call, out),
+        "again" => crewed_again(rt, alloc, units, call, out),
+        "meet" => met(rt, alloc, units, call, out),
+        "checked" => certify(rt, alloc, units, Shown::Verdict, out),
+        "lines" => add_count(rt, alloc, units, call.after(1), out),
+        "certificate" => certify(rt, alloc, units, Shown::Cert, out),
+        _ => onward::answer(rt, alloc, units, call, out),
     }
 }

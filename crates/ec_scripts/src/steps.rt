@@ -31,7 +31,12 @@ impl Dice {
 
 /// Whether the payload of each slot in a tick is that of the sums.
 fn slots_agree(loads: &Loads, tick: u32) -> bool {
-    (0..loads.slots()).all(|slot| loads.payload(tick, slot) == plain_payload(loads, tick, slot))
+    for slot in 0..loads.slots() {
+        if loads.payload(tick, slot) != plain_payload(loads, tick, slot) {
+            return false;
+        }
+    }
+    true
 }
 
 /// Whether what a tick carries and costs is that of the sums.
@@ -39,6 +44,16 @@ fn tick_agrees(loads: &Loads, tick: u32) -> bool {
     loads.cost(tick) == plain_cost(loads, tick)
         && loads.raw(tick) == plain_raw(loads, tick)
         && slots_agree(loads, tick)
+}
+
+/// Whether what each tick carries and costs is that of the sums.
+fn ticks_agree(loads: &Loads) -> bool {
+    for tick in 0..loads.ticks() {
+        if !tick_agrees(loads, tick) {
+            return false;
+        }
+    }
+    true
 }
 
 /// The costs without padding of all ticks together.
@@ -52,19 +67,20 @@ fn raw_sum(loads: &Loads) -> u64 {
 
 /// The first tick that costs at least the value.
 fn first_reaching(loads: &Loads, value: u64) -> Option<u32> {
-    (0..loads.ticks()).find(|tick| plain_cost(loads, *tick) >= value)
+    for tick in 0..loads.ticks() {
+        if plain_cost(loads, tick) >= value {
+            return Some(tick);
+        }
+    }
+    None
 }
 
-/// Whether what is asked of all ticks at once is that of the sums: the greatest cost, the first slot that is too full,
-/// the sum, and the first tick that costs at least the value.
-fn whole_agrees(loads: &Loads, value: u64) -> bool {
+/// Whether each answer of the loads is that of the sums, in every tick and slot, and what is asked of all ticks at
+/// once: the greatest cost, the first slot that is too full, the sum, and the first tick that costs at least the value.
+pub(crate) fn agrees(loads: &Loads, value: u64) -> bool {
     loads.top() == plain_top(loads)
         && loads.full() == plain_full(loads)
         && loads.raw_total() == raw_sum(loads)
         && loads.first_at_least(value) == first_reaching(loads, value)
-}
-
-/// Whether each answer of the loads is that of the sums, in every tick and slot.
-pub(crate) fn agrees(loads: &Loads, value: u64) -> bool {
-    whole_agrees(loads, value) && (0..loads.ticks()).all(|tick| tick_agrees(loads, tick))
+        && ticks_agree(loads)
 }

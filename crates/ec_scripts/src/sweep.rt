@@ -1,8 +1,9 @@
 //! Searches of every two units of some sizes and periods, with two numbers of workers.
 
 use crate::call::Call;
-use crate::crews::{Told, found};
+use crate::crews::{Crew, found};
 use crate::samples::line_of;
+use ec_drafts::Draft;
 use ec_units::Units;
 use std::alloc::{AllocError, Global};
 use std::sync::Wait;
@@ -14,18 +15,17 @@ const KINDS: [&str; 16] = [
     "744/4", "1486/1", "1486/2", "1486/3", "1486/4",
 ];
 
-/// What is searched: the slots, and the two numbers of workers.
+/// What is searched: the slots, and with which workers.
 #[derive(Clone, Copy)]
 struct Wanted {
     slots: u8,
-    workers: usize,
-    others: usize,
-    nodes: u32,
+    one: Crew,
+    other: Crew,
 }
 
 /// How many lines have a best plan and how many have none, by the same answer of both searches, to which the checker
 /// says yes; how many are answered in any other way.
-#[derive(Drop)]
+#[derive(Clone, Copy)]
 struct Tally {
     optimal: u32,
     without: u32,
@@ -64,11 +64,26 @@ fn search_twice(
     wanted: Wanted,
     tally: &mut Tally,
 ) -> Result<(), AllocError> {
-    let gate = Told::new();
-    let one = found(rt, alloc, units, wanted.workers, wanted.nodes, &gate)?;
-    let other = found(rt, alloc, units, wanted.others, wanted.nodes, &gate)?;
+    let one = found(rt, alloc, units, wanted.one)?;
+    let other = found(rt, alloc, units, wanted.other)?;
     tally.count(one.as_str(), other.as_str());
     Ok(())
+}
+
+/// Searches the line of these two units.
+fn search_pair(
+    rt: &(impl Threads + Wait + Sync),
+    alloc: Global,
+    wanted: Wanted,
+    first: &str,
+    second: &str,
+    tally: &mut Tally,
+) -> Result<(), AllocError> {
+    let words = format!(in alloc; "{first} {second}")?;
+    match line_of(alloc, wanted.slots, words.as_str()) {
+        Some(units) => search_twice(rt, alloc, &units, wanted, tally),
+        None => Ok(()),
+    }
 }
 
 /// Searches the lines of this unit and each other one.
@@ -79,11 +94,8 @@ fn sweep_beside(
     first: &str,
     tally: &mut Tally,
 ) -> Result<(), AllocError> {
-    for second in KINDS {
-        let words = [first, second];
-        if let Some(units) = line_of(alloc, wanted.slots, words.as_slice())? {
-            search_twice(rt, alloc, &units, wanted, tally)?;
-        }
+    for second in KINDS.as_slice() {
+        search_pair(rt, alloc, wanted, first, second, tally)?;
     }
     Ok(())
 }
@@ -93,26 +105,31 @@ pub(crate) fn answer(
     rt: &(impl Threads + Wait + Sync),
     alloc: Global,
     slots: u8,
-    call: &Call<'_>,
-) -> Result<String, AllocError> {
+    call: Call<'_>,
+    out: &mut Draft,
+) {
+    let nodes = call.count(3);
     let wanted = Wanted {
         slots,
-        workers: call.index(1),
-        others: call.index(2),
-        nodes: call.count(3),
+        one: Crew {
+            workers: call.index(1),
+            nodes,
+        },
+        other: Crew {
+            workers: call.index(2),
+            nodes,
+        },
     };
     let mut tally = Tally {
         optimal: 0,
         without: 0,
         otherwise: 0,
     };
-    for first in KINDS {
-        sweep_beside(rt, alloc, wanted, first, &mut tally)?;
+    for first in KINDS.as_slice() {
+        if sweep_beside(rt, alloc, wanted, first, &mut tally).is_err() {
+            return out.give_up();
+        }
     }
-    let Tally {
-        optimal,
-        without,
-        otherwise,
-    } = tally;
-    format!(in alloc; "optimal {optimal} no plan {without} otherwise {otherwise}")
+    out.add(format_args!("optimal {} no plan {}", tally.optimal, tally.without));
+    out.add(format_args!(" otherwise {}", tally.otherwise));
 }

@@ -1,16 +1,21 @@
 //! What a command line says, done with the paths that it names.
 
-use super::words::words_of;
+ghost use Rattle.ec_command.specs.Words.{HasPath, JobFits};
+
+use super::add_bytes;
+use super::late::{add_calls, add_failed, add_file};
+use super::threes::Threes;
+use super::words::asked;
+use ec_command::Line;
+use ec_drafts::Draft;
 use ec_jobs::do_line;
 use ec_streams::Slow;
 use ec_wire::Io;
-use ec_words::read_words;
 use ec_workers::Quiet;
-use std::alloc::{AllocError, Global};
+use std::alloc::AllocError;
 use std::io::Read;
 use std::rt::Files;
 use std::sync::Wait;
-use std::test::Fail;
 use std::thread::Threads;
 use std::{fs, io};
 
@@ -22,17 +27,13 @@ const MEETING: &str =
 const PLACED: &str =
     "tick_ns = 1000000\nslots = 1\n[[unit]]\nname = \"a\"\nperiod = 2\nphase = 0\nslot = 0\n[[unit.slave]]\nstation = 1001\nout_bytes = 200\nin_bytes = 0\n[[unit]]\nname = \"b\"\nperiod = 3\nphase = 0\nslot = 0\n[[unit.slave]]\nstation = 1002\nout_bytes = 200\nin_bytes = 0\n";
 
+/// The certificate of a whole search.
 const CERT: &str =
     "ecplan 2\nslots 1\nunit a 200 2\nunit b 200 3\norder 0 1\nvalue 464\nplace 0 0\nplace 0 0\ntree\nS 1\nS 3\nT 0\nT 4\nT 2\nend\n";
 
 /// What a search of four nodes writes: the last leaf is open.
 const CUT_CERT: &str =
     "ecplan 3\nslots 1\nunit a 200 2\nunit b 200 3\norder 0 1\nvalue 464\nplace 0 0\nplace 0 0\nlevel 464\ntree\nS 1\nS 3\nT 0\nT 4\nO\nend\n";
-
-/// How a job ends that is done.
-const DONE: &str = "status 0, 2 reads\n";
-
-const PLACES: &str = "unit a phase 0 slot 0\nunit b phase 0 slot 0\n";
 
 /// A reader of bytes that counts its calls.
 #[derive(Drop)]
@@ -48,232 +49,344 @@ impl<'a> Read for Counted<'a> {
     }
 }
 
-/// What is written for these words and the units that always meet, with the status, and how often these were read.
-fn said_by<F: Files>(
-    files: &F,
-    wait: &(impl Threads + Wait + Sync),
-    alloc: Global,
-    words: &str,
-) -> Result<String, Fail> {
-    said_of(files, wait, alloc, MEETING, words)
-}
-
-/// What is written for these words and units, with the status, and how often the units were read.
-fn said_of<F: Files>(
-    files: &F,
-    wait: &(impl Threads + Wait + Sync),
-    alloc: Global,
-    line: &str,
-    words: &str,
-) -> Result<String, Fail> {
-    let words = words_of(alloc, words)?;
-    let asked = read_words(alloc, &words).ok().ok_or("a line")?;
+/// Adds what is written for a line and these units, with the status, and how often the units were read.
+fn add_done<R: Files + AllocGlobal + Threads + Wait + Sync>(
+    out: &mut Draft,
+    rt: &R,
+    line: &Line,
+    units: &str,
+)
+    requires fits { JobFits line.now.job }
+    requires path { HasPath line.now.job line.now.cert }
+{
     let mut bytes = Counted {
-        rest: line.as_bytes(),
+        rest: units.as_bytes(),
         calls: 0,
     };
     let mut held = Slow {
-        held: Vec::new(alloc),
+        held: Vec::new(rt.alloc()),
         calls: 999,
     };
     let mut units = Io::new(&mut bytes);
     let mut text = Io::new(&mut held);
-    let status = do_line(
-        files,
-        wait,
-        alloc,
-        &asked.line,
-        &mut units,
-        &mut text,
-        &Quiet,
-    );
+    let status = do_line(rt, rt, rt.alloc(), line, &mut units, &mut text, &Quiet);
     drop(units);
     drop(text);
-    let reads = bytes.calls;
-    let code = status.code;
-    let text = std::str::from_utf8(held.held.as_slice())
-        .ok()
-        .ok_or("text")?;
-    Ok(format!(in alloc; "{text}status {code}, {reads} reads\n")?)
+    add_bytes(out, held.held.as_slice());
+    out.add(format_args!("status {}, {} reads\n", status.code, bytes.calls));
 }
 
-/// Adds the file at a path.
-fn add_file<R: Files + AllocGlobal>(rt: &R, told: &mut String, path: &str) -> Result<(), Fail> {
-    let file = fs::read_to_string(rt, path)?;
-    told.push_str(file.as_str())?;
-    Ok(())
-}
-
-/// Adds what is written for these words, and the file that they leave at a path.
-fn add_both<R: Files + AllocGlobal + Threads + Wait + Sync>(
+/// Adds what a line of words is answered with, for these units.
+fn add_answer<R: Files + AllocGlobal + Threads + Wait + Sync>(
+    out: &mut Draft,
     rt: &R,
-    told: &mut String,
-    words: &str,
-    path: &str,
-) -> Result<(), Fail> {
-    let said = said_by(rt, rt, rt.alloc(), words)?;
-    told.push_str(said.as_str())?;
-    add_file(rt, told, path)
-}
-
-/// These texts, one after the other.
-fn joined(alloc: Global, texts: &[&str]) -> Result<String, AllocError> {
-    let mut all = String::new(alloc);
-    for text in texts {
-        all.push_str(text)?;
+    line: &str,
+    units: &str,
+) {
+    match asked(rt.alloc(), line) {
+        Ok(asked) => add_done(out, rt, &asked.line, units),
+        Err(_) => out.add("no line\n"),
     }
-    Ok(all)
 }
 
-#[test]
-fn a_plan_with_a_path(rt: HostRuntime) -> Result<(), Fail> {
-    let alloc = rt.alloc();
-    let path = "/tmp/ecplan-plan-out.cert";
-    let _ = fs::remove_file(&rt, path);
-    let mut told = String::new(alloc);
-    let cut = "plan --nodes 4 --out /tmp/ecplan-plan-out.cert";
-    add_both(&rt, &mut told, cut, path)?;
-    let whole = "plan --nodes 5 --out /tmp/ecplan-plan-out.cert";
-    add_both(&rt, &mut told, whole, path)?;
-    fs::remove_file(&rt, path)?;
-    let cut = "unproved 464\ncut budget\nat least 464\n";
-    let shown = joined(
-        alloc,
-        &[
-            cut,
-            PLACES,
-            "status 2, 2 reads\n",
-            CUT_CERT,
-            "optimal 464\n",
-            PLACES,
-            DONE,
-            CERT,
-        ],
-    )?;
-    assert_eq!(rt; told.as_str(), shown.as_str());
-    Ok(())
+/// Adds what a line of words is answered with, for the units that always meet; behind `placed` for them with their places.
+fn add_line<R: Files + AllocGlobal + Threads + Wait + Sync>(out: &mut Draft, rt: &R, line: &str) {
+    match line.strip_prefix("placed ") {
+        Some(line) => add_answer(out, rt, line, PLACED),
+        None => add_answer(out, rt, line, MEETING),
+    }
 }
 
-/// A search is gone on with, and its certificate takes the place of the one that it began with.
-#[test]
-fn a_search_that_is_gone_on_with(rt: HostRuntime) -> Result<(), Fail> {
-    let alloc = rt.alloc();
-    let path = "/tmp/ecplan-resume-in.cert";
-    fs::write(&rt, path, CUT_CERT)?;
-    let lines =
-        "check --cert /tmp/ecplan-resume-in.cert\nresume --cert /tmp/ecplan-resume-in.cert\nresume --nodes 1 --cert /tmp/ecplan-resume-in.cert --out /tmp/ecplan-resume-in.cert\nresume --cert /tmp/ecplan-resume-in.cert\n";
-    let mut told = answers_of(&rt, &rt, alloc, lines)?;
-    add_file(&rt, &mut told, path)?;
-    fs::remove_file(&rt, path)?;
-    let least = joined(alloc, &["optimal 464\n", PLACES, DONE])?;
-    let least = least.as_str();
-    let level = "at least 464\nstatus 2, 2 reads\n";
-    let shown = joined(alloc, &[level, least, least, least, CERT])?;
-    assert_eq!(rt; told.as_str(), shown.as_str());
-    Ok(())
-}
-
-/// What each of these lines of words is answered with, one after the other.
-fn answers_of<F: Files>(
-    files: &F,
-    wait: &(impl Threads + Wait + Sync),
-    alloc: Global,
+/// What lines of words, parted by ` = `, are answered with.
+fn answers_to<R: Files + AllocGlobal + Threads + Wait + Sync>(
+    rt: &R,
     lines: &str,
-) -> Result<String, Fail> {
-    let mut answers = String::new(alloc);
-    for words in lines.lines() {
-        let said = said_by(files, wait, alloc, words)?;
-        answers.push_str(said.as_str())?;
+) -> Result<String, AllocError> {
+    let mut out = Draft::new(rt.alloc());
+    for line in lines.split(" = ") {
+        add_line(&mut out, rt, line);
     }
-    Ok(answers)
+    out.finish()
 }
 
-#[test]
-fn a_path_that_cannot_be_opened(rt: HostRuntime) -> Result<(), Fail> {
-    let lines =
-        "plan --out /tmp/no-such-directory-of-ecplan/c\nplan --nodes 4 --out /tmp/no-such-directory-of-ecplan/c\ncheck --cert /tmp/no-such-directory-of-ecplan/c\nframes --cert /tmp/no-such-directory-of-ecplan/c\nplay --cert /tmp/no-such-directory-of-ecplan/c\ncost --cert /tmp/no-such-directory-of-ecplan/c\nresume --cert /tmp/no-such-directory-of-ecplan/c --out /tmp/no-such-directory-of-ecplan/d\nplay\n";
-    let told = answers_of(&rt, &rt, rt.alloc(), lines)?;
-    let shown =
-        "refused E4 Write\nstatus 4, 2 reads\nrefused E4 Write\nstatus 4, 2 reads\nrefused E3 Read\nstatus 4, 0 reads\nrefused E3 Read\nstatus 4, 0 reads\nrefused E3 Read\nstatus 4, 0 reads\nrefused E3 Read\nstatus 4, 0 reads\nrefused E3 Read\nstatus 4, 0 reads\nrefused E2 NoPlace 0\nstatus 3, 2 reads\n";
-    assert_eq!(rt; told.as_str(), shown);
-    Ok(())
+/// Tells whether a text is twice the same answer, of a job that is done; else the text.
+fn add_same(out: &mut Draft, text: &str) {
+    let (one, other) = text.as_bytes().split_at(text.len() / 2);
+    if one == other && one.ends_with(b"\nstatus 0, 2 reads\n") {
+        out.add("the same, and done\n");
+    } else {
+        out.add(text);
+    }
 }
 
-/// What is told of a play of their plan.
-const PLAY: &str =
-    "start 5\ntick 0 frames 1 bytes 464 counters 2,2\ntick 1 frames 0 bytes 0 counters -\ntick 2 frames 1 bytes 252 counters 2\ntick 3 frames 1 bytes 252 counters 2\ntick 4 frames 1 bytes 252 counters 2\ntick 5 frames 0 bytes 0 counters -\ndone\n";
-
-/// What is told of the costs of their plan.
-const COSTS: &str =
-    "hyperperiod 6\ntick 0 bytes 464 ns 37120\ntick 1 bytes 0 ns 0\ntick 2 bytes 252 ns 20160\ntick 3 bytes 252 ns 20160\ntick 4 bytes 252 ns 20160\ntick 5 bytes 0 ns 0\nbusiest 464 at 0\nfits yes\n";
-
-#[test]
-fn a_check_a_play_and_a_cost_with_their_path(rt: HostRuntime) -> Result<(), Fail> {
-    let path = "/tmp/ecplan-check-in.cert";
-    fs::write(&rt, path, CERT)?;
-    let lines =
-        "check --cert /tmp/ecplan-check-in.cert\nplay --cert /tmp/ecplan-check-in.cert\ncost --cert /tmp/ecplan-check-in.cert\n";
-    let told = answers_of(&rt, &rt, rt.alloc(), lines)?;
-    fs::remove_file(&rt, path)?;
-    let shown = joined(rt.alloc(), &["least 464\n", DONE, PLAY, DONE, COSTS, DONE])?;
-    assert_eq!(rt; told.as_str(), shown.as_str());
-    Ok(())
+/// Tells whether two lines of words have the same answer.
+fn add_alike<R: Files + AllocGlobal + Threads + Wait + Sync>(out: &mut Draft, rt: &R, lines: &str) {
+    match answers_to(rt, lines) {
+        Ok(text) => add_same(out, text.as_str()),
+        Err(AllocError) => out.give_up(),
+    }
 }
 
-/// Frames with their paths, and whether their text with a capture file is that without one; and the bytes of the file.
-#[test]
-fn a_capture_with_its_path(rt: HostRuntime) -> Result<(), Fail> {
-    let path = "/tmp/ecplan-capture-in.cert";
-    fs::write(&rt, path, CERT)?;
-    let alone = said_by(
-        &rt,
-        &rt,
-        rt.alloc(),
-        "frames --cert /tmp/ecplan-capture-in.cert",
-    )?;
-    let told = said_by(
-        &rt,
-        &rt,
-        rt.alloc(),
-        "frames --cert /tmp/ecplan-capture-in.cert --pcap /tmp/ecplan-capture-out.pcap",
-    )?;
-    fs::remove_file(&rt, path)?;
-    let same = told.as_str() == alone.as_str() && told.as_str().ends_with(DONE);
-    let file = fs::read(&rt, "/tmp/ecplan-capture-out.pcap")?;
-    assert_eq!(rt; (same, file.len()), (true, 1212));
-    fs::remove_file(&rt, "/tmp/ecplan-capture-out.pcap")?;
-    Ok(())
+/// Tells whether two files hold the same, and how many bytes.
+fn add_equal_bytes(out: &mut Draft, one: &[u8], other: &[u8]) {
+    if one == other {
+        out.add(format_args!("the same {} bytes\n", one.len()));
+    } else {
+        out.add("not the same bytes\n");
+    }
 }
 
-/// The capture file of the units' own places is that of a certificate with the same plan.
-#[test]
-fn a_capture_of_own_places_with_its_path(rt: HostRuntime) -> Result<(), Fail> {
-    let from = "/tmp/ecplan-own-in.cert";
-    let to = "/tmp/ecplan-own-out.pcap";
-    fs::write(&rt, from, CERT)?;
-    let planned = said_by(
-        &rt,
-        &rt,
-        rt.alloc(),
-        "frames --cert /tmp/ecplan-own-in.cert --pcap /tmp/ecplan-own-out.pcap",
-    )?;
-    let wanted = fs::read(&rt, to)?;
-    fs::remove_file(&rt, from)?;
-    fs::remove_file(&rt, to)?;
-    let words = "frames --pcap /tmp/ecplan-own-out.pcap";
-    let own = said_of(&rt, &rt, rt.alloc(), PLACED, words)?;
-    let file = fs::read(&rt, to)?;
-    fs::remove_file(&rt, to)?;
-    let same = file.as_slice() == wanted.as_slice() && own.as_str() == planned.as_str();
-    assert_eq!(rt; (same, file.len()), (true, 1212));
-    Ok(())
+/// Reads two files, and tells whether they hold the same.
+fn add_equal<R: Files + AllocGlobal>(out: &mut Draft, rt: &R, paths: &str) {
+    let (one, other) = paths.split_once(' ').unwrap_or((paths, ""));
+    match (fs::read(rt, one), fs::read(rt, other)) {
+        (Ok(one), Ok(other)) => add_equal_bytes(out, one.as_slice(), other.as_slice()),
+        _ => out.add("no files\n"),
+    }
 }
 
+/// Writes a certificate to a path.
+fn write<R: Files>(out: &mut Draft, rt: &R, cert: &str, path: &str) {
+    if fs::write(rt, path, cert).is_err() {
+        out.add("not written\n");
+    }
+}
+
+/// Removes a file.
+fn remove<R: Files>(out: &mut Draft, rt: &R, path: &str) {
+    if fs::remove_file(rt, path).is_err() {
+        out.add("not removed\n");
+    }
+}
+
+/// Adds a step and what comes of it: what a line of words is answered with, or what one of the words below does.
+fn add_step<R: Files + AllocGlobal + Threads + Wait + Sync>(out: &mut Draft, rt: &R, step: &str) {
+    out.add(format_args!("> {step}\n"));
+    let (word, rest) = step.split_once(' ').unwrap_or((step, ""));
+    match word {
+        "write" => write(out, rt, CERT, rest),
+        "write-cut" => write(out, rt, CUT_CERT, rest),
+        "show" => add_file(out, rt, rest),
+        "remove" => remove(out, rt, rest),
+        "alike" => add_alike(out, rt, rest),
+        "equal" => add_equal(out, rt, rest),
+        "late" => add_calls(out, rt, rt, rest),
+        "threes" => add_calls(out, rt, &Threes { files: rt }, rest),
+        "fails" => add_failed(out, rt, rest),
+        _ => add_line(out, rt, step),
+    }
+}
+
+/// A text whose lines behind `> ` are steps, with what comes of each below it: the same steps with what comes of them now.
+fn told_again<R: Files + AllocGlobal + Threads + Wait + Sync>(
+    rt: &R,
+    text: &str,
+) -> Result<String, AllocError> {
+    let mut out = Draft::new(rt.alloc());
+    for line in text.lines() {
+        match line.strip_prefix("> ") {
+            Some(step) => add_step(&mut out, rt, step),
+            None => {}
+        }
+    }
+    out.finish()
+}
+
+/// Plans and resumed searches with their paths; a certificate that takes the place of the one that its search began with;
+/// paths that can't be opened; lines without paths; a check, a play, a cost and frames with the path of a certificate; capture
+/// files of its plan and of the same places in the units. Then files that are made when they are first written: nothing is
+/// made before that, a file that is there is emptied then, one takes three bytes a call, and one can't be opened.
+const LINES: &str = "\
+> plan --nodes 4 --out /tmp/ecplan-plan-out.cert
+unproved 464
+cut budget
+at least 464
+unit a phase 0 slot 0
+unit b phase 0 slot 0
+status 2, 2 reads
+> show /tmp/ecplan-plan-out.cert
+ecplan 3
+slots 1
+unit a 200 2
+unit b 200 3
+order 0 1
+value 464
+place 0 0
+place 0 0
+level 464
+tree
+S 1
+S 3
+T 0
+T 4
+O
+end
+> plan --nodes 5 --out /tmp/ecplan-plan-out.cert
+optimal 464
+unit a phase 0 slot 0
+unit b phase 0 slot 0
+status 0, 2 reads
+> show /tmp/ecplan-plan-out.cert
+ecplan 2
+slots 1
+unit a 200 2
+unit b 200 3
+order 0 1
+value 464
+place 0 0
+place 0 0
+tree
+S 1
+S 3
+T 0
+T 4
+T 2
+end
+> remove /tmp/ecplan-plan-out.cert
+> write-cut /tmp/ecplan-resume-in.cert
+> check --cert /tmp/ecplan-resume-in.cert
+at least 464
+status 2, 2 reads
+> resume --cert /tmp/ecplan-resume-in.cert
+optimal 464
+unit a phase 0 slot 0
+unit b phase 0 slot 0
+status 0, 2 reads
+> resume --nodes 1 --cert /tmp/ecplan-resume-in.cert --out /tmp/ecplan-resume-in.cert
+optimal 464
+unit a phase 0 slot 0
+unit b phase 0 slot 0
+status 0, 2 reads
+> resume --cert /tmp/ecplan-resume-in.cert
+optimal 464
+unit a phase 0 slot 0
+unit b phase 0 slot 0
+status 0, 2 reads
+> show /tmp/ecplan-resume-in.cert
+ecplan 2
+slots 1
+unit a 200 2
+unit b 200 3
+order 0 1
+value 464
+place 0 0
+place 0 0
+tree
+S 1
+S 3
+T 0
+T 4
+T 2
+end
+> remove /tmp/ecplan-resume-in.cert
+> plan --out /tmp/no-such-directory-of-ecplan/c
+refused E4 Write
+status 4, 2 reads
+> plan --nodes 4 --out /tmp/no-such-directory-of-ecplan/c
+refused E4 Write
+status 4, 2 reads
+> check --cert /tmp/no-such-directory-of-ecplan/c
+refused E3 Read
+status 4, 0 reads
+> frames --cert /tmp/no-such-directory-of-ecplan/c
+refused E3 Read
+status 4, 0 reads
+> play --cert /tmp/no-such-directory-of-ecplan/c
+refused E3 Read
+status 4, 0 reads
+> cost --cert /tmp/no-such-directory-of-ecplan/c
+refused E3 Read
+status 4, 0 reads
+> resume --cert /tmp/no-such-directory-of-ecplan/c --out /tmp/no-such-directory-of-ecplan/d
+refused E3 Read
+status 4, 0 reads
+> play
+refused E2 NoPlace 0
+status 3, 2 reads
+> cost
+refused E2 NoPlace 0
+status 3, 2 reads
+> plan
+optimal 464
+unit a phase 0 slot 0
+unit b phase 0 slot 0
+status 0, 2 reads
+> write /tmp/ecplan-check-in.cert
+> check --cert /tmp/ecplan-check-in.cert
+least 464
+status 0, 2 reads
+> play --cert /tmp/ecplan-check-in.cert
+start 5
+tick 0 frames 1 bytes 464 counters 2,2
+tick 1 frames 0 bytes 0 counters -
+tick 2 frames 1 bytes 252 counters 2
+tick 3 frames 1 bytes 252 counters 2
+tick 4 frames 1 bytes 252 counters 2
+tick 5 frames 0 bytes 0 counters -
+done
+status 0, 2 reads
+> cost --cert /tmp/ecplan-check-in.cert
+hyperperiod 6
+tick 0 bytes 464 ns 37120
+tick 1 bytes 0 ns 0
+tick 2 bytes 252 ns 20160
+tick 3 bytes 252 ns 20160
+tick 4 bytes 252 ns 20160
+tick 5 bytes 0 ns 0
+busiest 464 at 0
+fits yes
+status 0, 2 reads
+> alike frames --cert /tmp/ecplan-check-in.cert = frames --cert /tmp/ecplan-check-in.cert --pcap /tmp/ecplan-capture-out.pcap
+the same, and done
+> alike frames --cert /tmp/ecplan-check-in.cert = placed frames --pcap /tmp/ecplan-capture-own.pcap
+the same, and done
+> equal /tmp/ecplan-capture-out.pcap /tmp/ecplan-capture-own.pcap
+the same 1212 bytes
+> remove /tmp/ecplan-capture-out.pcap
+> remove /tmp/ecplan-capture-own.pcap
+> remove /tmp/ecplan-check-in.cert
+> late /tmp/ecplan-late.cert flush|write|whole ecplan 1;|whole slots 1;|flush
+[no file]
+flush true[no file]
+write 0[no file]
+whole true[ecplan 1;]
+whole true[ecplan 1;slots 1;]
+flush true[ecplan 1;slots 1;]
+> write /tmp/ecplan-late.cert
+> late /tmp/ecplan-late.cert whole ecplan 1;
+[ecplan 2
+slots 1
+unit a 200 2
+unit b 200 3
+order 0 1
+value 464
+place 0 0
+place 0 0
+tree
+S 1
+S 3
+T 0
+T 4
+T 2
+end
+]
+whole true[ecplan 1;]
+> remove /tmp/ecplan-late.cert
+> threes /tmp/ecplan-late.cert write ecplan 1;|write lan 1;|write  1;|whole slots 1;unit a 200 2;
+[no file]
+write 3[ecp]
+write 3[ecplan]
+write 3[ecplan 1;]
+whole true[ecplan 1;slots 1;unit a 200 2;]
+> remove /tmp/ecplan-late.cert
+> fails /tmp/no-such-directory-of-ecplan/out.cert
+a failed write
+";
+
 #[test]
-fn a_cost_and_a_plan_without_paths(rt: HostRuntime) -> Result<(), Fail> {
-    let told = answers_of(&rt, &rt, rt.alloc(), "cost\nplan\n")?;
-    let refused = "refused E2 NoPlace 0\nstatus 3, 2 reads\n";
-    let shown = joined(rt.alloc(), &[refused, "optimal 464\n", PLACES, DONE])?;
-    assert_eq!(rt; told.as_str(), shown.as_str());
+fn lines_and_their_answers(rt: HostRuntime) -> Result<(), AllocError> {
+    let _ = fs::remove_file(&rt, "/tmp/ecplan-late.cert");
+    let told = told_again(&rt, LINES)?;
+    assert_eq!(rt; told.as_str(), LINES);
     Ok(())
 }

@@ -1,72 +1,63 @@
 //! A file that is made when it is first written.
 
-use super::threes::Threes;
+use ec_drafts::Draft;
 use ec_jobs::Late;
 use ec_wire::Io;
 use std::fs;
 use std::io::Write;
-use std::test::Fail;
+use std::rt::Files;
 
-/// Whether there is a file at this path.
-fn is_there(rt: &HostRuntime, path: &str) -> bool {
-    fs::metadata(rt, path).is_ok()
+/// Adds the text of the file at a path, if there is one.
+pub(super) fn add_file<R: Files + AllocGlobal>(out: &mut Draft, rt: &R, path: &str) {
+    match fs::read_to_string(rt, path) {
+        Ok(file) => out.add(file.as_str()),
+        Err(_) => out.add("no file"),
+    }
 }
 
-#[test]
-fn nothing_is_made_before_the_first_write(rt: HostRuntime) -> Result<(), Fail> {
-    let path = "/tmp/ecplan-late-first-write.cert";
-    let _ = fs::remove_file(&rt, path);
-    let mut late = Late::new(&rt, path);
-    late.flush()?;
-    assert_eq!(rt; late.write(b"")?, 0);
-    assert!(rt; !is_there(&rt, path));
-    late.write_all(b"ecplan 1\n")?;
-    assert!(rt; is_there(&rt, path));
-    late.write_all(b"slots 1\n")?;
-    late.flush()?;
-    let held = fs::read_to_string(&rt, path)?;
-    assert_eq!(rt; held.as_str(), "ecplan 1\nslots 1\n");
-    fs::remove_file(&rt, path)?;
-    Ok(())
+/// Adds what the file at a path holds, in brackets.
+fn add_held<R: Files + AllocGlobal>(out: &mut Draft, rt: &R, path: &str) {
+    out.add("[");
+    add_file(out, rt, path);
+    out.add("]\n");
 }
 
-#[test]
-fn a_file_that_is_there_is_emptied_at_the_first_write(rt: HostRuntime) -> Result<(), Fail> {
-    let path = "/tmp/ecplan-late-emptied.cert";
-    fs::write(&rt, path, "an older and longer certificate\n")?;
-    let mut late = Late::new(&rt, path);
-    assert_eq!(rt;
-        fs::read_to_string(&rt, path)?.as_str(),
-        "an older and longer certificate\n"
-    );
-    late.write_all(b"ecplan 1\n")?;
-    assert_eq!(rt; fs::read_to_string(&rt, path)?.as_str(), "ecplan 1\n");
-    fs::remove_file(&rt, path)?;
-    Ok(())
+/// Does one call and tells it: a `flush` or a write of the `whole` text, and whether it is done, or one `write`, and how many
+/// bytes it took.
+fn add_call<W: Write>(out: &mut Draft, late: &mut W, call: &str) {
+    let (word, text) = call.split_once(' ').unwrap_or((call, ""));
+    out.add(word);
+    out.add(" ");
+    match word {
+        "flush" => out.add(late.flush().is_ok()),
+        "whole" => out.add(late.write_all(text.as_bytes()).is_ok()),
+        _ => out.add(late.write(text.as_bytes()).unwrap_or(usize::MAX)),
+    }
 }
 
-#[test]
-fn a_path_that_cannot_be_opened_is_a_failed_write(rt: HostRuntime) -> Result<(), Fail> {
-    let mut out = Io::new(Late::new(&rt, "/tmp/no-such-directory-of-ecplan/out.cert"));
-    assert!(rt; out.write_whole(b"ecplan 1\n").is_err());
-    assert!(rt; out.failed());
-    Ok(())
+/// Tells what the file at a path holds before the first of some calls, parted by `|`, and after each.
+pub(super) fn add_calls<R: Files + AllocGlobal, F: Files>(
+    out: &mut Draft,
+    rt: &R,
+    files: &F,
+    words: &str,
+) {
+    let (path, calls) = words.split_once(' ').unwrap_or((words, ""));
+    let mut late = Late::new(files, path);
+    add_held(out, rt, path);
+    for call in calls.split('|') {
+        add_call(out, &mut late, call);
+        add_held(out, rt, path);
+    }
 }
 
-#[test]
-fn a_file_that_takes_three_bytes_a_call(rt: HostRuntime) -> Result<(), Fail> {
-    let path = "/tmp/ecplan-late-by-threes.cert";
-    let _ = fs::remove_file(&rt, path);
-    let files = Threes { files: &rt };
-    let mut late = Late::new(&files, path);
-    // the first write, which makes the file, and a later one
-    assert_eq!(rt; late.write(b"ecplan 1\n")?, 3);
-    assert_eq!(rt; late.write(b"lan 1\n")?, 3);
-    assert_eq!(rt; late.write(b" 1\n")?, 3);
-    assert_eq!(rt; fs::read_to_string(&rt, path)?.as_str(), "ecplan 1\n");
-    late.write_all(b"slots 1\nunit a 200 2\n")?;
-    let held = fs::read_to_string(&rt, path)?;
-    assert_eq!(rt; held.as_str(), "ecplan 1\nslots 1\nunit a 200 2\n");
-    fs::remove_file(&rt, path)?;
-    Ok(())
+/// Tells of a path whether writing to it fails, and whether that is remembered.
+pub(super) fn add_failed<R: Files>(out: &mut Draft, rt: &R, path: &str) {
+    let mut late = Io::new(Late::new(rt, path));
+    let is_whole = late.write_whole(b"ecplan 1\n").is_ok();
+    if late.failed() && !is_whole {
+        out.add("a failed write\n");
+    } else {
+        out.add("no failed write\n");
+    }
 }

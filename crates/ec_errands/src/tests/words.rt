@@ -1,20 +1,34 @@
 //! The command line.
 
-use ec_command::{Job, Line};
+ghost use Rattle.std.specs.Prelude.{IfOk};
+ghost use Rattle.ec_command.specs.Words.{HasPath, JobFits};
+
+use ec_command::Job;
+use ec_drafts::Draft;
 use ec_words::{LineFault, Words, read_words};
 use std::alloc::{AllocError, Global};
-use std::fmt::Write;
 
-/// Words as the command line gives them, out of a text with one space between two words.
-pub(super) fn words_of(alloc: Global, text: &str) -> Result<Vec<String>, AllocError> {
-    let mut words = Vec::new(alloc);
+/// Adds words as the command line gives them, out of a text with one space between two words.
+fn add_words(words: &mut Vec<String>, alloc: Global, text: &str) -> Result<(), AllocError> {
     if text.is_empty() {
-        return Ok(words);
+        return Ok(());
     }
     for word in text.split(' ') {
         words.push(String::from_str(alloc, word)?)?;
     }
-    Ok(words)
+    Ok(())
+}
+
+/// What the words of a text ask for.
+pub(super) fn asked(alloc: Global, text: &str) -> Result<Words, LineFault>
+    ensures within { IfOk result (λ words. JobFits words.line.job) }
+    ensures paths { IfOk result (λ words. HasPath words.line.job words.line.cert) }
+{
+    let mut words = Vec::new(alloc);
+    match add_words(&mut words, alloc, text) {
+        Ok(()) => read_words(alloc, &words),
+        Err(AllocError) => Err(LineFault::Memory),
+    }
 }
 
 /// A path of a line, or a dash.
@@ -25,64 +39,81 @@ fn path_of(path: &Option<String>) -> &str {
     }
 }
 
-/// A line as a text: its job, the path of a certificate to read and that of a file to write.
-fn line_text(alloc: Global, line: &Line) -> Result<String, AllocError> {
-    let cert = path_of(&line.cert);
-    let out = path_of(&line.out);
-    match line.job {
-        Job::Cost => format!(in alloc; "<cost {cert} {out}>"),
-        Job::Plan { workers, nodes } => {
-            format!(in alloc; "<plan {workers} {nodes} {cert} {out}>")
-        }
-        Job::Resume { workers, nodes } => {
-            format!(in alloc; "<resume {workers} {nodes} {cert} {out}>")
-        }
-        Job::Check => format!(in alloc; "<check {cert} {out}>"),
-        Job::Frames => format!(in alloc; "<frames {cert} {out}>"),
-        Job::Capture => format!(in alloc; "<capture {cert} {out}>"),
-        Job::Play => format!(in alloc; "<play {cert} {out}>"),
-        Job::PlanCost => format!(in alloc; "<plan cost {cert} {out}>"),
+/// Adds a job, with its numbers.
+fn add_job(out: &mut Draft, job: Job) {
+    match job {
+        Job::Cost => out.add("<cost"),
+        Job::Plan { workers, nodes } => out.add(format_args!("<plan {workers} {nodes}")),
+        Job::Resume { workers, nodes } => out.add(format_args!("<resume {workers} {nodes}")),
+        Job::Check => out.add("<check"),
+        Job::Frames => out.add("<frames"),
+        Job::Capture => out.add("<capture"),
+        Job::Play => out.add("<play"),
+        Job::PlanCost => out.add("<plan cost"),
     }
 }
 
-/// The line of some words, and behind it the paths of the units and of the picture, where one is given, and that of the units
-/// with their places and whether the progress is told, where either is asked for.
-fn words_text(alloc: Global, words: &Words) -> Result<String, AllocError> {
-    let mut text = line_text(alloc, &words.line)?;
+/// Adds the line of some words, which is its job, the path of a certificate to read and that of a file to write. Behind it
+/// stand the paths of the units and of the picture, where one is given, and that of the units with their places and whether
+/// the progress is told, where either is asked for.
+fn add_line(out: &mut Draft, words: &Words) {
+    let line = &words.line;
+    add_job(out, line.job);
+    out.add(format_args!(" {} {}>", path_of(&line.cert), path_of(&line.out)));
     if words.units.is_some() || words.picture.is_some() {
-        let units = path_of(&words.units);
-        let picture = path_of(&words.picture);
-        write!(text, " {units} {picture}")?;
+        out.add(format_args!(" {} {}", path_of(&words.units), path_of(&words.picture)));
     }
     if words.places.is_some() || words.progress {
-        let places = path_of(&words.places);
-        write!(text, " places {places} {}", words.progress)?;
+        out.add(format_args!(" places {} {}", path_of(&words.places), words.progress));
     }
-    Ok(text)
 }
 
-/// What words are answered with: their line, or the text of their refusal.
+/// Adds what the words of a text are answered with: their line, or the text of their refusal.
+fn add_answer(out: &mut Draft, alloc: Global, text: &str) {
+    match asked(alloc, text) {
+        Ok(words) => add_line(out, &words),
+        Err(LineFault::Refused { text }) => out.add(format_args!("<{text}>")),
+        Err(LineFault::Memory) => out.give_up(),
+    }
+}
+
+/// What the words of a text are answered with.
 fn answer_to(alloc: Global, text: &str) -> Result<String, AllocError> {
-    let words = words_of(alloc, text)?;
-    match read_words(alloc, &words) {
-        Ok(words) => words_text(alloc, &words),
-        Err(LineFault::Refused { text }) => format!(in alloc; "<{text}>"),
-        Err(LineFault::Memory) => Err(AllocError),
+    let mut out = Draft::new(alloc);
+    add_answer(&mut out, alloc, text);
+    out.finish()
+}
+
+/// Adds a row of which this isn't the answer.
+fn add_unlike(out: &mut Draft, row: &str, part: &str, answer: &str) {
+    if !answer.contains(part) {
+        out.add(format_args!("{row} : {answer}\n"));
     }
 }
 
-/// The rows whose words are not answered so. The rows are separated by `|`; in each stand the words and, after ` : `,
-/// a part of the answer.
-fn wrong_rows(alloc: Global, rows: &str) -> Result<String, AllocError> {
-    let mut wrong = String::new(alloc);
-    for row in rows.split('|') {
-        let (words, part) = row.split_once(" : ").unwrap_or((row, "no row"));
-        let answer = answer_to(alloc, words)?;
-        if !answer.contains(part) {
-            write!(wrong, "{row} : {answer}\n")?;
-        }
+/// Adds a row whose words are not answered so. In it stand the words and, after ` : `, a part of the answer.
+fn add_wrong(out: &mut Draft, alloc: Global, row: &str) {
+    let (words, part) = row.split_once(" : ").unwrap_or((row, "no row"));
+    match answer_to(alloc, words) {
+        Ok(answer) => add_unlike(out, row, part, answer.as_str()),
+        Err(AllocError) => out.give_up(),
     }
-    Ok(wrong)
+}
+
+/// Adds the rows of a table, separated by `|`, whose words are not answered so.
+fn add_wrong_rows(out: &mut Draft, alloc: Global, table: &str) {
+    for row in table.split('|') {
+        add_wrong(out, alloc, row);
+    }
+}
+
+/// The rows of some tables whose words are not answered so.
+fn wrong_rows(alloc: Global, tables: &[&str]) -> Result<String, AllocError> {
+    let mut out = Draft::new(alloc);
+    for table in tables {
+        add_wrong_rows(&mut out, alloc, table);
+    }
+    out.finish()
 }
 
 /// Words that are a command, with their line.
@@ -138,7 +169,7 @@ const LINES: &str = "cost : <cost - ->|\
     resume --workers 16 --nodes 10000000 --cert p : <resume 16 10000000 p ->|\
     resume --out q --nodes 8 --cert p --workers 2 r : <resume 2 8 p q> r -|\
     resume r --cert p : <resume 1 1000000 p -> r -|\
-    resume --cert p - : <resume 1 1000000 p ->|";
+    resume --cert p - : <resume 1 1000000 p ->";
 
 /// Words that are no command, with a part of what is told; of two the whole text.
 const REFUSED: &str = " : requires a subcommand|\
@@ -238,17 +269,13 @@ const HELP: &str = "--help : Usage: ecplan <COMMAND>|\
     play --help : Usage: ecplan play [OPTIONS] [FILE]|\
     play --help : The certificate whose plan is played";
 
+/// A row that is answered otherwise.
+const WRONG: &str = "cost : <cost p ->";
+
+/// The rows are answered as they say, and a wrong one is told.
 #[test]
 fn words_and_their_answers(rt: HostRuntime) -> Result<(), AllocError> {
-    let alloc = rt.alloc();
-    let rows = format!(in alloc; "{LINES}{REFUSED}|{HELP}")?;
-    assert_eq!(rt; wrong_rows(alloc, rows.as_str())?.as_str(), "");
-    Ok(())
-}
-
-#[test]
-fn a_wrong_row_is_told(rt: HostRuntime) -> Result<(), AllocError> {
-    let wrong = wrong_rows(rt.alloc(), "cost : <cost p ->")?;
+    let wrong = wrong_rows(rt.alloc(), &[LINES, REFUSED, HELP, WRONG])?;
     assert_eq!(rt; wrong.as_str(), "cost : <cost p -> : <cost - ->\n");
     Ok(())
 }
