@@ -1,4 +1,4 @@
-use Rattle.std.proofs.Common.{subst, sym, length, arith}
+use Rattle.std.proofs.Common.{rules, subst, sym, length, arith}
 use Rattle.ec_book.specs.Views.{given_nodes}
 use Rattle.ec_workers.specs.Answers.{asked_beyond}
 use Rattle.ec_workers.proofs.planning.ended.Goals as goal
@@ -10,3 +10,9 @@ returns-in_default-clause-outcome c =
 
 pub returns-then-open-eq0-clause-outcome : goal.returns-then-open-eq0-clause-outcome
 returns-then-open-eq0-clause-outcome c = c.proved.ensures.outcome (asked_beyond 1 c.args.nodes (given_nodes c.args.book))
+
+pub proved-requires-clause-found : goal.proved-requires-clause-found
+proved-requires-clause-found c = search rules
+
+pub proved-requires-clause-closed : goal.proved-requires-clause-closed
+proved-requires-clause-closed c = search rules
