@@ -1,5 +1,5 @@
 -- The walk over the children of a prefix.
-use Rattle.std.proofs.Common.{◌≡◌, ℕ, ◌+◌, ◌<◌, ◌≤◌, ◌==◌, if◌then◌else◌, true, false, List, [], ◌∷◌, length, set, drop, get_or, slice_get, Option, Some, None, Result, Ok, Err, Vec, Global, refl, sym, ap, ◌∙◌, subst}
+use Rattle.std.proofs.Common.{◌≡◌, ℕ, ◌+◌, ◌<◌, ◌≤◌, ◌==◌, if◌then◌else◌, true, false, List, [], ◌∷◌, length, set, drop, get_or, slice_get, Option, Some, None, Result, Ok, Err, Bool, Vec, Global, refl, sym, ap, ◌∙◌, subst, rules}
 use Rattle.std.proofs.lemmas.Bool.{eq-eqb, ne_eqb}
 use Rattle.std.proofs.lemmas.List.{drop_all}
 use Rattle.ec_units.specs.declared.slave.Place.{Place}
@@ -7,13 +7,14 @@ use Rattle.ec_loads.specs.Held.{Held}
 use Rattle.ec_loads.specs.Line.{Rules, line_of}
 use Rattle.ec_loads.specs.Search.{Prefix, children}
 use Rattle.ec_bounds.proofs.HeldLemmas.{with_place}
-use Rattle.ec_cert.specs.declared.tree.Tree.{Tree}
+use Rattle.ec_cert.specs.declared.tree.Tree.{Tree, Weights, OpenLeaf, the_lemmas}
 use Rattle.ec_cert.specs.Shapes.{shape_of, shapes_of}
 use Rattle.ec_cert.proofs.TreeLemmas.{shape_count-shapes_of, shapes_of-drop}
-use Rattle.ec_loads.specs.Shape.{Shape, split, more, shape_count}
+use Rattle.ec_loads.specs.Shape.{Shape, split, leaf, weighted, more, shape_count}
 use Rattle.ec_checker.specs.declared.fault.CheckFault.{CheckFault}
 use Rattle.ec_checker.specs.declared.fault.CheckFault.TheVariants as fault
-use Rattle.ec_checker.specs.Judged.{IsReady, next, then_judged, tree_judged, trees_judged}
+use Rattle.ec_checker.specs.Judged.{IsReady, next, then_judged, tree_judged, trees_judged, leaf_judged, weights_hold, level_holds}
+use Rattle.ec_checker.proofs.LevelLemmas.{shape_of-OpenLeaf}
 
 -- what is found in these trees, for these children
 abbrev pub judged_from : Rules → Held → Option ℕ → Option ℕ → List Tree → ℕ → List ℕ → List Place → ℕ → Result ℕ CheckFault
@@ -70,3 +71,18 @@ pub ready_at : (ps : Prefix) (order later : List ℕ) (n u : ℕ) → IsReady ps
 ready_at ps order later n u ready from is =
     let r = subst (IsReady ps) from ready in
     subst (λ w. (slice_get ps w ≡ Some None) × ((p : Place) → IsReady (set ps w (Some p)) later)) (sym is) r
+
+shape_of-Weights : (w : List ℕ) → shape_of (Weights w) ≡ leaf (weighted w)
+shape_of-Weights w = search (rules, the_lemmas)
+
+-- a leaf by weights, and an open one
+pub weights_judged : (rules : Rules) (held : Held) (v level : Option ℕ) (t : Tree) (order : List ℕ) (k : ℕ) (w given : List ℕ) (b : Bool) → t ≡ Weights w → given ≡ w → b ≡ weights_hold held.loads held.slots v held.places given
+    → leaf_judged b k ≡ tree_at rules held v level (shape_of t) order k
+weights_judged rules held v level t order k w given b is same told =
+    ap (λ x. leaf_judged x k) told
+    ∙ sym (ap (λ s. tree_at rules held v level s order k) (ap shape_of is ∙ shape_of-Weights w ∙ ap (λ x. leaf (weighted x)) (sym same)))
+
+pub open_judged : (rules : Rules) (held : Held) (v level : Option ℕ) (t : Tree) (order : List ℕ) (k : ℕ) (b : Bool) → t ≡ OpenLeaf → b ≡ level_holds (line_of rules held) level held.places
+    → leaf_judged b k ≡ tree_at rules held v level (shape_of t) order k
+open_judged rules held v level t order k b is told =
+    ap (λ x. leaf_judged x k) told ∙ sym (ap (λ s. tree_at rules held v level s order k) (ap shape_of is ∙ shape_of-OpenLeaf))

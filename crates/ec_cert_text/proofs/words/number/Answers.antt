@@ -9,3 +9,7 @@ loop-byte-preserved c = record {
   value = rw (c.min-value.ensures, c.from.ensures) (capped_more _ _ _ _ c.loop-byte-test.true ∙ c.loop-byte.invariant.value);
   small = search rules;
 }
+
+pub returns-clause-value : goal.returns-clause-value
+unfolding Rattle.ec_cert_text.specs.Reading.number_in
+returns-clause-value c = grind (arith, common_steps)

@@ -1,4 +1,4 @@
-use Rattle.std.proofs.Common.{◌≡◌, ℕ, ◌+◌, ◌<◌, ◌∷◌, length, drop, slice_get, Some, None, Result, Err, ap, sym, subst, ◌∙◌, arith}
+use Rattle.std.proofs.Common.{◌≡◌, ℕ, ◌+◌, ◌<◌, ◌∷◌, length, drop, slice_get, Some, None, Result, Err, ap, sym, subst, ◌∙◌, arith, rules}
 use Rattle.std.proofs.lemmas.Result.{err_from_is_err_and}
 use Rattle.std.proofs.lemmas.Option.{slice_get_within}
 use Rattle.ec_loads.specs.Held.{Held}
@@ -8,7 +8,7 @@ use Rattle.ec_checker.specs.declared.fault.CheckFault.TheVariants as fault
 use Rattle.ec_checker.specs.Judged.{IsReady, then_judged}
 use Rattle.ec_bounds.proofs.HeldLemmas.{with_place, restored, rest_follows, flags_count, still_within}
 use Rattle.ec_cert.proofs.TreeLemmas.{shape_of-trees}
-use Rattle.ec_checker.proofs.WalkLemmas.{judged_from, kids, child_step, no_more_trees, no_more_children, split_is, split_wrong, ready_at}
+use Rattle.ec_checker.proofs.WalkLemmas.{judged_from, kids, child_step, no_more_trees, no_more_children, split_is, split_wrong, ready_at, weights_judged, open_judged}
 use Rattle.ec_checker.proofs.walk.+walk.Goals as goal
 
 pub returns-then-len-clause-judged : goal.returns-then-len-clause-judged
@@ -156,3 +156,15 @@ returns-after-loop-i-clause-judged t c =
     sym (no_more_trees rules args c.args.value c.args.level trees u c.in-Some.later.now c.loop-i.places c.loop-i.i c.loop-i.at (omega (arith, c.loop-i-test.false, c.len-i-end.ensures)))
     ∙ c.loop-i.invariant.judged
     ∙ sym (split_is rules args c.args.value c.args.level c.args.tree.now c.as_ref-trees.result.now c.args.order.now c.in-Some.later.now u c.args.number (shape_of-trees c.args.tree.now c.in-Split.trees c.as_ref-trees.result.now c.in-Split.is c.as_ref-trees.ensures) from count)
+
+pub returns-in-Weights-clause-judged : goal.returns-in-Weights-clause-judged
+returns-in-Weights-clause-judged t c =
+    c.judged-in-Weights.ensures
+    ∙ weights_judged (rules_if c.args.turned) c.args.loads.now c.args.value c.args.level c.args.tree.now c.args.order.now c.args.number _ c.as_slice.result.now _ c.in-Weights.is c.as_slice.ensures (search rules)
+
+pub returns-in-OpenLeaf-clause-judged : goal.returns-in-OpenLeaf-clause-judged
+returns-in-OpenLeaf-clause-judged t c =
+    let rules_now = rules_if c.args.turned in
+    let told = c.level_holds.ensures rules_now in
+    c.judged-in-OpenLeaf.ensures
+    ∙ open_judged rules_now c.args.loads.now c.args.value c.args.level c.args.tree.now c.args.order.now c.args.number _ c.in-OpenLeaf.is (search (rules, told))

@@ -6,3 +6,6 @@ returns-in-14 c = search rules
 
 pub returns-in-13 : goal.returns-in-13
 returns-in-13 c = search rules
+
+pub returns-in_default : goal.returns-in_default
+returns-in_default c = search rules

@@ -1,4 +1,4 @@
-use Rattle.std.proofs.Common.{◌≡◌, Some, None, length, sym, ap, ◌∙◌}
+use Rattle.std.proofs.Common.{rules, ◌≡◌, Some, None, length, sym, ap, ◌∙◌}
 use Rattle.ec_frames.specs.declared.writing.BuildFault.{BuildFault}
 use Rattle.ec_frames.proofs.BuildFaults.{fault_has, has_fault, buildable_none}
 use Rattle.ec_frames.proofs.WrittenReads.{length-written}
@@ -23,3 +23,6 @@ returns-in-None-clause-fault c = λ f. (
   (λ e. absurd (cc (e))),
   (λ h. let same : None ≡ Some f = c.in-None.ensures.fault ∙ has_fault c.args.list.now f h in absurd (cc (same))),
 )
+
+pub returns-in-None-clause-built : goal.returns-in-None-clause-built
+returns-in-None-clause-built c = search rules
