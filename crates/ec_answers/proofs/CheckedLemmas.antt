@@ -15,9 +15,9 @@ use Rattle.ec_lines.specs.declared.answer.Answer.{Answer}
 use Rattle.ec_lines.specs.declared.refusal.Refusal.{Refusal}
 use Rattle.ec_lines.specs.declared.refusal.Refusal.TheVariants as refusal
 use Rattle.ec_command.specs.declared.job.Job.TheVariants as job
-use Rattle.ec_answers.specs.Input.{AnswersUnits, ReadsTooMany}
+use Rattle.ec_answers.specs.Input.{AnswersUnits, IsInputFault}
 use Rattle.ec_lines.specs.Output.{IsCheckedOutput, IsCheckOutput, IsOutput, Answers, shown, refused, verdict_output}
-use Rattle.ec_lines.specs.Refusals.{out_of_memory, IsMemory}
+use Rattle.ec_lines.specs.Refusals.{IsMemory}
 
 -- a yes
 pub checked_yes : (us : Units) (c : CertView) (a : Answer) (v : Verdict) → IsCertified us.units us.slots c → v ≡ verdict_of c.best c.level → shown a ≡ verdict_output v → IsCheckedOutput (units_view us) c (shown a)
@@ -46,14 +46,16 @@ pub too_long : (text : List ℕ) → 67108864 < length text → cert_reading tex
 unfolding cert_reading
 too_long text h = rw (lt-ltb 67108864 (length text) h) refl
 
--- a certificate that has too many bytes, or want of memory
-pub unread_answer : (left text : Option (List ℕ)) (us : Units) (r : Refusal) (answer : Result Answer Refusal) → answer ≡ Err r → IfSome left (AnswersUnits (Ok us)) → ((r ≡ out_of_memory) ⊎ ((r ≡ refusal.Cert cert.TooLarge) × ReadsTooMany text 67108864))
-    → IfSome left (λ bytes. IfSome text (λ cert_bytes. Answers job.Check answer (IsOutput job.Check bytes (Some cert_bytes))))
-unread_answer None text us r answer is read why = tt
-unread_answer (Some bytes) None us r answer is read why = tt
-unread_answer (Some bytes) (Some cert_bytes) us r answer is read (inl memory) = rw is (inl (inl memory))
-unread_answer (Some bytes) (Some cert_bytes) us r answer is read (inr large) =
-    rw is (inr (inl (read.0, rw (read.1, too_long cert_bytes large.1) (ap refused large.0))))
+-- why there is nothing to check is what is answered
+pub unread_answer : (left text : Option (List ℕ)) (r : Refusal) (answer : Result Answer Refusal) → answer ≡ Err r → IfSome left (λ bytes. IfSome text (λ t. IsInputFault bytes t r))
+    → IfSome left (λ bytes. IfSome text (λ t. Answers job.Check answer (IsOutput job.Check bytes (Some t))))
+unread_answer None text r answer is why = tt
+unread_answer (Some bytes) None r answer is why = tt
+unread_answer (Some bytes) (Some t) r answer is (inl (inl memory)) = rw is (inl (inl memory))
+unread_answer (Some bytes) (Some t) r answer is (inl (inr room)) = rw is (inl (inr (inr room)))
+unread_answer (Some bytes) (Some t) r answer is (inr (inl (inl h))) = rw is (inr (inl (h.0, rw h.1.1 (ap refused h.1.2))))
+unread_answer (Some bytes) (Some t) r answer is (inr (inl (inr h))) = rw is (inr (inr (h.0, ap refused h.1)))
+unread_answer (Some bytes) (Some t) r answer is (inr (inr h)) = rw is (inr (inl (h.1.0, rw (h.1.1, too_long t h.3) (ap refused h.2))))
 
 -- what is answered for units and a text is the answer for the bytes that both were read of
 pub whole_answered : (left text : Option (List ℕ)) (us : Units) (v : List ℕ) (answer : Result Answer Refusal) → IfSome left (AnswersUnits (Ok us)) → IfSome text (λ all. v ≡ all) → Answers job.Check answer (IsCheckOutput (units_view us) v)

@@ -11,7 +11,6 @@ use Rattle.ec_cert.specs.declared.cert.Best.{Best}
 use Rattle.ec_cert.specs.BestPlan.{IsBestPlan}
 use Rattle.ec_cert.specs.Shapes.{CertView}
 use Rattle.ec_cert_text.specs.Reading.{reading as cert_reading}
-use Rattle.ec_cert_text.specs.declared.fault.CertFault.TheVariants as cert
 use Rattle.ec_checker.specs.declared.fault.CheckFault.{CheckFault}
 use Rattle.ec_checker.specs.Certified.{IsCertified, IsFaultOf}
 use Rattle.ec_frame_lines.specs.Lines.{IsFramesText}
@@ -21,8 +20,8 @@ use Rattle.ec_lines.specs.declared.refusal.Refusal.TheVariants as refusal
 use Rattle.ec_command.specs.declared.job.Job.TheVariants as job
 use Rattle.ec_lines.specs.Framed.{IsPlacedPlan, IsBestPlanOf, IsCertPlan, IsFramedPlan}
 use Rattle.ec_lines.specs.Output.{Written, IsBestText, IsOwnText, IsCertText, IsReadText, IsTextFor, IsOutput, Answers, refused, shown}
-use Rattle.ec_lines.specs.Refusals.{out_of_memory, IsFramesMemory}
-use Rattle.ec_answers.specs.Input.{AnswersUnits, ReadsTooMany}
+use Rattle.ec_lines.specs.Refusals.{IsFramesMemory}
+use Rattle.ec_answers.specs.Input.{AnswersUnits, IsInputFault}
 use Rattle.ec_answers.specs.Captures.{IsFramesFault, FramesFrom}
 use Rattle.ec_answers.proofs.CheckedLemmas.{memory_or, too_long}
 
@@ -94,18 +93,14 @@ uncertified_known (Some bytes) None us v r answer is read same h = tt
 uncertified_known (Some bytes) (Some t) us v r answer is read same (inl memory) = rw is (inl memory)
 uncertified_known (Some bytes) (Some t) us v r answer is read same (inr h) = rw is (inr (inl (read.0, rw (read.1, sym same) h)))
 
--- a certificate that has too many bytes, or want of memory
-pub unread_cert : (left text : Option (List ℕ)) (us : Units) (r : Refusal) (answer : Result (Units × Plan) Refusal) → answer ≡ Err r → IfSome left (AnswersUnits (Ok us)) → ((r ≡ out_of_memory) ⊎ ((r ≡ refusal.Cert cert.TooLarge) × ReadsTooMany text 67108864))
-    → IfSome left (λ bytes. IfSome text (λ t. FramesFrom (Some t) answer bytes))
-unread_cert None text us r answer is read why = tt
-unread_cert (Some bytes) None us r answer is read why = tt
-unread_cert (Some bytes) (Some t) us r answer is read (inl memory) = rw is (inl (inl memory))
-unread_cert (Some bytes) (Some t) us r answer is read (inr large) = rw is (inr (inl (read.0, rw (read.1, too_long t large.1) (ap refused large.0))))
-
-pub unread_units : (left text : Option (List ℕ)) (r : Refusal) (answer : Result (Units × Plan) Refusal) → answer ≡ Err r → IfSome left (AnswersUnits (Err r)) → IfSome left (λ bytes. IfSome text (λ t. FramesFrom (Some t) answer bytes))
-unread_units None text r answer is h = tt
-unread_units (Some bytes) None r answer is h = tt
-unread_units (Some bytes) (Some t) r answer is h = rw is (units_fault (Some t) bytes r h)
+-- why there is nothing to check is why there are none
+pub unread_inputs : (left text : Option (List ℕ)) (r : Refusal) (answer : Result (Units × Plan) Refusal) → answer ≡ Err r → IfSome left (λ bytes. IfSome text (λ t. IsInputFault bytes t r)) → IfSome left (λ bytes. IfSome text (λ t. FramesFrom (Some t) answer bytes))
+unread_inputs None text r answer is why = tt
+unread_inputs (Some bytes) None r answer is why = tt
+unread_inputs (Some bytes) (Some t) r answer is (inl (inl memory)) = rw is (inl (inl memory))
+unread_inputs (Some bytes) (Some t) r answer is (inl (inr room)) = rw is (inl (inr (inr (inl room))))
+unread_inputs (Some bytes) (Some t) r answer is (inr (inl h)) = rw is (units_fault (Some t) bytes r (inr h))
+unread_inputs (Some bytes) (Some t) r answer is (inr (inr h)) = rw is (inr (inl (h.1.0, rw (h.1.1, too_long t h.3) (ap refused h.2))))
 
 -- ---- what is written for them
 

@@ -35,8 +35,8 @@ use Rattle.ec_lines.specs.Output.{shown}
 use Rattle.ec_lines.specs.declared.refusal.Refusal.{Refusal}
 use Rattle.ec_lines.specs.declared.refusal.Refusal.TheVariants as refusal
 use Rattle.ec_lines.specs.Refusals.{out_of_memory, level_memory}
-use Rattle.ec_answers.specs.Input.{AnswersUnits, IsUnitsFault, ReadsTooMany}
-use Rattle.ec_answers.specs.Planned.{Any, GoesOn, IsProofBy, IsStopped, IsTextFault, IsResumeOf, IsNoFor, IsResumeFault, ResumesFrom, AnswersResume, GetsResumeFront, outcome_cert}
+use Rattle.ec_answers.specs.Input.{AnswersUnits, IsInputFault}
+use Rattle.ec_answers.specs.Planned.{Any, GoesOn, GoesOnFrom, IsProofBy, IsStopped, IsStoppedFrom, IsResumeOf, IsNoFor, IsResumeFault, ResumesFrom, AnswersResume, GetsResumeFront, outcome_cert}
 use Rattle.ec_answers.proofs.PlanLemmas.{answered, fronted, told_of, unanswered}
 use Rattle.ec_answers.proofs.CheckedLemmas.{memory_or, too_long}
 
@@ -103,39 +103,33 @@ stopped_fault workers bytes text us c r said read (inl memory) = inl (inr (inl m
 stopped_fault workers bytes text us c r said read (inr (inl h)) = inl (inr (inr (inr h)))
 stopped_fault workers bytes text us c r said read (inr (inr h)) = inr (inr (h.0, h.1, record { units = us; said = said; cert = c; read = read; fault = h.2 }))
 
--- units that aren't there
-pub unresumed_units : (left text : Option (List ℕ)) (workers nodes : ℕ) (r : Refusal) (answer : Result (Units × Outcome) Refusal) → answer ≡ Err r → IfSome left (AnswersUnits (Err r)) → IfSome left (λ bytes. IfSome text (λ t. ResumesFrom workers nodes answer bytes t))
-unresumed_units None text workers nodes r answer is h = tt
-unresumed_units (Some bytes) None workers nodes r answer is h = tt
-unresumed_units (Some bytes) (Some t) workers nodes r answer is (inl memory) = rw is (inl (inr (inl memory)))
-unresumed_units (Some bytes) (Some t) workers nodes r answer is (inr fault) = rw is (inl (inl fault))
+-- nothing to check
+pub unresumed_inputs : (left text : Option (List ℕ)) (workers nodes : ℕ) (r : Refusal) (answer : Result (Units × Outcome) Refusal) → answer ≡ Err r → IfSome left (λ bytes. IfSome text (λ t. IsInputFault bytes t r)) → IfSome left (λ bytes. IfSome text (λ t. ResumesFrom workers nodes answer bytes t))
+unresumed_inputs None text workers nodes r answer is why = tt
+unresumed_inputs (Some bytes) None workers nodes r answer is why = tt
+unresumed_inputs (Some bytes) (Some t) workers nodes r answer is (inl (inl memory)) = rw is (inl (inr (inl memory)))
+unresumed_inputs (Some bytes) (Some t) workers nodes r answer is (inl (inr room)) = rw is (inl (inr (inr (inl room))))
+unresumed_inputs (Some bytes) (Some t) workers nodes r answer is (inr (inl h)) = rw is (inl (inl h))
+unresumed_inputs (Some bytes) (Some t) workers nodes r answer is (inr (inr h)) = rw is (inr (inl (cert.TooLarge, h.2, too_long t h.3)))
 
--- no room to check
-pub unresumed_room : (left text : Option (List ℕ)) (workers nodes : ℕ) → IfSome left (λ bytes. IfSome text (λ t. ResumesFrom workers nodes (Err level_memory) bytes t))
-unresumed_room None text workers nodes = tt
-unresumed_room (Some bytes) None workers nodes = tt
-unresumed_room (Some bytes) (Some t) workers nodes = inl (inr (inr (inl refl)))
+-- a text from which nothing comes
+stopped_text : (workers : ℕ) (bytes text : List ℕ) (us : Units) (r : Refusal) → reading bytes ≡ Ok (units_view us) → IsStoppedFrom workers us text r → IsResumeFault workers bytes text r
+stopped_text workers bytes text us r said (inl (inl memory)) = inl (inr (inl memory))
+stopped_text workers bytes text us r said (inl (inr fault)) = inr (inl fault)
+stopped_text workers bytes text us r said (inr h) = stopped_fault workers bytes text us h.0 r said h.1 h.2
 
--- a text that is no certificate
-pub unresumed_text : (left text : Option (List ℕ)) (workers nodes : ℕ) (r : Refusal) (answer : Result (Units × Outcome) Refusal) → answer ≡ Err r → IfSome text (λ t. (r ≡ out_of_memory) ⊎ IsTextFault t r) → IfSome left (λ bytes. IfSome text (λ t. ResumesFrom workers nodes answer bytes t))
-unresumed_text None text workers nodes r answer is h = tt
-unresumed_text (Some bytes) None workers nodes r answer is h = tt
-unresumed_text (Some bytes) (Some t) workers nodes r answer is (inl memory) = rw is (inl (inr (inl memory)))
-unresumed_text (Some bytes) (Some t) workers nodes r answer is (inr fault) = rw is (inr (inl fault))
-
--- a certificate from which nothing comes
-pub unresumed_cert : (left text : Option (List ℕ)) (workers nodes : ℕ) (us : Units) (c : CertView) (r : Refusal) (answer : Result (Units × Outcome) Refusal) → answer ≡ Err r → IfSome left (AnswersUnits (Ok us)) → IfSome text (λ t. cert_reading t ≡ Ok c) → IsStopped workers us c r
+pub unresumed_text : (left text : Option (List ℕ)) (workers nodes : ℕ) (us : Units) (v : List ℕ) (r : Refusal) (answer : Result (Units × Outcome) Refusal) → answer ≡ Err r → IfSome left (AnswersUnits (Ok us)) → IfSome text (λ all. v ≡ all) → IsStoppedFrom workers us v r
     → IfSome left (λ bytes. IfSome text (λ t. ResumesFrom workers nodes answer bytes t))
-unresumed_cert None text workers nodes us c r answer is read given h = tt
-unresumed_cert (Some bytes) None workers nodes us c r answer is read given h = tt
-unresumed_cert (Some bytes) (Some t) workers nodes us c r answer is read given h = rw is (stopped_fault workers bytes t us c r read.1 given h)
+unresumed_text None text workers nodes us v r answer is read same h = tt
+unresumed_text (Some bytes) None workers nodes us v r answer is read same h = tt
+unresumed_text (Some bytes) (Some t) workers nodes us v r answer is read same h = rw is (stopped_text workers bytes t us r read.1 (subst (λ (w : List ℕ). IsStoppedFrom workers us w r) same h))
 
 -- and one from which an outcome comes
-pub resumed_known : (left text : Option (List ℕ)) (workers nodes : ℕ) (us : Units) (c : CertView) (o : Outcome) → IfSome left (AnswersUnits (Ok us)) → IfSome text (λ t. cert_reading t ≡ Ok c) → GoesOn workers nodes us c o
+pub resumed_known : (left text : Option (List ℕ)) (workers nodes : ℕ) (us : Units) (v : List ℕ) (o : Outcome) → IfSome left (AnswersUnits (Ok us)) → IfSome text (λ all. v ≡ all) → GoesOnFrom workers nodes us v o
     → IfSome left (λ bytes. IfSome text (λ t. ResumesFrom workers nodes (Ok (us, o)) bytes t))
-resumed_known None text workers nodes us c o read given goes = tt
-resumed_known (Some bytes) None workers nodes us c o read given goes = tt
-resumed_known (Some bytes) (Some t) workers nodes us c o read given goes = record { short = read.0; said = read.1; cert = c; read = given; goes = goes }
+resumed_known None text workers nodes us v o read same goes = tt
+resumed_known (Some bytes) None workers nodes us v o read same goes = tt
+resumed_known (Some bytes) (Some t) workers nodes us v o read same goes = record { short = read.0; said = read.1; cert = goes.0; read = rw (sym same) goes.1; goes = goes.2 }
 
 -- ---- what is answered for it
 
@@ -178,19 +172,3 @@ pub resume_unfronted : (left text : Option (List ℕ)) (workers nodes : ℕ) (ge
 resume_unfronted None text workers nodes gets got = tt
 resume_unfronted (Some bytes) None workers nodes gets got = tt
 resume_unfronted (Some bytes) (Some t) workers nodes gets got = (None, inr refl, got)
-
--- a text of too many bytes, or want of memory
-pub unread_text : (text : Option (List ℕ)) (r : Refusal) → ((r ≡ out_of_memory) ⊎ ((r ≡ refusal.Cert cert.TooLarge) × ReadsTooMany text 67108864)) → IfSome text (λ t. (r ≡ out_of_memory) ⊎ IsTextFault t r)
-unread_text None r why = tt
-unread_text (Some t) r (inl memory) = inl memory
-unread_text (Some t) r (inr large) = inr (cert.TooLarge, large.0, too_long t large.1)
-
--- it isn't read as a certificate
-pub unread_cert_in : (text : Option (List ℕ)) (r : Refusal) (answer : Result Cert Refusal) → answer ≡ Err r → ((r ≡ out_of_memory) ⊎ ((r ≡ refusal.Cert cert.TooLarge) × ReadsTooMany text 67108864))
-    → IfErr answer (λ r. IfSome text (λ t. (r ≡ out_of_memory) ⊎ IsTextFault t r))
-unread_cert_in text r answer is why = rw is (unread_text text r why)
-
--- what is read of all bytes is read of the text
-pub read_from : (text : Option (List ℕ)) (bytes : List ℕ) (c : CertView) → cert_reading bytes ≡ Ok c → IfSome text (λ all. bytes ≡ all) → IfSome text (λ t. cert_reading t ≡ Ok c)
-read_from None bytes c read same = tt
-read_from (Some t) bytes c read same = rw (sym same) read

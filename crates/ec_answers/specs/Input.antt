@@ -2,12 +2,13 @@
 use Rattle.std.specs.Prelude.{◌≡◌, ◌⊎◌, ℕ, ◌<◌, ◌≤◌, false, List, length, Option, Some, None, Result, Ok, Err, IfSome}
 use Rattle.std.specs.Io.KnownBytes.{Consumes}
 use Rattle.ec_unit_text.specs.declared.fault.UnitFault.{UnitFault}
+use Rattle.ec_cert_text.specs.declared.fault.CertFault.TheVariants as cert
 use Rattle.ec_units.specs.declared.units.Units.{Units}
 use Rattle.ec_unit_text.specs.Reading.{reading, IsValidText}
 use Rattle.ec_units.specs.Views.{units_view}
 use Rattle.ec_lines.specs.declared.refusal.Refusal.{Refusal}
 use Rattle.ec_lines.specs.declared.refusal.Refusal.TheVariants as refusal
-use Rattle.ec_lines.specs.Refusals.{out_of_memory}
+use Rattle.ec_lines.specs.Refusals.{out_of_memory, level_memory}
 
 -- what is read is all that was left, and no more than the limit
 abbrev pub ReadsAll : Option (List ℕ) → ℕ → List ℕ → Type 0
@@ -35,3 +36,10 @@ IsUnitsFault bytes r =
 abbrev pub AnswersUnits : Result Units Refusal → List ℕ → Type 0
 AnswersUnits (Ok us) bytes = (length bytes ≤ 1048576) × (reading bytes ≡ Ok (units_view us))
 AnswersUnits (Err r) bytes = (r ≡ out_of_memory) ⊎ IsUnitsFault bytes r
+
+-- why the bytes of units and the text of a certificate give nothing to check: memory ran out over them or over the room to check, the bytes give no units, or
+-- they do and the text has too many bytes
+abbrev pub IsInputFault : List ℕ → List ℕ → Refusal → Type 0
+IsInputFault bytes text r =
+    ((r ≡ out_of_memory) ⊎ (r ≡ level_memory))
+    ⊎ (IsUnitsFault bytes r ⊎ ((us : Units) × AnswersUnits (Ok us) bytes × (r ≡ refusal.Cert cert.TooLarge) × (67108864 < length text)))

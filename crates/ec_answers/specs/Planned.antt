@@ -76,6 +76,18 @@ IsStopped workers us c r =
     ⊎ (((f : SolveFault) × (r ≡ refusal.Solve f) × IsSolveFault workers f)
     ⊎ ((f : CheckFault) × (r ≡ refusal.Check f) × IsFaultOf us.units us.slots c f))
 
+-- the text has this fault, or memory ran out over it
+abbrev pub IsTextFault : List ℕ → Refusal → Type 0
+IsTextFault text r = (f : CertFault) × (r ≡ refusal.Cert f) × Fails f (cert_reading text)
+
+-- the same of the certificate that a text says
+abbrev pub GoesOnFrom : ℕ → ℕ → Units → List ℕ → Outcome → Type 0
+GoesOnFrom workers nodes us text o = (c : CertView) × (cert_reading text ≡ Ok c) × GoesOn workers nodes us c o
+
+-- and why nothing comes of it: the text has a fault, or nothing comes of its certificate
+abbrev pub IsStoppedFrom : ℕ → Units → List ℕ → Refusal → Type 0
+IsStoppedFrom workers us text r = ((r ≡ out_of_memory) ⊎ IsTextFault text r) ⊎ ((c : CertView) × (cert_reading text ≡ Ok c) × IsStopped workers us c r)
+
 -- of a resumed search: what comes of going on with the certificate that the text says, for the units that the bytes say
 pub record IsResumeOf (workers nodes : ℕ) (bytes text : List ℕ) (us : Units) (o : Outcome) : Type 0 where
   pub short : length bytes ≤ 1048576
@@ -91,10 +103,6 @@ pub record IsNoFor (bytes text : List ℕ) (f : CheckFault) : Type 0 where
   pub cert : CertView
   pub read : cert_reading text ≡ Ok cert
   pub fault : IsFaultOf units.units units.slots cert f
-
--- the text has this fault, or memory ran out over it
-abbrev pub IsTextFault : List ℕ → Refusal → Type 0
-IsTextFault text r = (f : CertFault) × (r ≡ refusal.Cert f) × Fails f (cert_reading text)
 
 -- why there is no outcome of it: as of a plan, or the text has a fault, or the checker says no
 abbrev pub IsResumeFault : ℕ → List ℕ → List ℕ → Refusal → Type 0

@@ -10,10 +10,10 @@ ghost use Rattle.ec_units.specs.Views.{units_view};
 ghost use Rattle.ec_lines.specs.Output.{Answers, IsCheckedOutput, IsCheckOutput, IsOutput};
 ghost use Rattle.ec_command.specs.declared.job.Job.TheVariants.{Check};
 
-use crate::input::{cert_text, units_of};
+use crate::input::inputs;
 use ec_cert::Cert;
 use ec_cert_text::read_cert;
-use ec_checker::{CheckFault, check_in};
+use ec_checker::check_in;
 use ec_lines::{Answer, Refusal, verdict_answer};
 use ec_loads::Loads;
 use ec_units::Units;
@@ -72,10 +72,6 @@ pub fn whole_answer<R: Read, C: Read>(
     ensures cert_consumed { ConsumesAtMost (C.remaining (stream cert.old)) (C.remaining (stream cert.new)) 67108865 }
     ensures cert_taken { taken cert.new ≤ taken cert.old + 67108865 }
 {
-    let units = units_of(alloc, units)?;
-    let Ok(mut loads) = Loads::new(alloc, &units) else {
-        return Err(Refusal::Check(CheckFault::OutOfMemory));
-    };
-    let text = cert_text(alloc, cert)?;
-    check_answer(alloc, &mut loads, &units, &text)
+    let (line, mut loads, text) = inputs(alloc, units, cert)?;
+    check_answer(alloc, &mut loads, &line, &text)
 }

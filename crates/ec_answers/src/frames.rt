@@ -15,10 +15,10 @@ ghost use Rattle.ec_lines.specs.Output.{Answers, IsCertText, IsReadText, IsOutpu
 ghost use Rattle.ec_lines.specs.Refusals.{IsFramesMemory};
 ghost use Rattle.ec_command.specs.declared.job.Job.TheVariants.{Frames};
 
-use crate::input::{cert_text, units_of};
+use crate::input::{inputs, units_of};
 use ec_cert::Cert;
 use ec_cert_text::read_cert;
-use ec_checker::{CheckFault, check_in};
+use ec_checker::check_in;
 use ec_lines::{Answer, Refusal, placed_plan, plan_frames};
 use ec_loads::{Loads, Plan};
 use ec_units::Units;
@@ -89,11 +89,7 @@ pub(crate) fn certified<R: Read, C: Read>(
     ensures cert_consumed { ConsumesAtMost (C.remaining (stream cert.old)) (C.remaining (stream cert.new)) 67108865 }
     ensures cert_taken { taken cert.new ≤ taken cert.old + 67108865 }
 {
-    let line = units_of(alloc, units)?;
-    let Ok(mut loads) = Loads::new(alloc, &line) else {
-        return Err(Refusal::Check(CheckFault::OutOfMemory));
-    };
-    let text = cert_text(alloc, cert)?;
+    let (line, mut loads, text) = inputs(alloc, units, cert)?;
     let plan = text_plan(alloc, &mut loads, &line, &text)?;
     Ok((line, plan))
 }

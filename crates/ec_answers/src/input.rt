@@ -1,14 +1,18 @@
-//! Reading an input whole, up to a limit.
+//! Reading the inputs of a job, each whole and up to a limit.
 
-ghost use Rattle.std.specs.Prelude.{◌≡◌, ◌≢◌, ℕ, ◌+◌, ◌-◌, ◌<◌, ◌^◌, ◌≤◌, min, true, false, length, IfOk, IfErr, IfSome, IsErrOf, IsTrue, ◌↔◌, ◌⊎◌};
+ghost use Rattle.std.specs.Prelude.{◌≡◌, ◌≢◌, ℕ, ◌+◌, ◌-◌, ◌<◌, ◌^◌, ◌≤◌, min, true, false, length, IfOk, IfErr, IfSome, IsErrOf, IsTrue, ◌↔◌, ◌⊎◌, Ok as OkOf};
 ghost use Rattle.ec_wire.specs.Stream.{stream, has_failed, taken};
-ghost use Rattle.ec_answers.specs.Input.{ReadsAll, ReadsTooMany, ConsumesAtMost, AreUnits, AnswersUnits};
+ghost use Rattle.ec_answers.specs.Input.{ReadsAll, ReadsTooMany, ConsumesAtMost, AreUnits, AnswersUnits, IsInputFault};
+ghost use Rattle.ec_units.specs.Load.{loads_of};
+ghost use Rattle.ec_loads.specs.Held.{no_places};
 ghost use Rattle.ec_lines.specs.Refusals.{IsReadFault, out_of_memory};
 ghost use Rattle.ec_cert_text.specs.declared.fault.CertFault.TheVariants.{TooLarge};
 ghost use Rattle.ec_lines.specs.declared.refusal.Refusal.TheVariants.{Cert};
 
 use ec_cert_text::{CertFault, MOST_BYTES};
+use ec_checker::CheckFault;
 use ec_lines::Refusal;
+use ec_loads::Loads;
 use ec_unit_text::read_units;
 use ec_units::Units;
 use ec_wire::{Io, IoFault};
@@ -75,4 +79,35 @@ pub(crate) fn cert_text<C: Read>(alloc: Global, input: &mut Io<C>) -> Result<Vec
         Err(Refusal::TooLarge) => Err(Refusal::Cert(CertFault::TooLarge)),
         read => read,
     }
+}
+
+/// The units that the first reader has, their loads with no place, and the text of the certificate that the second one
+/// has. The certificate isn't read before the units are right and the room to check it is there.
+pub(crate) fn inputs<R: Read, C: Read>(
+    alloc: Global,
+    units: &mut Io<R>,
+    cert: &mut Io<C>,
+) -> Result<(Units, Loads, Vec<u8>), Refusal>
+    requires units { has_failed units.old ≡ false }
+    requires cert { has_failed cert.old ≡ false }
+    ensures empty { IfOk result (λ found. found.1 ≡ record { loads = loads_of found.0.units; slots = found.0.slots; places = no_places (loads_of found.0.units) }) }
+    ensures said { has_failed units.new ≡ false → IfOk result (λ found. IfSome (R.remaining (stream units.old)) (AnswersUnits (OkOf found.0))) }
+    ensures text { IfOk result (λ found. IfSome (C.remaining (stream cert.old)) (λ all. found.2.items ≡ all)) }
+    ensures err { has_failed units.new ≡ false → has_failed cert.new ≡ false → IfErr result (λ r. IfSome (R.remaining (stream units.old)) (λ bytes.
+        IfSome (C.remaining (stream cert.old)) (λ text. IsInputFault bytes text r))) }
+    ensures read { has_failed units.new ≡ true → result ≡ Err Refusal.Read }
+    ensures cert_read { has_failed cert.new ≡ true → result ≡ Err Refusal.Read }
+    ensures kept { has_failed units.new ≡ true → cert.new ≡ cert.old }
+    ensures first { IfSome (R.remaining (stream units.old)) (λ bytes. ¬ (AreUnits bytes) → cert.new ≡ cert.old) }
+    ensures consumed { ConsumesAtMost (R.remaining (stream units.old)) (R.remaining (stream units.new)) 1048577 }
+    ensures taken { taken units.new ≤ taken units.old + 1048577 }
+    ensures cert_consumed { ConsumesAtMost (C.remaining (stream cert.old)) (C.remaining (stream cert.new)) 67108865 }
+    ensures cert_taken { taken cert.new ≤ taken cert.old + 67108865 }
+{
+    let line = units_of(alloc, units)?;
+    let Ok(loads) = Loads::new(alloc, &line) else {
+        return Err(Refusal::Check(CheckFault::OutOfMemory));
+    };
+    let text = cert_text(alloc, cert)?;
+    Ok((line, loads, text))
 }

@@ -1,24 +1,22 @@
 //! What a resumed search answers, and the certificate that it writes before.
 
-ghost use Rattle.std.specs.Prelude.{◌≡◌, ◌⊎◌, ℕ, ◌+◌, ◌≤◌, true, false, Ok as OkOf, None, IfOk, IfErr, IfSome};
+ghost use Rattle.std.specs.Prelude.{◌≡◌, ◌+◌, ◌≤◌, true, false, None, IfOk, IfErr, IfSome};
 ghost use Rattle.ec_units.specs.Load.{loads_of};
 ghost use Rattle.ec_loads.specs.Held.{no_places};
 ghost use Rattle.ec_cert.specs.Shapes.{cert_view};
 ghost use Rattle.ec_cert.specs.WellFormed.{IsWellFormed};
-ghost use Rattle.ec_cert_text.specs.Reading.{reading};
 ghost use Rattle.ec_checker.specs.Certified.{IsCertified};
 ghost use Rattle.ec_workers.specs.Answers.{Asked, IsOutcome};
 ghost use Rattle.ec_wire.specs.Stream.{stream, has_failed, taken};
 ghost use Rattle.ec_lines.specs.Outcomes.{HasPlaces};
-ghost use Rattle.ec_lines.specs.Refusals.{out_of_memory};
 ghost use Rattle.ec_answers.specs.Input.{ConsumesAtMost, AreUnits};
-ghost use Rattle.ec_answers.specs.Planned.{Any, AnswersResume, Gets, GetsFront, GetsResumeFront, GoesOn, IsProofBy, IsStopped, IsTextFault, ResumesFrom};
+ghost use Rattle.ec_answers.specs.Planned.{Any, AnswersResume, Gets, GetsFront, GetsResumeFront, GoesOn, GoesOnFrom, IsProofBy, IsStopped, IsStoppedFrom, ResumesFrom};
 
-use crate::input::{cert_text, units_of};
+use crate::input::inputs;
 use crate::plan::{certified, level_of, told};
 use ec_cert::Cert;
 use ec_cert_text::read_cert;
-use ec_checker::{CheckFault, Verdict, check_in, faults_refute};
+use ec_checker::{Verdict, check_in, faults_refute};
 use ec_crew::copy_of;
 use ec_lines::{Answer, Refusal};
 use ec_loads::Loads;
@@ -79,19 +77,25 @@ fn went_on<T: Threads + Wait + Sync, G: Gate + Sync>(
     }
 }
 
-/// The certificate that the reader has. At most 67,108,865 bytes are read.
-fn cert_in<C: Read>(alloc: Global, input: &mut Io<C>) -> Result<Cert, Refusal>
-    requires { has_failed input.old ≡ false }
-    ensures formed { IfOk result (λ c. IsWellFormed (cert_view c)) }
-    ensures ok { IfOk result (λ c. IfSome (C.remaining (stream input.old)) (λ text. reading text ≡ OkOf (cert_view c))) }
-    ensures err { has_failed input.new ≡ false → IfErr result (λ r. IfSome (C.remaining (stream input.old)) (λ text. (r ≡ out_of_memory) ⊎ IsTextFault text r)) }
-    ensures read { has_failed input.new ≡ true → result ≡ Err Refusal.Read }
-    ensures consumed { ConsumesAtMost (C.remaining (stream input.old)) (C.remaining (stream input.new)) 67108865 }
-    ensures taken { taken input.new ≤ taken input.old + 67108865 }
+/// What comes of going on with a certificate's text for the units. The loads are those of the units, with no place.
+fn text_outcome<T: Threads + Wait + Sync, G: Gate + Sync>(
+    rt: &T,
+    alloc: Global,
+    workers: usize,
+    nodes: u32,
+    loads: &mut Loads,
+    units: &Units,
+    text: &[u8],
+    gate: &G,
+) -> Result<Outcome, Refusal>
+    requires workers { (1 ≤ workers) × (workers ≤ 16) }
+    requires nodes { (1 ≤ nodes) × (nodes ≤ 10000000) }
+    requires empty { loads.old ≡ record { loads = loads_of units.now.units; slots = units.now.slots; places = no_places (loads_of units.now.units) } }
+    ensures ok { IfOk result (GoesOnFrom workers nodes units.now text.now) }
+    ensures err { IfErr result (IsStoppedFrom workers units.now text.now) }
 {
-    let text = cert_text(alloc, input)?;
-    let cert = read_cert(alloc, &text)?;
-    Ok(cert)
+    let cert = read_cert(alloc, text)?;
+    went_on(rt, alloc, workers, nodes, loads, units, cert, gate)
 }
 
 /// The units that the first reader has, and what comes of going on with the certificate that the second one has. The
@@ -121,12 +125,8 @@ fn resumed<R: Read, C: Read, T: Threads + Wait + Sync, G: Gate + Sync>(
     ensures cert_consumed { ConsumesAtMost (C.remaining (stream cert.old)) (C.remaining (stream cert.new)) 67108865 }
     ensures cert_taken { taken cert.new ≤ taken cert.old + 67108865 }
 {
-    let line = units_of(alloc, units)?;
-    let Ok(mut loads) = Loads::new(alloc, &line) else {
-        return Err(Refusal::Check(CheckFault::OutOfMemory));
-    };
-    let given = cert_in(alloc, cert)?;
-    let outcome = went_on(rt, alloc, workers, nodes, &mut loads, &line, given, gate)?;
+    let (line, mut loads, text) = inputs(alloc, units, cert)?;
+    let outcome = text_outcome(rt, alloc, workers, nodes, &mut loads, &line, &text, gate)?;
     Ok((line, outcome))
 }
 
