@@ -1,6 +1,6 @@
 //! Loads with the bounds that are asked of them.
 
-use crate::call::Call;
+use crate::call::{Call, place_of};
 use crate::steps::{Dice, agrees};
 use ec_bounds::{Rest, average_bound, full_bound, tick_bound, weight_bound};
 use ec_drafts::Draft;
@@ -56,7 +56,7 @@ impl Bench {
     /// Gives a unit the place that a call says.
     fn place(&mut self, call: Call<'_>, out: &mut Draft) {
         let unit = call.index(1);
-        match call.place(2) {
+        match place_of(call.word(2)) {
             Some(place) if unit < self.loads.places().len() => {
                 self.put(unit, place);
                 out.add('-');
@@ -109,7 +109,7 @@ impl Bench {
 
     /// After how many of so many steps each answer of the loads is that of the sums.
     fn steps(&mut self, count: u32) -> u32 {
-        let mut dice = Dice::new();
+        let mut dice = Dice { state: 1 };
         let mut last = 0usize;
         let mut agreed = 0u32;
         for _ in 0..count {
@@ -123,44 +123,36 @@ impl Bench {
         agreed
     }
 
-    /// Whether the weights of a call hold at its value.
+    /// Adds whether the weights of a call hold at its value.
     fn weigh(&self, alloc: Global, call: Call<'_>, out: &mut Draft) {
         let weights = call.weights(alloc, 2, out);
         out.add(weight_bound(&self.loads, &self.rest, weights.as_slice(), call.number(1)));
     }
 
-    /// The number that a call asks of the loads, if it asks one.
-    fn number(&self, call: Call<'_>) -> Option<u64> {
-        match call.name() {
-            "payload" => Some(u64::from(self.loads.payload(call.count(1), call.small(2)))),
-            "cost" => Some(self.loads.cost(call.count(1))),
-            "raw" => Some(self.loads.raw(call.count(1))),
-            "raw_total" => Some(self.loads.raw_total()),
-            "demand" => Some(u64::from(self.rest.demand())),
-            _ => None,
-        }
-    }
-
     /// Adds what a call of a tick, a slot or a bound answers.
     fn bound(&self, alloc: Global, call: Call<'_>, out: &mut Draft) {
-        let value = call.number(1);
         match call.name() {
             "top" => out.add(format_args!("{:?}", self.loads.top())),
             "full" => out.add(format_args!("{:?}", self.loads.full())),
-            "tick_bound" => out.add(format_args!("{:?}", tick_bound(&self.loads, value))),
+            "tick_bound" => out.add(format_args!("{:?}", tick_bound(&self.loads, call.number(1)))),
             "full_bound" => out.add(format_args!("{:?}", full_bound(&self.loads))),
-            "average_bound" => out.add(average_bound(&self.loads, &self.rest, value)),
+            "average_bound" => out.add(average_bound(&self.loads, &self.rest, call.number(1))),
             "weight_bound" => self.weigh(alloc, call, out),
             _ => out.add("no call"),
         }
     }
 
-    /// Adds what a call of the loads answers that leaves them as they are.
+    /// Adds what a call of the loads or of a bound answers that leaves them as they are.
     fn tell(&self, alloc: Global, call: Call<'_>, out: &mut Draft) {
-        match self.number(call) {
-            Some(number) => out.add(number),
-            None => self.bound(alloc, call, out),
-        }
+        let number = match call.name() {
+            "payload" => u64::from(self.loads.payload(call.count(1), call.small(2))),
+            "cost" => self.loads.cost(call.count(1)),
+            "raw" => self.loads.raw(call.count(1)),
+            "raw_total" => self.loads.raw_total(),
+            "demand" => u64::from(self.rest.demand()),
+            _ => return self.bound(alloc, call, out),
+        };
+        out.add(number);
     }
 
     /// Adds what a call of the loads or of a bound answers.

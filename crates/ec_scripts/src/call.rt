@@ -11,12 +11,12 @@ pub(crate) struct Call<'a> {
 }
 
 /// A place: its phase and its slot, with a comma between them.
-fn place_of(word: &str) -> Option<Place> {
-    let (phase, slot) = word.split_once(',')?;
-    Some(Place {
-        phase: phase.parse::<u16>().ok()?,
-        slot: slot.parse::<u8>().ok()?,
-    })
+pub(crate) fn place_of(word: &str) -> Option<Place> {
+    let (phase, slot) = word.split_once(',').unwrap_or((word, ""));
+    let (Ok(phase), Ok(slot)) = (phase.parse::<u16>(), slot.parse::<u8>()) else {
+        return None;
+    };
+    Some(Place { phase, slot })
 }
 
 impl<'a> Call<'a> {
@@ -41,20 +41,15 @@ impl<'a> Call<'a> {
 
     /// The same, where 0 stands for none.
     pub(crate) fn count(self, at: usize) -> u32 {
-        self.word(at).parse::<u32>().ok().unwrap_or(0)
+        self.word(at).parse::<u32>().unwrap_or(0)
     }
 
     pub(crate) fn small(self, at: usize) -> u8 {
-        self.word(at).parse::<u8>().ok().unwrap_or(0)
+        self.word(at).parse::<u8>().unwrap_or(0)
     }
 
     pub(crate) fn index(self, at: usize) -> usize {
-        self.word(at).parse::<usize>().ok().unwrap_or(usize::MAX)
-    }
-
-    /// The place that a word is, if it is one.
-    pub(crate) fn place(self, at: usize) -> Option<Place> {
-        place_of(self.word(at))
+        self.word(at).parse::<usize>().unwrap_or(usize::MAX)
     }
 
     /// The places that the words from this one on are, up to the first that is none. Want of memory is noted in the

@@ -7,7 +7,7 @@ ghost use Rattle.ec_cert.specs.WellFormed.{IsWellFormed};
 ghost use Rattle.ec_workers.specs.Outcomes.{IsPartialCert};
 
 use crate::call::Call;
-use crate::texts::add_unbarred;
+use crate::texts::{add_lines, add_unbarred};
 use ec_cert::{Cert, Tree, split_of, well_formed};
 use ec_cert_text::{read_cert, write_cert};
 use ec_checker::check;
@@ -59,19 +59,15 @@ pub(crate) fn add_written(out: &mut Draft, cert: &Cert, room: usize) {
     if !well_formed(cert) {
         return out.add("not well formed");
     }
-    let is_whole = write_slowly(out, cert, room);
+    let mut slow = Io::new(Slow {
+        text: &mut *out,
+        room,
+    });
+    let is_whole = write_cert(cert, &mut slow).is_ok();
+    drop(slow);
     if !is_whole {
         out.add(" failed");
     }
-}
-
-/// Writes a certificate to a writer with room for so many bytes, and says whether it was enough.
-fn write_slowly(out: &mut Draft, cert: &Cert, room: usize) -> bool
-    requires { IsWellFormed (cert_view cert.now) }
-{
-    let mut slow = Slow { text: out, room };
-    let mut io = Io::new(&mut slow);
-    write_cert(cert, &mut io).is_ok()
 }
 
 /// Adds what the checker answers of a certificate.
@@ -111,10 +107,13 @@ pub(crate) fn resumable(out: &mut Draft, alloc: Global, units: &Units, barred: &
         out.give_up();
         return None;
     };
-    match read_cert(alloc, text.as_bytes()) {
+    let cert = read_cert(alloc, text.as_bytes());
+    drop(text);
+    match cert {
         Ok(cert) => if goes_on(out, alloc, units, &cert) {
             Some(cert)
         } else {
+            drop(cert);
             None
         },
         Err(fault) => {
@@ -138,50 +137,14 @@ fn add_edited(text: &mut Draft, first: usize, last: usize, new: &str) {
     }
 }
 
-/// A tree below a split of one child.
-fn above(alloc: Global, tree: Tree) -> Result<Tree, AllocError> {
-    let mut children = Vec::new(alloc);
-    children.push(tree)?;
-    split_of(alloc, children)
-}
-
-/// Puts so many splits of one child each above a tree.
+/// Puts so many splits of one child each above a tree, which may be more than a text can have.
 fn raise(alloc: Global, tree: &mut Tree, splits: usize) -> Result<(), AllocError> {
     for _ in 0..splits.min(60) {
-        *tree = above(alloc, mem::replace(tree, Tree::OpenLeaf))?;
+        let mut children = Vec::new(alloc);
+        children.push(mem::replace(tree, Tree::OpenLeaf))?;
+        *tree = split_of(alloc, children)?;
     }
     Ok(())
-}
-
-/// Adds what the checker answers of a certificate with so many splits of one child each above its tree, which may be more
-/// than a text can have.
-fn check_below(out: &mut Draft, alloc: Global, units: &Units, cert: &mut Cert, splits: usize) {
-    match raise(alloc, &mut cert.tree, splits) {
-        Ok(()) => add_verdict(out, alloc, units, cert),
-        Err(_) => out.give_up(),
-    }
-}
-
-/// Adds the first bytes of the example.
-fn add_front(text: &mut Draft, count: usize) {
-    for c in EXAMPLE.chars().take(count) {
-        text.add(c);
-    }
-}
-
-/// Adds the example with a tab for a byte.
-fn add_tabbed(text: &mut Draft, at: usize) {
-    for (i, c) in EXAMPLE.chars().enumerate() {
-        text.add(if i == at { '\t' } else { c });
-    }
-}
-
-/// Adds so many equal lines.
-fn add_lines(text: &mut Draft, alloc: Global, line: &str, count: usize) {
-    match line.repeat(alloc, count) {
-        Ok(lines) => text.add(lines),
-        Err(_) => text.give_up(),
-    }
 }
 
 /// Adds a text that a call makes: the first bytes of the example, the example with a tab for a byte, or twice; a
@@ -189,8 +152,12 @@ fn add_lines(text: &mut Draft, alloc: Global, line: &str, count: usize) {
 fn add_made(text: &mut Draft, alloc: Global, call: Call<'_>) {
     let count = call.index(1).min(70_000_000);
     match call.name() {
-        "front" => add_front(text, count),
-        "tab" => add_tabbed(text, count),
+        "front" => text.add(EXAMPLE.get(..count).unwrap_or(EXAMPLE)),
+        "tab" => {
+            text.add(EXAMPLE.get(..count).unwrap_or(EXAMPLE));
+            text.add('\t');
+            text.add(EXAMPLE.get(count + 1..).unwrap_or(""));
+        }
         "twice" => {
             text.add(EXAMPLE);
             text.add(EXAMPLE);
@@ -208,31 +175,22 @@ fn add_made(text: &mut Draft, alloc: Global, call: Call<'_>) {
     }
 }
 
-/// Adds sixty leaves below a split, which this tick closes.
-fn add_leaves(text: &mut Draft, tick: u32) {
-    text.add("S 60\n");
-    for _ in 0..60u32 {
-        text.add(format_args!("T {tick}\n"));
-    }
-}
-
-/// Adds sixty splits into sixty leaves each, which this tick closes.
-fn add_splits(text: &mut Draft, tick: u32) {
-    text.add("S 60\n");
-    for _ in 0..60u32 {
-        add_leaves(text, tick);
-    }
-}
-
 /// Adds a certificate of 219,661 nodes: three units of 1 byte every 60 ticks, all placed in each branch, and each leaf
 /// closed by the tick of the first unit; those of the last phase by this tick.
 fn add_wide(text: &mut Draft, last: u32) {
     text.add("ecplan 1\nslots 1\nunit a 1 60\nunit b 1 60\nunit c 1 60\norder 0 1 2\nvalue 84\n");
     text.add("place 0 0\nplace 0 0\nplace 0 0\ntree\nS 60\n");
-    for tick in 0..59u32 {
-        add_splits(text, tick);
+    for leaf in 0..216_000u32 {
+        if leaf % 3600 == 0 {
+            text.add("S 60\n");
+        }
+        if leaf % 60 == 0 {
+            text.add("S 60\n");
+        }
+        let phase = leaf / 3600;
+        let tick = if phase < 59 { phase } else { last };
+        text.add(format_args!("T {tick}\n"));
     }
-    add_splits(text, last);
     text.add("end\n");
 }
 
@@ -253,7 +211,10 @@ fn judge(out: &mut Draft, alloc: Global, units: &Units, call: Call<'_>, cert: &m
     match call.name() {
         "write" | "example" => add_written(out, cert, call.index(1)),
         "check" | "wide" | "judge" => add_verdict(out, alloc, units, cert),
-        "tower" => check_below(out, alloc, units, cert, call.index(1)),
+        "tower" => match raise(alloc, &mut cert.tree, call.index(1)) {
+            Ok(()) => add_verdict(out, alloc, units, cert),
+            Err(_) => out.give_up(),
+        },
         _ => out.add("right"),
     }
 }
@@ -261,7 +222,10 @@ fn judge(out: &mut Draft, alloc: Global, units: &Units, call: Call<'_>, cert: &m
 /// Adds what a call about this text answers.
 fn read(out: &mut Draft, alloc: Global, units: &Units, call: Call<'_>, text: &[u8]) {
     match read_cert(alloc, text) {
-        Ok(mut cert) => judge(out, alloc, units, call, &mut cert),
+        Ok(mut cert) => {
+            judge(out, alloc, units, call, &mut cert);
+            drop(cert);
+        }
         Err(fault) => out.add(format_args!("{fault:?}")),
     }
 }

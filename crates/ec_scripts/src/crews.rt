@@ -106,24 +106,19 @@ pub(crate) fn add_outcome(out: &mut Draft, alloc: Global, units: &Units, outcome
     }
 }
 
-/// Adds the certificate of a search, or what the checker answers of it.
-fn add_proof(out: &mut Draft, alloc: Global, units: &Units, outcome: &Outcome, whole: bool) {
-    match proof_of(outcome) {
-        Some(cert) if whole => add_written(out, cert, usize::MAX),
-        Some(cert) => add_verdict(out, alloc, units, cert),
-        None if whole => {}
-        None => out.add("unproved"),
-    }
-}
-
 /// Adds what is asked of a search.
 fn add_shown(out: &mut Draft, alloc: Global, units: &Units, outcome: &Outcome, shown: Shown) {
     match shown {
         Shown::Plan => add_plan(out, outcome, false),
         Shown::Tree => add_plan(out, outcome, true),
         Shown::End => add_outcome(out, alloc, units, outcome),
-        Shown::Verdict => add_proof(out, alloc, units, outcome, false),
-        Shown::Cert => add_proof(out, alloc, units, outcome, true),
+        Shown::Verdict => match proof_of(outcome) {
+            Some(cert) => add_verdict(out, alloc, units, cert),
+            None => out.add("unproved"),
+        },
+        Shown::Cert => if let Some(cert) = proof_of(outcome) {
+            add_written(out, cert, usize::MAX);
+        },
     }
 }
 
@@ -149,7 +144,10 @@ pub(crate) fn search(
     let workers = crew.workers.clamp(1, 16);
     let nodes = crew.nodes.clamp(1, 10_000_000);
     match solve(rt, alloc, units, workers, nodes, gate) {
-        Ok(outcome) => add_shown(out, alloc, units, &outcome, shown),
+        Ok(outcome) => {
+            add_shown(out, alloc, units, &outcome, shown);
+            drop(outcome);
+        }
         Err(fault) => add_fault(out, fault, shown),
     }
 }
@@ -174,11 +172,6 @@ pub(crate) fn crew_of(call: Call<'_>, at: usize) -> Crew {
     }
 }
 
-/// One worker, with so many nodes.
-pub(crate) fn alone(nodes: u32) -> Crew {
-    Crew { workers: 1, nodes }
-}
-
 /// What so many workers find; with `told`, also before how many nodes the gate was told: `crew WORKERS NODES told`.
 pub(crate) fn crewed(
     rt: &(impl Threads + Wait + Sync),
@@ -194,24 +187,6 @@ pub(crate) fn crewed(
     }
 }
 
-/// Whether a search finds this.
-fn is_same(
-    rt: &(impl Threads + Wait + Sync),
-    alloc: Global,
-    units: &Units,
-    crew: Crew,
-    first: &str,
-    out: &mut Draft,
-) -> bool {
-    match found(rt, alloc, units, crew) {
-        Ok(text) => text.as_str() == first,
-        Err(_) => {
-            out.give_up();
-            false
-        }
-    }
-}
-
 /// Adds what the first of many searches found, and how many of them find the same.
 fn add_same(
     rt: &(impl Threads + Wait + Sync),
@@ -223,8 +198,14 @@ fn add_same(
 ) {
     let mut same = 1u32;
     for _ in 1..call.count(1) {
-        if is_same(rt, alloc, units, crew_of(call, 2), first, out) {
-            same = same.saturating_add(1);
+        match found(rt, alloc, units, crew_of(call, 2)) {
+            Ok(text) => {
+                if text.as_str() == first {
+                    same = same.saturating_add(1);
+                }
+                drop(text);
+            }
+            Err(_) => out.give_up(),
         }
     }
     out.add(format_args!("{first} {same} times"));
@@ -265,22 +246,18 @@ fn flag_of(worker: usize) -> u64 {
 }
 
 impl Meeting {
-    /// A meeting of 1 to 16 workers.
-    fn new(workers: usize) -> Meeting {
-        Meeting {
-            flags: AtomicU64::new(0),
-            all: flag_of(workers.clamp(1, 16)).saturating_sub(1),
-            missed: AtomicBool::new(false),
-        }
-    }
-
     /// Whether all have come.
     fn is_full(&self) -> bool {
         self.flags.load(Ordering::SeqCst) == self.all
     }
+}
 
-    /// Waits until all have come, or in vain.
-    fn wait(&self) {
+impl Gate for Meeting {
+    fn before(&self, worker: usize, _piece: u64, _value: Option<u64>) {
+        let flag = flag_of(worker);
+        if self.flags.fetch_or(flag, Ordering::SeqCst) & flag != 0 {
+            return;
+        }
         for _ in 0..LOOKS {
             if self.is_full() {
                 return;
@@ -288,15 +265,6 @@ impl Meeting {
             hint::spin_loop();
         }
         self.missed.store(true, Ordering::SeqCst);
-    }
-}
-
-impl Gate for Meeting {
-    fn before(&self, worker: usize, _piece: u64, _value: Option<u64>) {
-        let flag = flag_of(worker);
-        if self.flags.fetch_or(flag, Ordering::SeqCst) & flag == 0 {
-            self.wait();
-        }
     }
 }
 
@@ -309,7 +277,11 @@ pub(crate) fn met(
     call: Call<'_>,
     out: &mut Draft,
 ) {
-    let gate = Meeting::new(call.index(1));
+    let gate = Meeting {
+        flags: AtomicU64::new(0),
+        all: flag_of(call.index(1).clamp(1, 16)).saturating_sub(1),
+        missed: AtomicBool::new(false),
+    };
     search(rt, alloc, units, crew_of(call, 1), &gate, Shown::End, out);
     let is_met = gate.is_full() && !gate.missed.load(Ordering::SeqCst);
     out.add(if is_met { " met" } else { " missed" });

@@ -133,11 +133,15 @@ impl Desk {
             return out.give_up();
         };
         if !has_nodes(&sub.tree) {
+            drop(sub);
             return out.add("an open leaf alone");
         }
         match self.book.report(call.index(1), piece, prefix, sub) {
             Ok(()) => out.add("Ok(())"),
-            Err((fault, _)) => out.add(format_args!("Err({fault:?})")),
+            Err((fault, sub)) => {
+                drop(sub);
+                out.add(format_args!("Err({fault:?})"));
+            }
         }
     }
 
@@ -191,9 +195,12 @@ impl Desk {
             return out.give_up();
         };
         match mem::replace(&mut self.book, fresh).finish() {
-            Ok(done) => add_finished(out, &done),
+            Ok(done) => {
+                add_finished(out, &done);
+                drop(done);
+            }
             Err((book, _)) => {
-                self.book = book;
+                drop(mem::replace(&mut self.book, book));
                 out.add("memory");
             }
         }
@@ -206,9 +213,11 @@ impl Desk {
         let Some(cert) = resumable(out, alloc, &self.units, call.after(2)) else {
             return;
         };
-        match resumed(alloc, &self.units, &cert, nodes) {
+        let resumed = resumed(alloc, &self.units, &cert, nodes);
+        drop(cert);
+        match resumed {
             Ok((book, order)) => {
-                self.book = book;
+                drop(mem::replace(&mut self.book, book));
                 self.order = order;
                 self.nodes = nodes;
                 out.add("Ok(())");

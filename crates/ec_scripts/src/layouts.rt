@@ -10,7 +10,7 @@ use ec_loads::{Loads, Places, Plan, is_legal};
 use ec_player::tick_frames;
 use ec_units::Units;
 use ec_wire::frame_wire;
-use std::alloc::{AllocError, Global};
+use std::alloc::Global;
 
 /// Adds bytes with two hexadecimal digits each, and a space before them.
 fn add_hex(out: &mut Draft, bytes: &[u8]) {
@@ -35,19 +35,6 @@ fn add_records(out: &mut Draft, mapping: &Mapping) {
     }
 }
 
-/// The frames of a tick with an image of zeros.
-fn frames_at(
-    alloc: Global,
-    units: &Units,
-    mapping: &Mapping,
-    tick: u32,
-) -> Result<Vec<Frame>, AllocError>
-    requires { HasLayout units.now mapping.now }
-{
-    let image = Vec::from_elem(alloc, 0u8, mapping.total as usize)?;
-    tick_frames(alloc, units, mapping, image.as_slice(), tick)
-}
-
 /// Adds how many frames there are, and the bytes of each.
 fn add_frames(out: &mut Draft, frames: &[Frame]) {
     out.add(format_args!("{} frames", frames.len()));
@@ -66,7 +53,7 @@ fn add_wire(out: &mut Draft, frames: &[Frame]) {
     out.add(format_args!(" {sum}"));
 }
 
-/// Adds the frames of a tick, or what they take on the wire.
+/// Adds the frames of a tick with an image of zeros, or what they take on the wire.
 fn add_tick(
     out: &mut Draft,
     alloc: Global,
@@ -77,9 +64,15 @@ fn add_tick(
 )
     requires { HasLayout units.now mapping.now }
 {
-    match frames_at(alloc, units, mapping, tick) {
-        Ok(frames) if whole => add_frames(out, frames.as_slice()),
-        Ok(frames) => add_wire(out, frames.as_slice()),
+    let Ok(image) = Vec::from_elem(alloc, 0u8, mapping.total as usize) else {
+        return out.give_up();
+    };
+    match tick_frames(alloc, units, mapping, image.as_slice(), tick) {
+        Ok(frames) => if whole {
+            add_frames(out, frames.as_slice());
+        } else {
+            add_wire(out, frames.as_slice());
+        },
         Err(_) => out.give_up(),
     }
 }

@@ -46,9 +46,12 @@ fn tell(
     let mut answer = Draft::new(alloc);
     script.answer(rt, alloc, Call::of(call), &mut answer);
     match answer.finish() {
-        Ok(answer) => if answer.as_str() != wanted {
-            out.add(format_args!("{line}\nanswers {}\n", answer.as_str()));
-        },
+        Ok(answer) => {
+            if answer.as_str() != wanted {
+                out.add(format_args!("{line}\nanswers {}\n", answer.as_str()));
+            }
+            drop(answer);
+        }
         Err(_) => out.give_up(),
     }
 }
@@ -68,6 +71,7 @@ fn tell_all(
             count = count.saturating_add(1);
         }
     }
+    drop(script);
     count
 }
 

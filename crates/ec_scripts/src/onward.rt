@@ -1,18 +1,16 @@
 //! Searches that are cut short and gone on with: their levels and their certificates.
 
-ghost use Rattle.std.specs.Prelude.{◌≤◌};
-ghost use Rattle.ec_cert.specs.Shapes.{cert_view};
+ghost use Rattle.std.specs.Prelude.{IfOk};
 ghost use Rattle.ec_workers.specs.Answers.{Asked, IsOutcome};
-ghost use Rattle.ec_workers.specs.Outcomes.{IsPartialCert};
 
 use crate::call::Call;
 use crate::certs::{add_verdict, add_written, resumable};
-use crate::crews::{Crew, Told, add_outcome, alone, crew_of};
+use crate::crews::{Crew, Told, add_outcome, crew_of};
 use ec_cert::Cert;
 use ec_checker::level;
 use ec_drafts::Draft;
 use ec_units::Units;
-use ec_workers::{Outcome, partial, solve, solve_from};
+use ec_workers::{Outcome, SolveFault, partial, solve, solve_from};
 use std::alloc::{AllocError, Global};
 use std::sync::Wait;
 use std::thread::Threads;
@@ -36,18 +34,8 @@ fn cert_of(alloc: Global, units: &Units, outcome: Outcome) -> Result<Cert, Alloc
     }
 }
 
-/// Adds of the certificate of a search without a proof its level, and what the checker answers of it.
-fn add_level(told: &mut Draft, alloc: Global, units: &Units, cert: &Cert) {
-    match cert.level {
-        Some(level) => {
-            told.add(format_args!(" {level} "));
-            add_verdict(told, alloc, units, cert);
-        }
-        None => {}
-    }
-}
-
-/// Adds that, and the certificate to a text of its own. Where memory ran out over it, that is told.
+/// Adds of the certificate of a search without a proof its level and what the checker answers of it, and the certificate
+/// to a text of its own. Where memory ran out over it, that is told.
 fn add_cert(
     told: &mut Draft,
     text: &mut Draft,
@@ -57,7 +45,10 @@ fn add_cert(
 ) {
     match cert {
         Ok(cert) => {
-            add_level(told, alloc, units, cert);
+            if let Some(level) = cert.level {
+                told.add(format_args!(" {level} "));
+                add_verdict(told, alloc, units, cert);
+            }
             add_written(text, cert, usize::MAX);
         }
         Err(_) => told.add(" OutOfMemory"),
@@ -65,14 +56,26 @@ fn add_cert(
 }
 
 /// Adds what a search ended with, of one without a proof its level and what the checker answers of its certificate, and
-/// that certificate, with bars, to a text of its own. Where memory ran out over the level or the certificate, that is
-/// told.
-fn end(told: &mut Draft, text: &mut Draft, alloc: Global, units: &Units, outcome: Outcome)
-    requires { (asked : Asked) × IsOutcome units.now.units units.now.slots asked outcome }
+/// that certificate, with bars, to a text of its own; or why no search began. Where memory ran out over the level or the
+/// certificate, that is told.
+fn end(
+    told: &mut Draft,
+    text: &mut Draft,
+    alloc: Global,
+    units: &Units,
+    found: Result<Outcome, SolveFault>,
+)
+    requires { (asked : Asked) × IfOk found (IsOutcome units.now.units units.now.slots asked) }
 {
-    add_outcome(told, alloc, units, &outcome);
-    let cert = cert_of(alloc, units, outcome);
-    add_cert(told, text, alloc, units, &cert);
+    match found {
+        Ok(outcome) => {
+            add_outcome(told, alloc, units, &outcome);
+            let cert = cert_of(alloc, units, outcome);
+            add_cert(told, text, alloc, units, &cert);
+            drop(cert);
+        }
+        Err(fault) => told.add(format_args!("{fault:?}")),
+    }
 }
 
 /// Adds what so many workers find, and their certificate.
@@ -86,34 +89,12 @@ fn cut(
 ) {
     let workers = crew.workers.clamp(1, 16);
     let nodes = crew.nodes.clamp(1, 10_000_000);
-    match solve(rt, alloc, units, workers, nodes, &Told::new()) {
-        Ok(outcome) => end(told, text, alloc, units, outcome),
-        Err(fault) => told.add(format_args!("{fault:?}")),
-    }
+    let found = solve(rt, alloc, units, workers, nodes, &Told::new());
+    end(told, text, alloc, units, found);
 }
 
-/// Adds what so many workers find that go on with a certificate, over so many nodes more, and their certificate.
-fn go_on(
-    rt: &(impl Threads + Wait + Sync),
-    alloc: Global,
-    units: &Units,
-    cert: &Cert,
-    crew: Crew,
-    told: &mut Draft,
-    text: &mut Draft,
-)
-    requires { IsPartialCert units.now.units units.now.slots (cert_view cert.now) }
-{
-    let workers = crew.workers.clamp(1, 16);
-    let nodes = crew.nodes.clamp(1, 10_000_000);
-    match solve_from(rt, alloc, units, cert, workers, nodes, &Told::new()) {
-        Ok(outcome) => end(told, text, alloc, units, outcome),
-        Err(fault) => told.add(format_args!("{fault:?}")),
-    }
-}
-
-/// The same of the text of a certificate, with bars, where the checker shows of it no more than a level; else adds what
-/// it answers.
+/// Adds what so many workers find that go on with the text of a certificate, with bars, over so many nodes more, and their
+/// certificate, where the checker shows of it no more than a level; else adds what it answers.
 fn resume(
     rt: &(impl Threads + Wait + Sync),
     alloc: Global,
@@ -123,9 +104,12 @@ fn resume(
     told: &mut Draft,
     text: &mut Draft,
 ) {
-    match resumable(told, alloc, units, barred) {
-        Some(cert) => go_on(rt, alloc, units, &cert, crew, told, text),
-        None => {}
+    let workers = crew.workers.clamp(1, 16);
+    let nodes = crew.nodes.clamp(1, 10_000_000);
+    if let Some(cert) = resumable(told, alloc, units, barred) {
+        let found = solve_from(rt, alloc, units, &cert, workers, nodes, &Told::new());
+        end(told, text, alloc, units, found);
+        drop(cert);
     }
 }
 
@@ -160,28 +144,16 @@ fn tell(
     out: &mut Draft,
     other: &mut Draft,
 ) {
-    let nodes = call.count(1);
+    let crew = crew_of(call, 1);
+    let alone = Crew {
+        workers: 1,
+        nodes: call.count(1),
+    };
     match call.name() {
-        "level" => cut(rt, alloc, units, alone(nodes), out, other),
-        "partial" => cut(rt, alloc, units, alone(nodes), other, out),
-        "resume" => resume(
-            rt,
-            alloc,
-            units,
-            call.after(3),
-            crew_of(call, 1),
-            out,
-            other,
-        ),
-        "resumed" => resume(
-            rt,
-            alloc,
-            units,
-            call.after(3),
-            crew_of(call, 1),
-            other,
-            out,
-        ),
+        "level" => cut(rt, alloc, units, alone, out, other),
+        "partial" => cut(rt, alloc, units, alone, other, out),
+        "resume" => resume(rt, alloc, units, call.after(3), crew, out, other),
+        "resumed" => resume(rt, alloc, units, call.after(3), crew, other, out),
         "onward" => onward(rt, alloc, units, call, out, other),
         _ => out.add("no call"),
     }

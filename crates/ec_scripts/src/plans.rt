@@ -28,13 +28,6 @@ fn add_children(out: &mut Draft, children: Children) {
     }
 }
 
-/// Adds how many children there are, counted one by one, and without a walk.
-fn add_counts(out: &mut Draft, children: Children) {
-    let count = children.len();
-    let walked = children.count();
-    out.add(format_args!("{walked} {count}"));
-}
-
 /// Adds the plan that the children reach, in turned time or not, where the plan is legal and the order has units of the
 /// line alone.
 fn rename(out: &mut Draft, alloc: Global, units: &Units, plan: &Plan, order: &[u8], turned: bool) {
@@ -70,19 +63,14 @@ fn rename_by(out: &mut Draft, alloc: Global, units: &Units, call: Call<'_>, turn
     rename(out, alloc, units, &plan, order.as_slice(), turned);
 }
 
-/// Adds the busiest tick of a plan, where it is legal.
-fn add_busiest(out: &mut Draft, units: &Units, plan: &Plan) {
-    match is_legal(units, plan) {
-        Ok(()) => out.add(format_args!("{:?}", busiest(units, plan))),
-        Err(_) => out.add("not legal"),
-    }
-}
-
 /// Adds what a call about this plan answers.
 fn judge(out: &mut Draft, units: &Units, plan: &Plan, call: Call<'_>) {
     match call.name() {
         "legal" => out.add(format_args!("{:?}", is_legal(units, plan))),
-        "busiest" => add_busiest(out, units, plan),
+        "busiest" => match is_legal(units, plan) {
+            Ok(()) => out.add(format_args!("{:?}", busiest(units, plan))),
+            Err(_) => out.add("not legal"),
+        },
         "used" if plan.places.as_slice().len() <= 48 => {
             out.add(used_slots(plan.places.as_slice()));
         }
@@ -104,7 +92,12 @@ pub(crate) fn answer(alloc: Global, units: &Units, call: Call<'_>, out: &mut Dra
         "canonical" => rename_by(out, alloc, units, call, false),
         "turned" => rename_by(out, alloc, units, call, true),
         "choices" => add_children(out, children_of(call)),
-        "count" => add_counts(out, children_of(call)),
+        // counted one by one, and without a walk
+        "count" => {
+            let children = children_of(call);
+            let count = children.len();
+            out.add(format_args!("{} {count}", children.count()));
+        }
         _ => judge_by(out, alloc, units, call),
     }
 }

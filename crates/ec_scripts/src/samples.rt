@@ -33,20 +33,16 @@ fn add_units(text: &mut Draft, from: u32, sizes: Sizes) {
     }
 }
 
-/// Output and input bytes; the latter are 0 where no plus sign stands before them.
-fn bytes_of(word: &str) -> Option<(u32, u32)> {
-    let (outputs, inputs) = word.split_once('+').unwrap_or((word, "0"));
-    Some((outputs.parse::<u32>().ok()?, inputs.parse::<u32>().ok()?))
-}
-
 /// The units that a word is: `200/2`, `200/2/5` for five, or `2+4/1` for one with 4 input bytes too.
 fn sizes_of(word: &str) -> Option<Sizes> {
-    let mut parts = word.split('/');
-    let (out_bytes, in_bytes) = bytes_of(parts.next()?)?;
-    let period = parts.next()?.parse::<u32>().ok()?;
-    let count = match parts.next() {
-        Some(count) => count.parse::<u32>().ok()?,
-        None => 1,
+    let (bytes, rest) = word.split_once('/')?;
+    let (out_bytes, in_bytes) = bytes.split_once('+').unwrap_or((bytes, "0"));
+    let (period, count) = rest.split_once('/').unwrap_or((rest, "1"));
+    let (Ok(out_bytes), Ok(in_bytes)) = (out_bytes.parse::<u32>(), in_bytes.parse::<u32>()) else {
+        return None;
+    };
+    let (Ok(period), Ok(count)) = (period.parse::<u32>(), count.parse::<u32>()) else {
+        return None;
     };
     Some(Sizes {
         out_bytes,

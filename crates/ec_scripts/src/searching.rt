@@ -4,7 +4,7 @@ ghost use Rattle.std.specs.Prelude.{length};
 ghost use Rattle.ec_symmetry.specs.Orders.{IsOrder};
 
 use crate::call::Call;
-use crate::crews::{Shown, Told, alone, crewed, crewed_again, met, search};
+use crate::crews::{Crew, Shown, Told, crewed, crewed_again, met, search};
 use crate::guide::{Heard, Wish, found_below, is_reached};
 use crate::onward;
 use crate::samples::add_places;
@@ -33,7 +33,11 @@ fn solved(
         Shown::Plan
     };
     let gate = Told::new();
-    search(rt, alloc, units, alone(call.count(1)), &gate, shown, out);
+    let crew = Crew {
+        workers: 1,
+        nodes: call.count(1),
+    };
+    search(rt, alloc, units, crew, &gate, shown, out);
     let calls = gate.calls.load(Ordering::SeqCst);
     let others = gate.others.load(Ordering::SeqCst);
     out.add(format_args!(" told {calls} {others}"));
@@ -47,7 +51,11 @@ fn certify(
     shown: Shown,
     out: &mut Draft,
 ) {
-    search(rt, alloc, units, alone(1_000_000), &Told::new(), shown, out);
+    let crew = Crew {
+        workers: 1,
+        nodes: 1_000_000,
+    };
+    search(rt, alloc, units, crew, &Told::new(), shown, out);
 }
 
 /// Adds how many lines of that certificate are this one.
@@ -127,7 +135,10 @@ fn explore_in(out: &mut Draft, alloc: Global, units: &Units, order: &[u8], call:
         return out.add("no node, or a place that is not reached");
     }
     match found_below(alloc, units, order, prefix.as_slice(), wish) {
-        Ok((sub, heard)) => add_tree(out, &sub, heard),
+        Ok((sub, heard)) => {
+            add_tree(out, &sub, heard);
+            drop(sub);
+        }
         Err(_) => out.give_up(),
     }
 }

@@ -8,14 +8,10 @@ use ec_loads::{Loads, plain_cost, plain_full, plain_payload, plain_raw, plain_to
 /// Numbers that follow a linear congruence, the same in each run.
 #[derive(Clone, Copy)]
 pub(crate) struct Dice {
-    state: u32,
+    pub state: u32,
 }
 
 impl Dice {
-    pub(crate) fn new() -> Dice {
-        Dice { state: 1 }
-    }
-
     /// A number below this one.
     pub(crate) fn below(&mut self, bound: u32) -> u32
         requires { 0 < bound }
@@ -39,48 +35,24 @@ fn slots_agree(loads: &Loads, tick: u32) -> bool {
     true
 }
 
-/// Whether what a tick carries and costs is that of the sums.
-fn tick_agrees(loads: &Loads, tick: u32) -> bool {
-    loads.cost(tick) == plain_cost(loads, tick)
-        && loads.raw(tick) == plain_raw(loads, tick)
-        && slots_agree(loads, tick)
-}
-
-/// Whether what each tick carries and costs is that of the sums.
-fn ticks_agree(loads: &Loads) -> bool {
-    for tick in 0..loads.ticks() {
-        if !tick_agrees(loads, tick) {
-            return false;
-        }
-    }
-    true
-}
-
-/// The costs without padding of all ticks together.
-fn raw_sum(loads: &Loads) -> u64 {
-    let mut sum = 0u64;
-    for tick in 0..loads.ticks() {
-        sum = sum.saturating_add(plain_raw(loads, tick));
-    }
-    sum
-}
-
-/// The first tick that costs at least the value.
-fn first_reaching(loads: &Loads, value: u64) -> Option<u32> {
-    for tick in 0..loads.ticks() {
-        if plain_cost(loads, tick) >= value {
-            return Some(tick);
-        }
-    }
-    None
-}
-
 /// Whether each answer of the loads is that of the sums, in every tick and slot, and what is asked of all ticks at
 /// once: the greatest cost, the first slot that is too full, the sum, and the first tick that costs at least the value.
 pub(crate) fn agrees(loads: &Loads, value: u64) -> bool {
+    let mut raw_sum = 0u64;
+    let mut first_reaching = None;
+    for tick in 0..loads.ticks() {
+        let cost = plain_cost(loads, tick);
+        let raw = plain_raw(loads, tick);
+        if loads.cost(tick) != cost || loads.raw(tick) != raw || !slots_agree(loads, tick) {
+            return false;
+        }
+        raw_sum = raw_sum.saturating_add(raw);
+        if first_reaching.is_none() && cost >= value {
+            first_reaching = Some(tick);
+        }
+    }
     loads.top() == plain_top(loads)
         && loads.full() == plain_full(loads)
-        && loads.raw_total() == raw_sum(loads)
-        && loads.first_at_least(value) == first_reaching(loads, value)
-        && ticks_agree(loads)
+        && loads.raw_total() == raw_sum
+        && loads.first_at_least(value) == first_reaching
 }

@@ -1,19 +1,17 @@
 //! Searches of every two units of some sizes and periods, with two numbers of workers.
 
 use crate::call::Call;
-use crate::crews::{Crew, found};
+use crate::crews::{Crew, Shown, Told, search};
 use crate::samples::line_of;
 use ec_drafts::Draft;
 use ec_units::Units;
-use std::alloc::{AllocError, Global};
+use std::alloc::Global;
 use std::sync::Wait;
 use std::thread::Threads;
 
 /// The units: 1, 100, 744 or 1486 bytes every 1, 2, 3 or 4 ticks.
-const KINDS: [&str; 16] = [
-    "1/1", "1/2", "1/3", "1/4", "100/1", "100/2", "100/3", "100/4", "744/1", "744/2", "744/3",
-    "744/4", "1486/1", "1486/2", "1486/3", "1486/4",
-];
+const KINDS: &str =
+    "1/1 1/2 1/3 1/4 100/1 100/2 100/3 100/4 744/1 744/2 744/3 744/4 1486/1 1486/2 1486/3 1486/4";
 
 /// What is searched: the slots, and with which workers.
 #[derive(Clone, Copy)]
@@ -44,8 +42,9 @@ fn is_least(text: &str) -> bool {
 }
 
 impl Tally {
-    /// Counts a line by what its two searches answered.
-    fn count(&mut self, one: &str, other: &str) {
+    /// Counts a line by what its two searches answered, each on a line.
+    fn count(&mut self, answers: &str) {
+        let (one, other) = answers.split_once('\n').unwrap_or((answers, ""));
         if one == other && is_least(one) {
             self.optimal = self.optimal.saturating_add(1);
         } else if one == other && one == "no plan Ok(NoPlan)" {
@@ -63,11 +62,32 @@ fn search_twice(
     units: &Units,
     wanted: Wanted,
     tally: &mut Tally,
-) -> Result<(), AllocError> {
-    let one = found(rt, alloc, units, wanted.one)?;
-    let other = found(rt, alloc, units, wanted.other)?;
-    tally.count(one.as_str(), other.as_str());
-    Ok(())
+    out: &mut Draft,
+) {
+    let mut answers = Draft::new(alloc);
+    search(
+        rt,
+        alloc,
+        units,
+        wanted.one,
+        &Told::new(),
+        Shown::End,
+        &mut answers,
+    );
+    answers.add('\n');
+    search(
+        rt,
+        alloc,
+        units,
+        wanted.other,
+        &Told::new(),
+        Shown::End,
+        &mut answers,
+    );
+    match answers.finish() {
+        Ok(answers) => tally.count(answers.as_str()),
+        Err(_) => out.give_up(),
+    }
 }
 
 /// Searches the line of these two units.
@@ -78,26 +98,15 @@ fn search_pair(
     first: &str,
     second: &str,
     tally: &mut Tally,
-) -> Result<(), AllocError> {
-    let words = format!(in alloc; "{first} {second}")?;
-    match line_of(alloc, wanted.slots, words.as_str()) {
-        Some(units) => search_twice(rt, alloc, &units, wanted, tally),
-        None => Ok(()),
+    out: &mut Draft,
+) {
+    match format!(in alloc; "{first} {second}") {
+        Ok(words) => if let Some(units) = line_of(alloc, wanted.slots, words.as_str()) {
+            search_twice(rt, alloc, &units, wanted, tally, out);
+            drop(units);
+        },
+        Err(_) => out.give_up(),
     }
-}
-
-/// Searches the lines of this unit and each other one.
-fn sweep_beside(
-    rt: &(impl Threads + Wait + Sync),
-    alloc: Global,
-    wanted: Wanted,
-    first: &str,
-    tally: &mut Tally,
-) -> Result<(), AllocError> {
-    for second in KINDS.as_slice() {
-        search_pair(rt, alloc, wanted, first, second, tally)?;
-    }
-    Ok(())
 }
 
 /// Searches every two units with so many slots, once with each number of workers: `pairs WORKERS WORKERS NODES`.
@@ -125,10 +134,10 @@ pub(crate) fn answer(
         without: 0,
         otherwise: 0,
     };
-    for first in KINDS.as_slice() {
-        if sweep_beside(rt, alloc, wanted, first, &mut tally).is_err() {
-            return out.give_up();
-        }
+    for pair in 0..256usize {
+        let first = KINDS.split(' ').nth(pair / 16).unwrap_or("");
+        let second = KINDS.split(' ').nth(pair % 16).unwrap_or("");
+        search_pair(rt, alloc, wanted, first, second, &mut tally, out);
     }
     out.add(format_args!("optimal {} no plan {}", tally.optimal, tally.without));
     out.add(format_args!(" otherwise {}", tally.otherwise));

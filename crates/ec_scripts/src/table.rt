@@ -4,26 +4,26 @@ mod answer;
 mod jobs;
 mod row;
 
-use answer::answer_to;
+use answer::add_answer;
 use ec_drafts::Draft;
 use row::{is_as, row_of};
-use std::alloc::{AllocError, Global};
+use std::alloc::Global;
 use std::sync::Wait;
 use std::thread::Threads;
-
-/// Tells a row of which this isn't the answer.
-fn tell_unlike(out: &mut Draft, text: &str, expected: &str, answer: &str) {
-    if !is_as(answer, expected) {
-        out.add(format_args!("{text}\nanswers {answer}\n"));
-    }
-}
 
 /// Tells a row that isn't answered as it says.
 fn tell(rt: &(impl Threads + Wait + Sync), alloc: Global, text: &str, out: &mut Draft) {
     let row = row_of(text);
-    match answer_to(rt, alloc, &row) {
-        Ok(answer) => tell_unlike(out, text, row.expected, answer.as_str()),
-        Err(AllocError) => out.give_up(),
+    let mut answer = Draft::new(alloc);
+    add_answer(&mut answer, rt, alloc, &row);
+    match answer.finish() {
+        Ok(answer) => {
+            if !is_as(answer.as_str(), row.expected) {
+                out.add(format_args!("{text}\nanswers {}\n", answer.as_str()));
+            }
+            drop(answer);
+        }
+        Err(_) => out.give_up(),
     }
 }
 

@@ -4,7 +4,7 @@ use crate::call::Call;
 use crate::samples::add_line;
 use ec_drafts::Draft;
 use ec_unit_text::read_units;
-use ec_units::{Slave, Unit, Units, bytes_of};
+use ec_units::{Unit, Units, bytes_of};
 use std::alloc::Global;
 
 /// What stands before and after the text of a call, by its name.
@@ -35,13 +35,8 @@ const FRAMES: [(&str, &str, &str); 8] = [
     ),
 ];
 
-/// Adds a slave: station, output and input bytes, and where they begin.
-fn add_slave(out: &mut Draft, slave: &Slave) {
-    out.add(format_args!(" {}:{}@{}", slave.station, slave.out_bytes, slave.out_at));
-    out.add(format_args!("/{}@{}", slave.in_bytes, slave.in_at));
-}
-
-/// Adds a unit: name, bytes, period, its place if it has one, and slaves.
+/// Adds a unit: name, bytes, period, its place if it has one, and slaves, each with station, output and input bytes, and
+/// where they begin.
 fn add_unit(out: &mut Draft, unit: &Unit) {
     let bytes = bytes_of(unit);
     out.add(format_args!("; {} {bytes}/{}", unit.name.as_str(), unit.period));
@@ -49,7 +44,8 @@ fn add_unit(out: &mut Draft, unit: &Unit) {
         out.add(format_args!(" at {},{}", place.phase, place.slot));
     }
     for slave in unit.slaves.as_slice() {
-        add_slave(out, slave);
+        out.add(format_args!(" {}:{}@{}", slave.station, slave.out_bytes, slave.out_at));
+        out.add(format_args!("/{}@{}", slave.in_bytes, slave.in_at));
     }
 }
 
@@ -65,8 +61,14 @@ fn add_units(out: &mut Draft, units: &Units) {
 /// Adds what reading a text answers: the fault, or that it is right, or, where the whole is asked for, what was read.
 fn read(alloc: Global, text: &str, whole: bool, out: &mut Draft) {
     match read_units(alloc, text.as_bytes()) {
-        Ok(units) if whole => add_units(out, &units),
-        Ok(_) => out.add("right"),
+        Ok(units) => {
+            if whole {
+                add_units(out, &units);
+            } else {
+                out.add("right");
+            }
+            drop(units);
+        }
         Err(fault) => out.add(fault),
     }
 }
@@ -78,11 +80,11 @@ pub(crate) fn add_unbarred(text: &mut Draft, barred: &str) {
     }
 }
 
-/// Adds a unit with so many slaves of one station.
-fn add_slaves(text: &mut Draft, count: u32) {
-    text.add("tick_ns = 1000000\nslots = 1\n[[unit]]\nname = \"a\"\nperiod = 1\n");
-    for _ in 0..count {
-        text.add("[[unit.slave]]\nstation = 1\nout_bytes = 1\nin_bytes = 0\n");
+/// Adds so many equal lines.
+pub(crate) fn add_lines(text: &mut Draft, alloc: Global, line: &str, count: usize) {
+    match line.repeat(alloc, count) {
+        Ok(lines) => text.add(lines),
+        Err(_) => text.give_up(),
     }
 }
 
@@ -99,8 +101,9 @@ fn add_framed(text: &mut Draft, call: Call<'_>) -> Result<(), &'static str> {
     Err("no call")
 }
 
-/// Adds the text that a call asks to be read, or tells why it asks for none.
-fn add_text(text: &mut Draft, call: Call<'_>) -> Result<(), &'static str> {
+/// Adds the text that a call asks to be read, or tells why it asks for none. That of `slaves` is a unit with so many slaves
+/// of one station.
+fn add_text(text: &mut Draft, alloc: Global, call: Call<'_>) -> Result<(), &'static str> {
     match call.name() {
         "line" => {
             if add_line(text, call.small(1), call.after(2)) {
@@ -110,7 +113,9 @@ fn add_text(text: &mut Draft, call: Call<'_>) -> Result<(), &'static str> {
             }
         }
         "slaves" => {
-            add_slaves(text, call.count(1).min(100_000));
+            text.add("tick_ns = 1000000\nslots = 1\n[[unit]]\nname = \"a\"\nperiod = 1\n");
+            let slave = "[[unit.slave]]\nstation = 1\nout_bytes = 1\nin_bytes = 0\n";
+            add_lines(text, alloc, slave, call.count(1).min(100_000) as usize);
             Ok(())
         }
         _ => add_framed(text, call),
@@ -121,7 +126,7 @@ fn add_text(text: &mut Draft, call: Call<'_>) -> Result<(), &'static str> {
 /// was read, and `line SLOTS SIZES..` and `slaves COUNT` read a text that they make.
 pub(crate) fn answer(alloc: Global, call: Call<'_>, out: &mut Draft) {
     let mut text = Draft::new(alloc);
-    if let Err(fault) = add_text(&mut text, call) {
+    if let Err(fault) = add_text(&mut text, alloc, call) {
         return out.add(fault);
     }
     match text.finish() {

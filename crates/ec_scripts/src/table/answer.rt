@@ -3,7 +3,7 @@
 use crate::table::jobs::{Told, Way, done};
 use crate::table::row::{ALL, Kind, Row};
 use ec_drafts::Draft;
-use std::alloc::{AllocError, Global};
+use std::alloc::Global;
 use std::sync::Wait;
 use std::thread::Threads;
 
@@ -53,15 +53,6 @@ fn add_file(out: &mut Draft, file: &[u8]) {
     out.add("\n");
 }
 
-/// Adds what was written beside the text, if there is anything.
-fn add_written(out: &mut Draft, row: &Row<'_>, written: &[u8]) {
-    match row.kind {
-        Kind::Plain => {}
-        Kind::Search => add_cert(out, row, written),
-        Kind::Capture => add_file(out, written),
-    }
-}
-
 /// Adds a line, where it holds.
 fn add_if(out: &mut Draft, holds: bool, line: &str) {
     if holds {
@@ -69,8 +60,16 @@ fn add_if(out: &mut Draft, holds: bool, line: &str) {
     }
 }
 
-/// Adds the streams that failed. What a plan writes is the certificate, what any other job writes is the file.
-fn add_failed(out: &mut Draft, row: &Row<'_>, told: &Told) {
+/// Adds what a job left: its status, its text, what it wrote beside that, and the streams that failed. What a plan writes
+/// is the certificate, what any other job writes is the file.
+fn add_told(out: &mut Draft, row: &Row<'_>, told: &Told) {
+    out.add(format_args!("{}\n", told.code));
+    add(out, told.text.as_slice());
+    match row.kind {
+        Kind::Plain => {}
+        Kind::Search => add_cert(out, row, told.out.as_slice()),
+        Kind::Capture => add_file(out, told.out.as_slice()),
+    }
     let failed = told.failed;
     let is_plan = row.job == "plan";
     add_if(out, failed.units, "units failed\n");
@@ -101,6 +100,7 @@ fn add_check(
     let checked = done(rt, alloc, &check, Way::Plain);
     out.add(format_args!("check {} ", checked.code));
     add(out, checked.text.as_slice());
+    drop(checked);
 }
 
 /// The first line of a text.
@@ -143,33 +143,25 @@ fn is_left(
     !both && told.failed.out || is_same(row, told, &other, both)
 }
 
-/// Adds what a row's job answers, and whether it leaves the same in the other ways: a search once more, and without its
-/// certificate.
-fn add_answer(out: &mut Draft, rt: &(impl Threads + Wait + Sync), alloc: Global, row: &Row<'_>) {
+/// Adds what a row's job answers: its status, its text, its certificate or capture file, the streams that failed, what is
+/// told of the certificate, whether it leaves the same in the other ways, a search once more and without its certificate,
+/// and a full stop.
+pub(crate) fn add_answer(
+    out: &mut Draft,
+    rt: &(impl Threads + Wait + Sync),
+    alloc: Global,
+    row: &Row<'_>,
+) {
     let (first, again) = match row.kind {
         Kind::Plain => (Way::Plain, Way::Plain),
         Kind::Search => (Way::Writing, Way::Writing),
         Kind::Capture => (Way::Writing, Way::Plain),
     };
     let told = done(rt, alloc, row, first);
-    out.add(format_args!("{}\n", told.code));
-    add(out, told.text.as_slice());
-    add_written(out, row, told.out.as_slice());
-    add_failed(out, row, &told);
+    add_told(out, row, &told);
     add_check(out, rt, alloc, row, &told);
     let same = is_left(rt, alloc, row, &told, again) && is_left(rt, alloc, row, &told, Way::Any);
     add_if(out, !same, "otherwise again\n");
+    drop(told);
     out.add(".\n");
-}
-
-/// What a row's job answers: its status, its text, its certificate or capture file, the streams that failed, what is told of
-/// the certificate, and a full stop.
-pub(crate) fn answer_to(
-    rt: &(impl Threads + Wait + Sync),
-    alloc: Global,
-    row: &Row<'_>,
-) -> Result<String, AllocError> {
-    let mut out = Draft::new(alloc);
-    add_answer(&mut out, rt, alloc, row);
-    out.finish()
 }

@@ -53,7 +53,7 @@ pub(crate) struct Row<'a> {
 /// The number at a place of a row's head, or many.
 fn number(head: &str, place: usize) -> u32 {
     match head.split(' ').nth(place) {
-        Some(word) => word.parse::<u32>().ok().unwrap_or(MANY),
+        Some(word) => word.parse::<u32>().unwrap_or(MANY),
         None => MANY,
     }
 }
@@ -62,7 +62,7 @@ fn number(head: &str, place: usize) -> u32 {
 fn job_and_workers(head: &str) -> (&str, usize) {
     let (word, _) = head.split_once(' ').unwrap_or((head, ""));
     match word.split_once('/') {
-        Some((job, workers)) => (job, workers.parse::<usize>().ok().unwrap_or(1)),
+        Some((job, workers)) => (job, workers.parse::<usize>().unwrap_or(1)),
         None => (word, 1),
     }
 }

@@ -1,4 +1,4 @@
-//! What no text can say: bytes that aren't text, certificates by hand, and lists that go in and out.
+//! What no text can say of the crates below: bytes that aren't text, certificates by hand, and lists that go in and out.
 
 mod certs;
 mod frames;
