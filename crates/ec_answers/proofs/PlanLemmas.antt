@@ -5,7 +5,7 @@ use Rattle.ec_units.specs.declared.units.Units.{Units}
 use Rattle.ec_workers.specs.declared.outcome.Outcome.{Outcome}
 use Rattle.ec_lines.specs.declared.answer.Answer.{Answer}
 use Rattle.ec_lines.specs.declared.refusal.Refusal.{Refusal}
-use Rattle.ec_lines.specs.Output.{Written, shown, refused, written_of}
+use Rattle.ec_lines.specs.Output.{shown, written_of}
 use Rattle.ec_answers.specs.Input.{AnswersUnits}
 use Rattle.ec_answers.specs.Planned.{Any, IsPlanOf, IsPlanFault, PlansFrom, AnswersPlan, GetsCertFront, AnswersSearch, GetsFront, GetsSearchFront, outcome_cert}
 use Rattle.ec_wire.specs.declared.io.Io.{Io}

@@ -1,5 +1,5 @@
 -- From units, a certificate and what the checker answers to the play, or the costs, that are written.
-use Rattle.std.proofs.Common.{◌≡◌, ℕ, List, Option, Some, None, Result, Ok, Err, subst, ap, inl, inr, arith}
+use Rattle.std.proofs.Common.{◌≡◌, ℕ, List, Option, Some, None, Result, Ok, Err, inl, inr, arith}
 use Rattle.std.specs.Prelude.{MatchOption, MatchResult, IfSome}
 use Rattle.ec_units.specs.declared.slave.Place.{Place}
 use Rattle.ec_units.specs.declared.units.Units.{Units}
@@ -17,7 +17,7 @@ use Rattle.ec_lines.specs.declared.answer.Answer.{Answer}
 use Rattle.ec_lines.specs.declared.refusal.Refusal.{Refusal}
 use Rattle.ec_lines.specs.declared.refusal.Refusal.TheVariants as refusal
 use Rattle.ec_command.specs.declared.job.Job.TheVariants as job
-use Rattle.ec_lines.specs.Output.{Written, IsCostsText, IsPlacedText, IsBestText, IsOwnText, IsCertText, IsReadText, IsTextFor, IsOutput, Answers, first_unplaced, places_of, refused, shown}
+use Rattle.ec_lines.specs.Output.{Written, IsCostsText, IsPlacedText, IsBestText, IsCertText, IsTextFor, IsOutput, Answers, first_unplaced, places_of, refused, shown}
 use Rattle.ec_lines.specs.Refusals.{refusal_code}
 use Rattle.ec_lines.proofs.RefusalLemmas.{code_above}
 use Rattle.ec_answers.specs.Captures.{FramesFrom}

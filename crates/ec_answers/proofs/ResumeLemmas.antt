@@ -1,5 +1,5 @@
 -- From what comes of going on with a certificate to what is answered.
-use Rattle.std.proofs.Common.{◌≡◌, ◌≢◌, ℕ, ◌<◌, ◌≤◌, List, length, Option, Some, None, Result, Ok, Err, refl, sym, ap, subst, ◌∙◌, inl, inr}
+use Rattle.std.proofs.Common.{◌≡◌, ℕ, List, Option, Some, None, Result, Ok, Err, refl, sym, ap, subst, ◌∙◌, inl, inr}
 use Rattle.std.specs.Prelude.{◌⊎◌, IfSome, IfOk, IfErr}
 use Rattle.ec_units.specs.declared.slave.Place.{Place}
 use Rattle.ec_units.specs.declared.unit.Unit.{Unit as SyncUnit}
@@ -9,34 +9,30 @@ use Rattle.ec_unit_text.specs.Reading.{reading}
 use Rattle.ec_units.specs.Views.{units_view}
 use Rattle.ec_loads.specs.Search.{node_count}
 use Rattle.ec_cert.specs.declared.cert.Best.{Best}
-use Rattle.ec_cert.specs.declared.cert.Cert.{Cert}
 use Rattle.ec_cert.specs.BestPlan.{IsBestPlan}
-use Rattle.ec_cert.specs.Shapes.{CertView, cert_view}
+use Rattle.ec_cert.specs.Shapes.{CertView}
 use Rattle.ec_cert.specs.WellFormed.{IsWellFormed}
-use Rattle.ec_cert_text.specs.declared.fault.CertFault.{CertFault}
 use Rattle.ec_cert_text.specs.declared.fault.CertFault.TheVariants as cert
-use Rattle.ec_cert_text.specs.Reading.{Fails, reading as cert_reading}
+use Rattle.ec_cert_text.specs.Reading.{reading as cert_reading}
 use Rattle.ec_tree.specs.Trees.{TreesBound, LevelsBound}
 use Rattle.ec_checker.specs.declared.fault.CheckFault.{CheckFault}
 use Rattle.ec_checker.specs.declared.fault.CheckFault.TheVariants as check
 use Rattle.ec_checker.specs.declared.fault.Verdict.{Verdict}
 use Rattle.ec_checker.specs.declared.fault.Verdict.TheVariants as verdict
-use Rattle.ec_checker.specs.Certified.{IsCertified, IsFaultOf, IsAnswer, IsClaim, verdict_of}
+use Rattle.ec_checker.specs.Certified.{IsCertified, IsAnswer, verdict_of}
 use Rattle.ec_checker.specs.Laws.{FaultsRefute}
 use Rattle.ec_checker.proofs.CheckLemmas.{claim_from}
 use Rattle.ec_workers.specs.declared.outcome.Outcome.{Outcome}
 use Rattle.ec_workers.specs.declared.outcome.Outcome.TheVariants as outcome
-use Rattle.ec_workers.specs.declared.outcome.SolveFault.{SolveFault}
-use Rattle.ec_workers.specs.Answers.{Asked, asked_beyond, IsOutcome, IsSolveFault, HasOrder}
-use Rattle.ec_workers.specs.Outcomes.{Shows, IsOptimal, IsWithoutPlan, IsPartialCert}
+use Rattle.ec_workers.specs.Answers.{Asked, asked_beyond, IsOutcome, HasOrder}
+use Rattle.ec_workers.specs.Outcomes.{Shows, IsOptimal, IsWithoutPlan}
 use Rattle.ec_lines.specs.declared.answer.Answer.{Answer}
 use Rattle.ec_lines.specs.Outcomes.{outcome_output, IsLevelOf}
 use Rattle.ec_lines.specs.Output.{shown}
 use Rattle.ec_lines.specs.declared.refusal.Refusal.{Refusal}
-use Rattle.ec_lines.specs.declared.refusal.Refusal.TheVariants as refusal
 use Rattle.ec_lines.specs.Refusals.{out_of_memory, level_memory}
 use Rattle.ec_answers.specs.Input.{AnswersUnits, IsInputFault}
-use Rattle.ec_answers.specs.Planned.{Any, GoesOn, GoesOnFrom, IsProofBy, IsStopped, IsStoppedFrom, IsResumeOf, IsNoFor, IsResumeFault, ResumesFrom, AnswersResume, GetsResumeFront, outcome_cert}
+use Rattle.ec_answers.specs.Planned.{Any, GoesOn, GoesOnFrom, IsProofBy, IsStopped, IsStoppedFrom, IsResumeOf, IsResumeFault, ResumesFrom, AnswersResume, GetsResumeFront, outcome_cert}
 use Rattle.ec_answers.proofs.PlanLemmas.{answered, fronted, told_of, unanswered}
 use Rattle.ec_answers.proofs.CheckedLemmas.{memory_or, too_long}
 

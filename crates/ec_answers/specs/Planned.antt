@@ -1,23 +1,18 @@
 -- What a search writes, begun or resumed: the text of an outcome, and before it its certificate.
-use Rattle.std.specs.Prelude.{◌≡◌, ◌⊎◌, ℕ, ◌≤◌, List, ◌++◌, length, Option, Some, None, Result, Ok, Err, IfSome, option_map}
+use Rattle.std.specs.Prelude.{◌≡◌, ◌⊎◌, ℕ, ◌≤◌, List, length, Option, Some, None, Result, Ok, Err, option_map}
 use Rattle.std.specs.Io.KnownBytes.{Appends}
 use Rattle.ec_wire.specs.declared.io.Io.{Io}
 use Rattle.ec_wire.specs.Stream.{stream, WritesFront}
-use Rattle.ec_units.specs.declared.slave.Place.{Place}
-use Rattle.ec_units.specs.declared.unit.Unit.{Unit as SyncUnit}
 use Rattle.ec_units.specs.declared.units.Units.{Units}
 use Rattle.ec_unit_text.specs.Reading.{reading}
 use Rattle.ec_units.specs.Views.{units_view}
 use Rattle.ec_loads.specs.Search.{node_count}
-use Rattle.ec_cert.specs.declared.cert.Best.{Best}
 use Rattle.ec_cert.specs.Shapes.{CertView, cert_view, shape_of}
-use Rattle.ec_cert.specs.WellFormed.{IsWellFormed}
 use Rattle.ec_cert_text.specs.Reading.{Fails, reading as cert_reading}
 use Rattle.ec_cert_text.specs.Text.{certificate_text}
 use Rattle.ec_cert_text.specs.declared.fault.CertFault.{CertFault}
 use Rattle.ec_checker.specs.Certified.{IsCertified, IsFaultOf}
 use Rattle.ec_checker.specs.declared.fault.CheckFault.{CheckFault}
-use Rattle.ec_workers.specs.declared.outcome.Cut.{Cut}
 use Rattle.ec_workers.specs.declared.outcome.Outcome.{Outcome}
 use Rattle.ec_workers.specs.declared.outcome.Outcome.TheVariants as outcome
 use Rattle.ec_workers.specs.declared.outcome.SolveFault.{SolveFault}
@@ -28,7 +23,7 @@ use Rattle.ec_lines.specs.declared.refusal.Refusal.{Refusal}
 use Rattle.ec_lines.specs.declared.refusal.Refusal.TheVariants as refusal
 use Rattle.ec_answers.specs.Input.{IsUnitsFault}
 use Rattle.ec_lines.specs.Outcomes.{outcome_output, IsLevelOf}
-use Rattle.ec_lines.specs.Output.{Written, done, refused, written_of}
+use Rattle.ec_lines.specs.Output.{Written, refused, written_of}
 use Rattle.ec_lines.specs.Refusals.{out_of_memory, level_memory}
 
 -- the certificate that is written for an outcome of these units: its own, or that of a search without a proof, with its level

@@ -1,4 +1,4 @@
-use Rattle.std.proofs.Common.{ap, refl, ◌∙◌, Ok, Err}
+use Rattle.std.proofs.Common.{ap, refl, ◌∙◌, Err}
 use Rattle.std.proofs.lemmas.Result.{err_from_is_err_and}
 use Rattle.ec_answers.specs.Planned.{Gets, GetsFront}
 use Rattle.ec_answers.proofs.PlanLemmas.{plan_told, plan_refused, plan_unlevelled, plan_fronted, plan_unfronted}

@@ -1,4 +1,4 @@
-use Rattle.std.proofs.Common.{ap, refl, ◌∙◌, Ok, Err}
+use Rattle.std.proofs.Common.{ap, refl, ◌∙◌, Err}
 use Rattle.std.proofs.lemmas.Result.{err_from_is_err_and}
 use Rattle.ec_answers.specs.Planned.{Gets, GetsFront}
 use Rattle.ec_answers.proofs.ResumeLemmas.{resume_told, resume_refused, resume_unlevelled, resume_fronted, resume_unfronted}
