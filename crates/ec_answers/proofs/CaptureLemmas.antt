@@ -7,10 +7,10 @@ use Rattle.ec_loads.specs.declared.plan.Plan.{Plan}
 use Rattle.ec_frame_lines.specs.Lines.{IsFramesText}
 use Rattle.ec_frame_lines.specs.Captures.{IsCapture}
 use Rattle.ec_lines.specs.declared.answer.Answer.{Answer}
-use Rattle.ec_lines.specs.declared.refusal.Refusal.{Refusal}
+use Rattle.ec_refusals.specs.declared.refusal.Refusal.{Refusal}
 use Rattle.ec_lines.specs.Framed.{IsCaptureFor}
 use Rattle.ec_lines.specs.Output.{written_of}
-use Rattle.ec_lines.specs.Refusals.{IsFramesMemory}
+use Rattle.ec_refusals.specs.Refusals.{IsFramesMemory}
 use Rattle.ec_answers.specs.Captures.{FramesFrom, AnswersCapture, GetsCaptureFront}
 
 -- the capture file of a plan of the units is one for the bytes that say them

@@ -12,12 +12,12 @@ use Rattle.ec_checker.specs.declared.fault.CheckFault.TheVariants as check
 use Rattle.ec_checker.specs.declared.fault.Verdict.{Verdict}
 use Rattle.ec_checker.specs.Certified.{IsCertified, IsFaultOf, verdict_of}
 use Rattle.ec_lines.specs.declared.answer.Answer.{Answer}
-use Rattle.ec_lines.specs.declared.refusal.Refusal.{Refusal}
-use Rattle.ec_lines.specs.declared.refusal.Refusal.TheVariants as refusal
+use Rattle.ec_refusals.specs.declared.refusal.Refusal.{Refusal}
+use Rattle.ec_refusals.specs.declared.refusal.Refusal.TheVariants as refusal
 use Rattle.ec_command.specs.declared.job.Job.TheVariants as job
-use Rattle.ec_answers.specs.Input.{AnswersUnits, IsInputFault}
+use Rattle.ec_inputs.specs.Input.{AnswersUnits, IsInputFault}
 use Rattle.ec_lines.specs.Output.{IsCheckedOutput, IsCheckOutput, IsOutput, Answers, shown, refused, verdict_output}
-use Rattle.ec_lines.specs.Refusals.{IsMemory}
+use Rattle.ec_refusals.specs.Refusals.{IsMemory}
 
 -- a yes
 pub checked_yes : (us : Units) (c : CertView) (a : Answer) (v : Verdict) → IsCertified us.units us.slots c → v ≡ verdict_of c.best c.level → shown a ≡ verdict_output v → IsCheckedOutput (units_view us) c (shown a)

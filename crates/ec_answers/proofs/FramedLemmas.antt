@@ -15,13 +15,13 @@ use Rattle.ec_checker.specs.declared.fault.CheckFault.{CheckFault}
 use Rattle.ec_checker.specs.Certified.{IsCertified, IsFaultOf}
 use Rattle.ec_frame_lines.specs.Lines.{IsFramesText}
 use Rattle.ec_lines.specs.declared.answer.Answer.{Answer}
-use Rattle.ec_lines.specs.declared.refusal.Refusal.{Refusal}
-use Rattle.ec_lines.specs.declared.refusal.Refusal.TheVariants as refusal
+use Rattle.ec_refusals.specs.declared.refusal.Refusal.{Refusal}
+use Rattle.ec_refusals.specs.declared.refusal.Refusal.TheVariants as refusal
 use Rattle.ec_command.specs.declared.job.Job.TheVariants as job
 use Rattle.ec_lines.specs.Framed.{IsPlacedPlan, IsBestPlanOf, IsCertPlan, IsFramedPlan}
 use Rattle.ec_lines.specs.Output.{Written, IsBestText, IsOwnText, IsCertText, IsReadText, IsTextFor, IsOutput, Answers, refused, shown}
-use Rattle.ec_lines.specs.Refusals.{IsFramesMemory}
-use Rattle.ec_answers.specs.Input.{AnswersUnits, IsInputFault}
+use Rattle.ec_refusals.specs.Refusals.{IsFramesMemory}
+use Rattle.ec_inputs.specs.Input.{AnswersUnits, IsInputFault}
 use Rattle.ec_answers.specs.Captures.{IsFramesFault, FramesFrom}
 use Rattle.ec_answers.proofs.CheckedLemmas.{memory_or, too_long}
 

@@ -4,14 +4,14 @@ use Rattle.std.specs.Prelude.{◌⊎◌, IfSome, IfOk, IfErr}
 use Rattle.ec_units.specs.declared.units.Units.{Units}
 use Rattle.ec_workers.specs.declared.outcome.Outcome.{Outcome}
 use Rattle.ec_lines.specs.declared.answer.Answer.{Answer}
-use Rattle.ec_lines.specs.declared.refusal.Refusal.{Refusal}
+use Rattle.ec_refusals.specs.declared.refusal.Refusal.{Refusal}
 use Rattle.ec_lines.specs.Output.{shown, written_of}
-use Rattle.ec_answers.specs.Input.{AnswersUnits}
+use Rattle.ec_inputs.specs.Input.{AnswersUnits}
 use Rattle.ec_answers.specs.Planned.{Any, IsPlanOf, IsPlanFault, PlansFrom, AnswersPlan, GetsCertFront, AnswersSearch, GetsFront, GetsSearchFront, outcome_cert}
 use Rattle.ec_wire.specs.declared.io.Io.{Io}
 use Rattle.ec_wire.specs.Stream.{stream, WritesFront}
 use Rattle.ec_lines.specs.Outcomes.{outcome_output, IsLevelOf}
-use Rattle.ec_lines.specs.Refusals.{out_of_memory, level_memory}
+use Rattle.ec_refusals.specs.Refusals.{out_of_memory, level_memory}
 use Rattle.ec_cert.specs.declared.cert.Best.{Best}
 use Rattle.ec_cert.specs.declared.order.Order.{Order}
 use Rattle.ec_cert.specs.declared.tree.Tree.{Tree}

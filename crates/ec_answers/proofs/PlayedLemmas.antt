@@ -14,12 +14,12 @@ use Rattle.ec_cert_text.specs.Reading.{reading as cert_reading}
 use Rattle.ec_frame_lines.specs.Lines.{IsFramesText}
 use Rattle.ec_play_lines.specs.Plays.{IsPlayText}
 use Rattle.ec_lines.specs.declared.answer.Answer.{Answer}
-use Rattle.ec_lines.specs.declared.refusal.Refusal.{Refusal}
-use Rattle.ec_lines.specs.declared.refusal.Refusal.TheVariants as refusal
+use Rattle.ec_refusals.specs.declared.refusal.Refusal.{Refusal}
+use Rattle.ec_refusals.specs.declared.refusal.Refusal.TheVariants as refusal
 use Rattle.ec_command.specs.declared.job.Job.TheVariants as job
 use Rattle.ec_lines.specs.Output.{Written, IsCostsText, IsPlacedText, IsBestText, IsCertText, IsTextFor, IsOutput, Answers, first_unplaced, places_of, refused, shown}
-use Rattle.ec_lines.specs.Refusals.{refusal_code}
-use Rattle.ec_lines.proofs.RefusalLemmas.{code_above}
+use Rattle.ec_refusals.specs.Refusals.{refusal_code}
+use Rattle.ec_refusals.proofs.RefusalLemmas.{code_above}
 use Rattle.ec_answers.specs.Captures.{FramesFrom}
 use Rattle.ec_answers.proofs.FramedLemmas.{text_for}
 

@@ -29,9 +29,9 @@ use Rattle.ec_workers.specs.Outcomes.{Shows, IsOptimal, IsWithoutPlan}
 use Rattle.ec_lines.specs.declared.answer.Answer.{Answer}
 use Rattle.ec_lines.specs.Outcomes.{outcome_output, IsLevelOf}
 use Rattle.ec_lines.specs.Output.{shown}
-use Rattle.ec_lines.specs.declared.refusal.Refusal.{Refusal}
-use Rattle.ec_lines.specs.Refusals.{out_of_memory, level_memory}
-use Rattle.ec_answers.specs.Input.{AnswersUnits, IsInputFault}
+use Rattle.ec_refusals.specs.declared.refusal.Refusal.{Refusal}
+use Rattle.ec_refusals.specs.Refusals.{out_of_memory, level_memory}
+use Rattle.ec_inputs.specs.Input.{AnswersUnits, IsInputFault}
 use Rattle.ec_answers.specs.Planned.{Any, GoesOn, GoesOnFrom, IsProofBy, IsStopped, IsStoppedFrom, IsResumeOf, IsResumeFault, ResumesFrom, AnswersResume, GetsResumeFront, outcome_cert}
 use Rattle.ec_answers.proofs.PlanLemmas.{answered, fronted, told_of, unanswered}
 use Rattle.ec_answers.proofs.CheckedLemmas.{memory_or, too_long}

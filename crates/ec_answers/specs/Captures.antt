@@ -5,11 +5,11 @@ use Rattle.ec_unit_text.specs.Reading.{reading}
 use Rattle.ec_units.specs.Views.{units_view}
 use Rattle.ec_loads.specs.declared.plan.Plan.{Plan}
 use Rattle.ec_lines.specs.declared.answer.Answer.{Answer}
-use Rattle.ec_lines.specs.declared.refusal.Refusal.{Refusal}
+use Rattle.ec_refusals.specs.declared.refusal.Refusal.{Refusal}
 use Rattle.ec_command.specs.declared.job.Job.TheVariants as job
 use Rattle.ec_lines.specs.Framed.{IsFramedPlan, IsCaptureFor, IsCaptured}
 use Rattle.ec_lines.specs.Output.{Written, IsOutput, refused, written_of}
-use Rattle.ec_lines.specs.Refusals.{IsFramesMemory}
+use Rattle.ec_refusals.specs.Refusals.{IsFramesMemory}
 
 -- why there are no frames for the bytes of units, and of a certificate where there is one: want of memory, or what the line says that frames write
 abbrev pub IsFramesFault : Option (List ℕ) → List ℕ → Refusal → Type 0

@@ -1,3 +1,2 @@
 pub mod Captures
-pub mod Input
 pub mod Planned

@@ -19,12 +19,12 @@ use Rattle.ec_workers.specs.declared.outcome.SolveFault.{SolveFault}
 use Rattle.ec_workers.specs.Answers.{Asked, asked_beyond, IsOutcome, IsSolveFault, HasOrder}
 use Rattle.ec_workers.specs.Outcomes.{partial_for}
 use Rattle.ec_lines.specs.declared.answer.Answer.{Answer}
-use Rattle.ec_lines.specs.declared.refusal.Refusal.{Refusal}
-use Rattle.ec_lines.specs.declared.refusal.Refusal.TheVariants as refusal
-use Rattle.ec_answers.specs.Input.{IsUnitsFault}
+use Rattle.ec_refusals.specs.declared.refusal.Refusal.{Refusal}
+use Rattle.ec_refusals.specs.declared.refusal.Refusal.TheVariants as refusal
+use Rattle.ec_inputs.specs.Input.{IsUnitsFault}
 use Rattle.ec_lines.specs.Outcomes.{outcome_output, IsLevelOf}
 use Rattle.ec_lines.specs.Output.{Written, refused, written_of}
-use Rattle.ec_lines.specs.Refusals.{out_of_memory, level_memory}
+use Rattle.ec_refusals.specs.Refusals.{out_of_memory, level_memory}
 
 -- the certificate that is written for an outcome of these units: its own, or that of a search without a proof, with its level
 abbrev pub outcome_cert : Units → Outcome → Option ℕ → Option (List ℕ)

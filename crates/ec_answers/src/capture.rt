@@ -2,7 +2,7 @@
 
 ghost use Rattle.std.specs.Prelude.{◌≡◌, ℕ, ◌+◌, ◌≤◌, true, false, List, Option, None, Some, IfOk, IfErr, IfSome, string_bytes};
 ghost use Rattle.ec_wire.specs.Stream.{stream, has_failed, taken};
-ghost use Rattle.ec_answers.specs.Input.{ConsumesAtMost, AreUnits};
+ghost use Rattle.ec_inputs.specs.Input.{ConsumesAtMost, AreUnits};
 ghost use Rattle.ec_answers.specs.Captures.{AnswersCapture, GetsCaptureFront};
 ghost use Rattle.ec_answers.specs.Planned.{Gets, GetsFront};
 ghost use Rattle.ec_units.specs.Load.{loads_of};
@@ -10,11 +10,12 @@ ghost use Rattle.ec_loads.specs.Legal.{IsLegal};
 ghost use Rattle.ec_units.specs.Views.{units_view};
 ghost use Rattle.ec_frame_lines.specs.Lines.{IsFramesText};
 ghost use Rattle.ec_frame_lines.specs.Captures.{IsCapture};
-ghost use Rattle.ec_lines.specs.Refusals.{IsFramesMemory};
+ghost use Rattle.ec_refusals.specs.Refusals.{IsFramesMemory};
 
 use crate::frames::{certified, placed};
-use ec_lines::{Answer, Refusal, plan_capture};
+use ec_lines::{Answer, plan_capture};
 use ec_loads::Plan;
+use ec_refusals::Refusal;
 use ec_units::Units;
 use ec_wire::Io;
 use std::alloc::Global;

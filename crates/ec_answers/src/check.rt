@@ -2,7 +2,7 @@
 
 ghost use Rattle.std.specs.Prelude.{◌≡◌, ◌+◌, ◌≤◌, true, false, Some, IfSome};
 ghost use Rattle.ec_wire.specs.Stream.{stream, has_failed, taken};
-ghost use Rattle.ec_answers.specs.Input.{ConsumesAtMost, AreUnits};
+ghost use Rattle.ec_inputs.specs.Input.{ConsumesAtMost, AreUnits};
 ghost use Rattle.ec_cert.specs.Shapes.{cert_view};
 ghost use Rattle.ec_units.specs.Load.{loads_of};
 ghost use Rattle.ec_loads.specs.Held.{no_places};
@@ -10,12 +10,13 @@ ghost use Rattle.ec_units.specs.Views.{units_view};
 ghost use Rattle.ec_lines.specs.Output.{Answers, IsCheckedOutput, IsCheckOutput, IsOutput};
 ghost use Rattle.ec_command.specs.declared.job.Job.TheVariants.{Check};
 
-use crate::input::inputs;
 use ec_cert::Cert;
 use ec_cert_text::read_cert;
 use ec_checker::check_in;
-use ec_lines::{Answer, Refusal, verdict_answer};
+use ec_inputs::inputs;
+use ec_lines::{Answer, verdict_answer};
 use ec_loads::Loads;
+use ec_refusals::Refusal;
 use ec_units::Units;
 use ec_wire::Io;
 use std::alloc::Global;

@@ -2,13 +2,14 @@
 
 ghost use Rattle.std.specs.Prelude.{◌≡◌, ◌+◌, ◌≤◌, true, false, None, Some, IfSome};
 ghost use Rattle.ec_wire.specs.Stream.{stream, has_failed, taken};
-ghost use Rattle.ec_answers.specs.Input.{ConsumesAtMost, AreUnits};
+ghost use Rattle.ec_inputs.specs.Input.{ConsumesAtMost, AreUnits};
 ghost use Rattle.ec_lines.specs.Output.{IsOutput, Answers};
 ghost use Rattle.ec_command.specs.declared.job.Job.TheVariants.{Cost, PlanCost};
 
 use crate::frames::certified;
-use crate::input::units_of;
-use ec_lines::{Answer, Refusal, cost_of, plan_cost};
+use ec_inputs::units_of;
+use ec_lines::{Answer, cost_of, plan_cost};
+use ec_refusals::Refusal;
 use ec_wire::Io;
 use std::alloc::Global;
 use std::io::Read;

@@ -2,7 +2,7 @@
 
 ghost use Rattle.std.specs.Prelude.{◌≡◌, ◌⊎◌, ◌+◌, ◌≤◌, true, false, None, Some, IfOk, IfErr, IfSome};
 ghost use Rattle.ec_wire.specs.Stream.{stream, has_failed, taken};
-ghost use Rattle.ec_answers.specs.Input.{ConsumesAtMost, AreUnits};
+ghost use Rattle.ec_inputs.specs.Input.{ConsumesAtMost, AreUnits};
 ghost use Rattle.ec_answers.specs.Captures.{FramesFrom};
 ghost use Rattle.ec_cert.specs.Shapes.{cert_view};
 ghost use Rattle.ec_units.specs.Load.{loads_of};
@@ -12,15 +12,16 @@ ghost use Rattle.ec_units.specs.Views.{units_view};
 ghost use Rattle.ec_lines.specs.Framed.{IsBestPlanOf, IsCertPlan};
 ghost use Rattle.ec_frame_lines.specs.Lines.{IsFramesText};
 ghost use Rattle.ec_lines.specs.Output.{Answers, IsCertText, IsReadText, IsOutput, refused};
-ghost use Rattle.ec_lines.specs.Refusals.{IsFramesMemory};
+ghost use Rattle.ec_refusals.specs.Refusals.{IsFramesMemory};
 ghost use Rattle.ec_command.specs.declared.job.Job.TheVariants.{Frames};
 
-use crate::input::{inputs, units_of};
 use ec_cert::Cert;
 use ec_cert_text::read_cert;
 use ec_checker::check_in;
-use ec_lines::{Answer, Refusal, placed_plan, plan_frames};
+use ec_inputs::{inputs, units_of};
+use ec_lines::{Answer, placed_plan, plan_frames};
 use ec_loads::{Loads, Plan};
+use ec_refusals::Refusal;
 use ec_units::Units;
 use ec_wire::Io;
 use std::alloc::Global;

@@ -5,7 +5,6 @@ mod capture;
 mod check;
 mod cost;
 mod frames;
-mod input;
 mod plan;
 mod play;
 mod resume;

@@ -2,12 +2,13 @@
 
 ghost use Rattle.std.specs.Prelude.{◌≡◌, ◌+◌, ◌≤◌, true, false, None, Some, IfSome};
 ghost use Rattle.ec_wire.specs.Stream.{stream, has_failed, taken};
-ghost use Rattle.ec_answers.specs.Input.{ConsumesAtMost, AreUnits};
+ghost use Rattle.ec_inputs.specs.Input.{ConsumesAtMost, AreUnits};
 ghost use Rattle.ec_lines.specs.Output.{Answers, IsOutput};
 ghost use Rattle.ec_command.specs.declared.job.Job.TheVariants.{Play};
 
 use crate::frames::{certified, placed};
-use ec_lines::{Answer, Player, Refusal};
+use ec_lines::{Answer, Player};
+use ec_refusals::Refusal;
 use ec_wire::Io;
 use std::alloc::Global;
 use std::io::Read;

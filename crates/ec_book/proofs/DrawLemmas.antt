@@ -1,8 +1,8 @@
 -- The last trees in place of the open leaves, from the last report to the first.
-use Rattle.std.proofs.Common.{◌≡◌, ◌≢◌, ℕ, zero, suc, ◌+◌, ◌<◌, ◌≤◌, ◌==◌, Bool, true, false, eqb, if◌then◌else◌, List, [], ◌∷◌, ◌++◌, length, set, get_or, slice_get, take, drop, replicate, Some, refl, sym, ap, ◌∙◌, subst, arith, not-suc-le-zero, le_of_suc-le-suc, add-one, rules}
-use Rattle.ec_loads.specs.Shape.{Shape, Shapes, tick, full, weighted, split, leaf, open_leaf, no_shapes, more}
+use Rattle.std.proofs.Common.{◌≡◌, ◌≢◌, ℕ, zero, suc, ◌+◌, ◌<◌, ◌≤◌, ◌==◌, Bool, true, false, eqb, if◌then◌else◌, List, [], ◌∷◌, ◌++◌, length, set, get_or, slice_get, take, drop, replicate, Some, refl, sym, ap, ◌∙◌, subst, arith, not-suc-le-zero, le_of_suc-le-suc, add-one, rules, IsTrue, ◌↔◌}
+use Rattle.ec_loads.specs.Shape.{average, Leaf, Shape, Shapes, tick, full, weighted, split, leaf, open_leaf, no_shapes, more}
 use Rattle.ec_loads.specs.Search.{open_count, open_counts, node_count, node_counts}
-use Rattle.ec_cert.specs.declared.tree.Tree.{Tree, TickLeaf, FullLeaf, Weights, OpenLeaf, the_lemmas}
+use Rattle.ec_cert.specs.declared.tree.Tree.{Tree, TickLeaf, FullLeaf, Average, Weights, OpenLeaf, the_lemmas}
 use Rattle.ec_cert.specs.Shapes.{shape_of, shapes_of}
 use Rattle.ec_book.specs.declared.report.Report.{Report}
 use Rattle.ec_book.specs.Numbered.{Numbered, Numbereds, branch, closed, gap, last, next, numbered, all_numbered, fill, fills, plug, draw, draws}
@@ -68,6 +68,22 @@ shape_at-other (t ∷ ts) (suc p) (suc m) x h = shape_at-other ts p m x (λ e. h
 
 pub shape_of-OpenLeaf : shape_of OpenLeaf ≡ open_leaf
 shape_of-OpenLeaf = search (rules, the_lemmas)
+
+pub shape_of-Average : shape_of Average ≡ leaf average
+shape_of-Average = search (rules, the_lemmas)
+
+-- an open leaf and a split aren't closed leaves
+pub open_not_closed : (t : Tree) → shape_of t ≡ open_leaf → IsTrue false ↔ ((l : Leaf) × (shape_of t ≡ leaf l))
+open_not_closed t is = (
+  λ yes. absurd cc,
+  λ h. let one : open_count (shape_of t) ≡ 1 = ap open_count is in let none : open_count (shape_of t) ≡ 0 = ap open_count h.1 in absurd (omega (arith, one, none)),
+)
+
+pub split_not_closed : (t : Tree) (ts : Shapes) → shape_of t ≡ split ts → IsTrue false ↔ ((l : Leaf) × (shape_of t ≡ leaf l))
+split_not_closed t ts is = (
+  λ yes. absurd cc,
+  λ h. let clash : leaf h.0 ≡ split ts = sym h.1 ∙ is in absurd cc,
+)
 
 pub shape_of-TickLeaf : (t : ℕ) → shape_of (TickLeaf t) ≡ leaf (tick t)
 shape_of-TickLeaf t = search (rules, the_lemmas)

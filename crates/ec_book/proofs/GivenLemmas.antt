@@ -56,6 +56,10 @@ module _ (given : Shape) (line : Line) (order : List ℕ) (value : Option ℕ) (
   pub pieces-are : (pieces old : List Piece) (prefixes : List (List Place)) (count : ℕ) → pieces ≡ old ++ replicate count Free → old ≡ [] → prefixes ≡ open_places line order given [] → count ≡ length prefixes → pieces ≡ replicate (open_count given) Free
   pieces-are pieces old prefixes count is empty opened counted = is ∙ ap (λ w. w ++ replicate count Free) empty ∙ ap (λ n. replicate n Free) (counted ∙ ap length opened ∙ count-given)
 
+-- an order of these units is one of their loads
+pub order-given : (us : List SyncUnit) (n : ℕ) (held : Held) (order given : List ℕ) → IsOrder (length us) given → held ≡ record { loads = loads_of us; slots = n; places = no_places (loads_of us) } → order ≡ given → IsOrder (length held.loads) order
+order-given us n held order given is_order held_is is = rw (held_is, is) (rw (length-map us load_of) is_order)
+
 -- what is true of each book is true of one that begins with a tree for these units
 pub kept-given : (us : List SyncUnit) (n : ℕ) (order : List ℕ) (best : Option Best) (given : Shape) (nodes : ℕ)
     → IsOrder (length us) order → IsBestPlan (loads_of us) n best → IsPartialTree (line_by turned_time (loads_of us) n) (value_of best) given (no_places (loads_of us)) order

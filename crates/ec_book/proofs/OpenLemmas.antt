@@ -59,6 +59,11 @@ pub append_none : (xs : List (List Place)) → xs ++ [] ≡ xs
 append_none [] = refl
 append_none (x ∷ xs) = ap (λ w. x ∷ w) (append_none xs)
 
+-- where no unit is left a split leaves nothing open
+pub opened_short : (line : Line) (order : List ℕ) (tree : Tree) (trees : Vec Tree Global) (q : List Place) (out : List (List Place)) → shape_of tree ≡ split (shapes_of trees.items) → length order ≤ length q → out ≡ out ++ open_places line order (shape_of tree) q
+opened_short line order tree trees q out is short =
+    sym (append_none out) ∙ (λ j. out ++ leaf_places line (sym is j) (prefix_of line.loads order q) (sym (drop_all (length q) order short) j) q)
+
 -- one child more
 pub opened_step : (out mid : List (List Place)) (child rest all whole : List (List Place)) → mid ≡ out ++ child → all ≡ child ++ rest → out ++ all ≡ whole → mid ++ rest ≡ whole
 opened_step out mid child rest all whole e f g = ap (λ w. w ++ rest) e ∙ assoc out child rest ∙ ap (λ w. out ++ w) (sym f) ∙ g

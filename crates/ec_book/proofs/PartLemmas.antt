@@ -121,6 +121,12 @@ module _ (ts ls built0 built : List Tree) (h : IsPart ts ls built0 built 0) wher
   end_len : open_counts (shapes_of ts) ≤ length built0 → length built ≡ length built0 - open_counts (shapes_of ts)
   end_len most = let left = h.left in omega (arith, left, most)
 
+  -- the trees that are left
+  pub part-left : (tree : Tree) (trees : Vec Tree Global) → shape_of tree ≡ split (shapes_of trees.items) → trees.items ≡ ts → open_count (shape_of tree) ≤ length built0 → built ≡ take (length built0 - open_count (shape_of tree)) built0
+  part-left tree trees is same most =
+      let all : open_count (shape_of tree) ≡ open_counts (shapes_of ts) = opens_all tree trees is ∙ ap (λ w. open_counts (shapes_of w)) same in
+      h.built_is ∙ ap (λ w. take w built0) (end_len (omega (arith, all, most)) ∙ ap (λ w. length built0 - w) (sym all))
+
   pub part-tree : (tree : Tree) (trees : Vec Tree Global) (made : Box (Vec Tree Global) Global) → shape_of tree ≡ split (shapes_of trees.items) → trees.items ≡ ts → made.value.items ≡ ls → open_count (shape_of tree) ≤ length built0
       → shape_of (Split made) ≡ draw (shape_at built0) (numbered (length built0 - open_count (shape_of tree)) (shape_of tree))
   part-tree tree trees made is same made_is most =

@@ -6,8 +6,11 @@ use Rattle.ec_units.specs.declared.unit.Load.{Load}
 use Rattle.ec_loads.specs.declared.item.Item.{Item}
 use Rattle.ec_loads.specs.Cost.{item, plan_items}
 use Rattle.ec_loads.specs.Held.{Held, no_places}
-use Rattle.ec_loads.specs.Legal.{IsFirstToFail}
+use Rattle.ec_loads.specs.Legal.{has_phase, has_slot, IsFirstToFail, IsIllegalBy}
 use Rattle.ec_loads.specs.Search.{nobody, nowhere}
+use Rattle.ec_loads.specs.declared.plan.Illegal.{Illegal}
+use Rattle.ec_loads.specs.declared.plan.Illegal.TheVariants as illegal
+use Rattle.ec_book.specs.Faults.{IsFullFault}
 
 pub plan-length : (loads : List Load) (places : List Place) → length places ≡ length loads → length (plan_items loads places) ≡ length loads
 plan-length [] places h = refl
@@ -84,3 +87,11 @@ pub remove-step : (held before after : Held) (i : ℕ) → i < length held.loads
 remove-step held before after i h e was is =
     is ∙ ap (λ (b : Held). record b { places = set b.places i None }) was
     ∙ rw add-one (ap (λ w. record held { places = w }) (remove-suc held.loads held.places i h e))
+
+-- a payload that is too large, in a plan that is legal in all else
+pub full-illegal : (loads : List Load) (n : ℕ) (places : List Place) → length places ≡ length loads → list_all has_phase (plan_items loads places) ≡ true → list_all (has_slot n) (plan_items loads places) ≡ true
+    → (e : Illegal) → IsFullFault (plan_items loads places) n e → IsIllegalBy loads n places e
+full-illegal loads n places whole phases slots (illegal.Full t s b) is = (whole, phases, slots, is)
+full-illegal loads n places whole phases slots illegal.WrongCount is = absurd is
+full-illegal loads n places whole phases slots (illegal.PhaseRange u) is = absurd is
+full-illegal loads n places whole phases slots (illegal.SlotRange u) is = absurd is

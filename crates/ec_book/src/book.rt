@@ -196,12 +196,12 @@ impl Book {
         requires { IsOrder (length units.now.units) order.now }
         ensures { IfOk result (λ b. b ≡ book_view (loads_of units.now.units) units.now.slots order.now nodes (Free ∷ []) ([] ∷ []) None 0 [] open_leaf None) }
     {
-        let loads = Loads::new(alloc, units)?;
         let order = Vec::from_slice(alloc, order)?;
         let mut pieces = Vec::new(alloc);
         pieces.push(Piece::Free)?;
         let mut prefixes = Vec::new(alloc);
         prefixes.push(Places::new(Vec::new(alloc)))?;
+        let loads = Loads::new(alloc, units)?;
         Ok(Book {
             loads,
             order,
@@ -230,10 +230,10 @@ impl Book {
         ensures { IfOk result (λ b. b ≡ book_view (loads_of units.now.units) units.now.slots cert.now.order nodes (replicate (open_count (shape_of cert.now.tree)) Free)
             (open_places (line_by turned_time (loads_of units.now.units) units.now.slots) cert.now.order (shape_of cert.now.tree) []) cert.now.best 0 [] (shape_of cert.now.tree) (value_of cert.now.best)) }
     {
-        let loads = Loads::new(alloc, units)?;
         let order = Vec::from_slice(alloc, cert.order.as_slice())?;
         let best = copy_of_best(alloc, &cert.best)?;
         let given = copy_of(alloc, &cert.tree)?;
+        let loads = Loads::new(alloc, units)?;
         let prefixes = opened_by(alloc, &loads, order.as_slice(), &[], &given)?;
         let mut pieces = Vec::with_capacity(alloc, prefixes.len())?;
         add_free(&mut pieces, prefixes.len());

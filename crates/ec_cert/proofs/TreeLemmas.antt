@@ -1,11 +1,13 @@
 -- A tree in memory, level by level.
-use Rattle.std.proofs.Common.{◌≡◌, ◌↔◌, ℕ, zero, suc, ◌+◌, ◌-◌, ◌<◌, ◌≤◌, List, [], ◌∷◌, length, drop, take, get_or, Box, Vec, Global, refl, ap, sym, subst, ◌∙◌, arith, rules, not-suc-le-zero, le_of_suc-le-suc, add-one}
-use Rattle.std.proofs.lemmas.List.{drop_more}
+use Rattle.std.proofs.Common.{◌≡◌, ◌↔◌, IsTrue, true, false, ℕ, zero, suc, ◌+◌, ◌-◌, ◌<◌, ◌≤◌, List, [], ◌∷◌, ◌++◌, map, length, drop, take, get_or, Box, Vec, Global, refl, ap, sym, subst, ◌∙◌, arith, rules, not-suc-le-zero, le_of_suc-le-suc, add-one}
+use Rattle.std.proofs.lemmas.List.{drop_more, drop_all, map_more, take_all, map-append}
 use Rattle.ec_loads.specs.Search.{open_count, open_counts}
-use Rattle.ec_loads.specs.Shape.{Shape, split, more, shape_count}
+use borrow.Author.Tests.{leb-true, le-leb}
+use lib.Dec.{leb}
+use Rattle.ec_loads.specs.Shape.{Leaf, tick, full, average, weighted, Shape, split, leaf, open_leaf, more, shape_count}
 use Rattle.ec_cert.specs.Shapes.{shape_of, shapes_of, shapes}
-use Rattle.ec_cert.specs.WellFormed.{HasLevels, HaveLevels}
-use Rattle.ec_cert.specs.declared.tree.Tree.{Tree, Split, the_lemmas}
+use Rattle.ec_cert.specs.WellFormed.{HasLevels, HaveLevels, IsLeafLine}
+use Rattle.ec_cert.specs.declared.tree.Tree.{Tree, Split, TickLeaf, FullLeaf, Average, Weights, OpenLeaf, the_lemmas}
 
 pub shape_of-Split : (b : Box (Vec Tree Global) Global) → shape_of (Split b) ≡ split (shapes_of b.value.items)
 shape_of-Split b = search (rules, the_lemmas)
@@ -47,3 +49,60 @@ levels_split version (suc d) t v pos is =
       λ has. let (low, high, all) = subst (HasLevels version (suc d)) is has in (omega arith, omega arith, rw down all),
       λ parts. let below : HaveLevels version d (shapes_of v.items) = subst (λ k. HaveLevels version k (shapes_of v.items)) down parts.2 in subst (HasLevels version (suc d)) (sym is) (omega arith, omega arith, below),
     )
+
+pub shape_of-TickLeaf : (k : ℕ) → shape_of (TickLeaf k) ≡ leaf (tick k)
+shape_of-TickLeaf k = search (rules, the_lemmas)
+
+pub shape_of-FullLeaf : (k s : ℕ) → shape_of (FullLeaf k s) ≡ leaf (full k s)
+shape_of-FullLeaf k s = search (rules, the_lemmas)
+
+pub shape_of-Weights : (w : List ℕ) → shape_of (Weights w) ≡ leaf (weighted w)
+shape_of-Weights w = search (rules, the_lemmas)
+
+pub shape_of-Average : shape_of Average ≡ leaf average
+shape_of-Average = search (rules, the_lemmas)
+
+pub shape_of-OpenLeaf : shape_of OpenLeaf ≡ open_leaf
+shape_of-OpenLeaf = search (rules, the_lemmas)
+
+-- the levels of a tree that was found to be a leaf
+pub levels_leaf : (version d : ℕ) (t : Tree) (l : Leaf) → (d ≡ 0 → ⊥) → shape_of t ≡ leaf l → HasLevels version d (shape_of t) ↔ IsLeafLine version l
+levels_leaf version zero t l pos is = absurd (pos refl)
+levels_leaf version (suc d) t l pos is = (subst (HasLevels version (suc d)) is, subst (HasLevels version (suc d)) (sym is))
+
+pub levels_open : (version d : ℕ) (t : Tree) → (d ≡ 0 → ⊥) → shape_of t ≡ open_leaf → HasLevels version d (shape_of t) ↔ (3 ≤ version)
+levels_open version zero t pos is = absurd (pos refl)
+levels_open version (suc d) t pos is = (subst (HasLevels version (suc d)) is, subst (HasLevels version (suc d)) (sym is))
+
+-- a test that decides
+pub at_most : (a b : ℕ) (P : Type 0) → P ↔ (a ≤ b) → IsTrue (leb a b) ↔ P
+at_most a b P same = (λ yes. same.1 (leb-true a b yes), λ p. le-leb a b (same.0 p))
+
+pub always : (P : Type 0) → P → IsTrue true ↔ P
+always P p = (λ _. p, λ _. refl)
+
+pub never : (P : Type 0) → (P → ⊥) → IsTrue false ↔ P
+never P none = (λ yes. absurd cc, λ p. absurd (none p))
+
+-- one more tree has the levels
+pub same_more : (version d : ℕ) (ts : List Tree) (i : ℕ) (x : Tree) → i < length ts → x ≡ get_or ts i x → HasLevels version d (shape_of x) → SameLevels version d ts i → SameLevels version d ts (i + 1)
+same_more version d ts i x h is has same =
+    let step : shapes_of (drop i ts) ≡ more (shape_of x) (shapes_of (drop (i + 1) ts)) = shapes_of-drop ts i x h ∙ ap (λ y. more (shape_of y) (shapes_of (drop (i + 1) ts))) (sym is) in
+    (λ left. same.0 (subst (HaveLevels version d) (sym step) (has, left)), λ whole. (subst (HaveLevels version d) step (same.1 whole)).1)
+
+-- a tree that has not the levels
+pub not_more : (version d : ℕ) (ts : List Tree) (i : ℕ) (x : Tree) → i < length ts → x ≡ get_or ts i x → (HasLevels version d (shape_of x) → ⊥) → SameLevels version d ts i → HaveLevels version d (shapes_of ts) → ⊥
+not_more version d ts i x h is lacks same whole =
+    let step : shapes_of (drop i ts) ≡ more (shape_of x) (shapes_of (drop (i + 1) ts)) = shapes_of-drop ts i x h ∙ ap (λ y. more (shape_of y) (shapes_of (drop (i + 1) ts))) (sym is) in
+    lacks (subst (HaveLevels version d) step (same.1 whole)).0
+
+-- all were looked at
+pub same_all : (version d : ℕ) (ts : List Tree) (i : ℕ) → length ts ≤ i → SameLevels version d ts i → HaveLevels version d (shapes_of ts)
+same_all version d ts i end same = same.0 (subst (λ l. HaveLevels version d (shapes_of l)) (sym (drop_all i ts end)) tt)
+
+-- copies of the first trees, and one more
+pub copies_more : (cs ts : List Tree) (i : ℕ) (x y : Tree) → i < length ts → x ≡ get_or ts i x → shape_of y ≡ shape_of x → map shape_of cs ≡ map shape_of (take i ts) → map shape_of (cs ++ y ∷ []) ≡ map shape_of (take (i + 1) ts)
+copies_more cs ts i x y h is same front = map-append shape_of cs (y ∷ []) ∙ ap (λ l. l ++ shape_of y ∷ []) front ∙ ap (λ s. map shape_of (take i ts) ++ s ∷ []) (same ∙ ap shape_of is) ∙ sym (map_more shape_of ts i x h)
+
+pub copies_all : (cs ts : List Tree) (i : ℕ) → length ts ≤ i → map shape_of cs ≡ map shape_of (take i ts) → shapes_of cs ≡ shapes_of ts
+copies_all cs ts i end same = ap shapes same ∙ ap shapes_of (take_all i ts end)

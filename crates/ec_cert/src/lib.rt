@@ -16,7 +16,7 @@ pub use closed::is_closed;
 pub use copying::copy_of;
 pub use lists::{UnitLine, UnitLines};
 pub use order::Order;
-pub use ranges::{LEVELS, is_name, well_formed};
+pub use ranges::{LEVELS, well_formed};
 pub use splitting::split_of;
 pub use tree::Tree;
 pub use weights::Weights;

@@ -1,41 +1,17 @@
 //! Which certificates have a text.
 
 ghost use Rattle.std.specs.Prelude.{◌≡◌, ℕ, ◌<◌, ◌≤◌, ◌↔◌, length, IsTrue};
-ghost use Rattle.std.specs.List.{All, list_all};
-ghost use Rattle.ec_units.specs.Names.{is_name as is_name_spec, is_name_byte as is_name_byte_spec};
+ghost use Rattle.std.specs.List.{All};
 ghost use Rattle.ec_cert.specs.Shapes.{shape_of, shapes_of, cert_view};
 ghost use Rattle.ec_cert.specs.WellFormed.{HasLevels, HaveLevels, IsUnitLine, IsPlaceLine, AreWeights, IsBest, IsBestOrNone, IsLevelLine, IsWellFormed};
 
 use crate::cert::{Best, Cert};
 use crate::lists::UnitLine;
 use crate::tree::Tree;
-use ec_units::Place;
+use ec_units::{Place, is_name};
 
 /// The most levels of a tree: no node has more than 48 splits above it.
 pub const LEVELS: u8 = 49;
-
-fn is_name_byte(byte: u8) -> bool
-    ensures { result ≡ is_name_byte_spec byte }
-{
-    byte.is_ascii_lowercase()
-        || byte.is_ascii_uppercase()
-        || byte.is_ascii_digit()
-        || byte == b'_'
-        || byte == b'-'
-}
-
-fn are_name_bytes(bytes: &[u8]) -> bool
-    ensures { result ≡ list_all is_name_byte_spec bytes.now }
-{
-    bytes.iter().all(|byte| is_name_byte(*byte))
-}
-
-/// Whether these bytes are 1 to 32 of a-z, A-Z, 0-9, `_` and `-`.
-pub fn is_name(bytes: &[u8]) -> bool
-    ensures { result ≡ is_name_spec bytes.now }
-{
-    1 <= bytes.len() && bytes.len() <= 32 && are_name_bytes(bytes)
-}
 
 fn is_unit_line(unit: &UnitLine) -> bool
     ensures { IsTrue result ↔ IsUnitLine unit.now }

@@ -1,8 +1,10 @@
 pub mod ByteLaws
 pub mod CloserLemmas
+pub mod CourseLemmas
 pub mod FrontLaws
 pub mod FrontLemmas
 pub mod HeadLaws
+pub mod KindLemmas
 pub mod LineLemmas
 pub mod ManyLaws
 pub mod ManyLemmas
@@ -12,6 +14,7 @@ pub mod NumberLemmas
 pub mod PartLaws
 pub mod SpelledLaws
 pub mod TextLaws
+pub mod TreeLemmas
 pub mod WeightLaws
 pub mod WordLaws
 pub mod WriteLemmas

@@ -36,6 +36,24 @@ ends one e front count i p total lt h so_far =
     let k : count - i ≡ suc (count - (i + 1)) = omega arith in
     fails_as e (one p) total (λ f is. let here : with_front front (many_from one (count - i) p) ≡ Err f = rw (k, is) refl in sym so_far ∙ here) h
 
+starts : {X S : Type 0} (front : List X) (read : Result (List X × S) CertFault) → front ≡ [] → with_front front read ≡ read
+starts front (Ok x) none = ap (λ l. Ok (l ++ x.0, x.1)) none
+starts front (Err f) none = refl
+
+-- none was read so far
+pub many_begin : {X S : Type 0} (one : S → Result (X × S) CertFault) (front : List X) (count : ℕ) (p : S) → front ≡ [] → with_front front (many_from one (count - 0) p) ≡ many_from one count p
+many_begin one front count p none =
+    let k : count - 0 ≡ count = omega arith in
+    rw k (starts front (many_from one count p) none)
+
+-- all were read
+pub many_end : {X S : Type 0} (one : S → Result (X × S) CertFault) (front : List X) (count i : ℕ) (p : S) (total : Result (List X × S) CertFault) → count ≤ i
+    → with_front front (many_from one (count - i) p) ≡ total → total ≡ Ok (front, p)
+many_end one front count i p total le so_far =
+    let k : count - i ≡ 0 = omega arith in
+    let here : with_front front (many_from one (count - i) p) ≡ Ok (front, p) = rw k (ap (λ l. Ok (l, p)) (append-nil front)) in
+    sym so_far ∙ here
+
 -- ---- units, for as long as a line of one is next
 
 pub units_go_on : (front : List UnitLine) (count i : ℕ) (p : At) (u : UnitLine) (after : At) (total : Result (List UnitLine × At) CertFault) → i < count → is_unit_next p ≡ true → unit_at p ≡ Ok (u, after)

@@ -153,3 +153,14 @@ direct_all {q} a b c p x none f g = record { sent = p ++ x; written = Appends-tr
 
 pub direct_front : (a b c : Option (List ℕ)) (p x : List ℕ) → Appends a b p → WritesFront b c x → GathersFront a p c x
 direct_front a b c p x f g = record { written = later_front a b c p x f g }
+
+-- ---- a text that waits, behind what waited or alone
+
+pub waits_behind : {q : List ℕ} (a : Option (List ℕ)) (p x : List ℕ) → q ≡ p ++ x → Gathers a p a q x
+waits_behind a p x is = record { sent = []; written = Appends-nil a; rest = is }
+
+pub waits_alone : {q : List ℕ} (a b : Option (List ℕ)) (p x : List ℕ) → q ≡ x → Appends a b p → Gathers a p b q x
+waits_alone a b p x is f = record { sent = p; written = f; rest = ap (λ t. p ++ t) is }
+
+pub waited_front : (a b : Option (List ℕ)) (p x : List ℕ) → WritesFront a b p → GathersFront a p b x
+waited_front a b p x f = record { written = longer_front a b p x f }

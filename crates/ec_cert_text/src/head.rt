@@ -10,9 +10,9 @@ use crate::fault::CertFault;
 use crate::lines::{fault_on, line_of};
 use crate::place::TextPlace;
 use crate::words::{Wrong, cut_at, number, pair};
-use ec_cert::{Best, UnitLine, UnitLines, is_name};
+use ec_cert::{Best, UnitLine, UnitLines};
 use ec_loads::{Places, Plan};
-use ec_units::{Name, Place};
+use ec_units::{Name, Place, is_name};
 use std::alloc::{AllocError, Global};
 use std::str;
 

@@ -47,6 +47,35 @@ pub(crate) fn worked_off<S: Search, R: Wait, G: Gate>(
     unreachable!()
 }
 
+/// Takes a piece and explores it, by the tickets before the lowest free one, and makes tickets of the pieces of the reports
+/// on it. None where the worker goes on; else why it ends. While nothing can be handed out it waits, ever longer.
+fn worked<S: Search, R: Wait, G: Gate>(
+    rt: &R,
+    alloc: Global,
+    shared: &Shared<S>,
+    post: &mut Post<'_, '_, '_, S>,
+    ground: &mut Ground<S>,
+    backoff: &Backoff,
+    gate: &G,
+) -> Option<Ended> {
+    match post.ask(rt, shared, MOST_GRANT) {
+        Ok(Some(Taken::Piece(took))) => {
+            backoff.reset();
+            let ended = worked_off(rt, alloc, shared, post, ground, &took, gate);
+            drop(took);
+            post.push_opened();
+            ended
+        }
+        Ok(Some(Taken::Later)) => {
+            backoff.snooze();
+            None
+        }
+        Ok(Some(Taken::Done)) => Some(Ended::Done),
+        Ok(None) => None,
+        Err(ended) => Some(ended),
+    }
+}
+
 /// Takes pieces until none can be handed out any more, memory is refused or the book refuses a call; says which. It goes
 /// by its tickets before it asks for the lowest free piece, and makes tickets of the pieces of its own reports. While
 /// nothing can be handed out yet it asks again, ever more slowly.
@@ -62,19 +91,8 @@ pub(crate) fn work<S: Search, R: Wait, G: Gate>(
     };
     let backoff = Backoff::new();
     for _ in rt.forever() {
-        match post.ask(rt, shared, MOST_GRANT) {
-            Ok(Some(Taken::Piece(took))) => {
-                backoff.reset();
-                let ended = worked_off(rt, alloc, shared, post, &mut ground, &took, gate);
-                post.push_opened();
-                if let Some(ended) = ended {
-                    return ended;
-                }
-            }
-            Ok(Some(Taken::Later)) => backoff.snooze(),
-            Ok(Some(Taken::Done)) => return Ended::Done,
-            Ok(None) => {}
-            Err(ended) => return ended,
+        if let Some(ended) = worked(rt, alloc, shared, post, &mut ground, &backoff, gate) {
+            return ended;
         }
     }
     unreachable!()

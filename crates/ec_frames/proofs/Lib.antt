@@ -1,3 +1,4 @@
+pub mod ViewSteps
 pub mod WrittenSteps
 pub mod BuildFaults
 pub mod ParsingSteps

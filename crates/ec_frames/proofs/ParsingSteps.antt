@@ -102,6 +102,19 @@ void_joined : (d : Entry × List ℕ) (b : Bool) (others : Result (List Entry) F
 void_joined d true others h = absurd cc
 void_joined d false others h = void_map (λ ds. d.0 ∷ ds) others
 
+-- the first datagram ends what is checked, or not
+pub check_err : (n : ℕ) (bs : List ℕ) (e : FrameFault) (total : Result (Unit {0}) FrameFault) → length bs < n → datagram_at bs ≡ Err e → void (datagrams_from n bs) ≡ total → Err e ≡ total
+check_err zero bs e total l h all = absurd (omega arith)
+check_err (suc m) bs e total l h all =
+    let same : void (datagrams_from (suc m) bs) ≡ Err e = rw h refl in
+    sym same ∙ all
+
+pub check_last : (n : ℕ) (bs : List ℕ) (d : Entry × List ℕ) (total : Result (Unit {0}) FrameFault) → length bs < n → datagram_at bs ≡ Ok d → (length d.1 == 0) ≡ true → void (datagrams_from n bs) ≡ total → Ok tt ≡ total
+check_last zero bs d total l h none all = absurd (omega arith)
+check_last (suc m) bs d total l h none all =
+    let same : void (datagrams_from (suc m) bs) ≡ Ok tt = rw (h, none) refl in
+    sym same ∙ all
+
 pub check_more : (n : ℕ) (bs : List ℕ) (d : Entry × List ℕ) (total : Result (Unit {0}) FrameFault) → length bs < n → datagram_at bs ≡ Ok d → (length d.1 == 0) ≡ false → void (datagrams_from n bs) ≡ total
     → (m : ℕ) × (length d.1 < m) × (void (datagrams_from m d.1) ≡ total)
 check_more zero bs d total l h some e = absurd (omega arith)

@@ -23,7 +23,7 @@ use Rattle.ec_cert.specs.BestPlan.{value_of, IsBestPlan}
 use Rattle.ec_checker.specs.Certified.{line_of, lines_of, IsFor, HasHead, IsLevelIn, IsShown, IsCertified, IsFaultOf, IsPlanFault, tree_found}
 use Rattle.ec_loads.proofs.CostLemmas.{one_busiest}
 use Rattle.ec_checker.proofs.CheckLemmas.{plan_refutes, refutes}
-use Rattle.ec_lines.specs.declared.refusal.Refusal.TheVariants as refusal
+use Rattle.ec_refusals.specs.declared.refusal.Refusal.TheVariants as refusal
 use Rattle.ec_lines.specs.Output.{Written, IsCheckedOf, IsCheckedOutput, refused}
 use Rattle.ec_jobs.proofs.OneIllegal.{illegal_once}
 

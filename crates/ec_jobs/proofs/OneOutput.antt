@@ -18,16 +18,16 @@ use Rattle.ec_frame_lines.specs.Lines.{IsFramesText}
 use Rattle.ec_frame_lines.proofs.OnceLemmas.{frames_once}
 use Rattle.ec_play_lines.specs.Plays.{IsPlayText}
 use Rattle.ec_play_lines.proofs.PlayLemmas.{play_once}
-use Rattle.ec_lines.specs.declared.refusal.Refusal.{Refusal}
-use Rattle.ec_lines.specs.declared.refusal.Refusal.TheVariants as refusal
+use Rattle.ec_refusals.specs.declared.refusal.Refusal.{Refusal}
+use Rattle.ec_refusals.specs.declared.refusal.Refusal.TheVariants as refusal
 use Rattle.ec_command.specs.declared.job.Job.{Job}
 use Rattle.ec_command.specs.declared.job.Job.TheVariants as job
 use Rattle.ec_lines.specs.Lines.{cost_lines}
 use Rattle.ec_lines.specs.Output.{Written, IsOutput, IsUnitsOutput, IsCheckedOutput, IsPlacedOutput, IsPlacedText, IsBestText, IsCertTextOf, IsCertText, IsTextFor, IsCostText, IsCostsText, refused, verdict_output, first_unplaced, places_of}
-use Rattle.ec_lines.specs.Refusals.{refusal_code}
+use Rattle.ec_refusals.specs.Refusals.{refusal_code}
 use Rattle.ec_jobs.proofs.OneCheck.{checked_once}
 use Rattle.ec_jobs.proofs.OneIllegal.{neither_less, illegal_once, legal_none}
-use Rattle.ec_lines.proofs.RefusalLemmas.{code_above}
+use Rattle.ec_refusals.proofs.RefusalLemmas.{code_above}
 
 -- there is one first busiest tick
 top_once : (xs : List Item) (n b c t u : ℕ) → IsFirstBusiest xs n b t → IsFirstBusiest xs n c u → (b ≡ c) × (t ≡ u)

@@ -23,13 +23,13 @@ use Rattle.ec_checker.specs.Levels.{IsGreatestLevel}
 use Rattle.ec_workers.specs.Answers.{Asked, asked_beyond, IsOutcome}
 use Rattle.ec_workers.specs.declared.outcome.Outcome.{Outcome}
 use Rattle.ec_workers.specs.declared.outcome.Outcome.TheVariants as outcome
-use Rattle.ec_lines.specs.declared.refusal.Refusal.{Refusal}
+use Rattle.ec_refusals.specs.declared.refusal.Refusal.{Refusal}
 use Rattle.ec_lines.specs.Outcomes.{outcome_output, optimal_text, unproved_text, IsLevelOf}
 use Rattle.ec_lines.specs.Output.{Written, refused}
-use Rattle.ec_lines.specs.Refusals.{refusal_code}
+use Rattle.ec_refusals.specs.Refusals.{refusal_code}
 use Rattle.ec_answers.specs.Planned.{outcome_cert}
 use Rattle.ec_jobs.specs.Sound.{TellsOptimal, TellsWithoutPlan, TellsTruth, PlanIsTrue, ResumeIsTrue, IsSearchTold, OneLeastEach}
-use Rattle.ec_lines.proofs.RefusalLemmas.{code_above}
+use Rattle.ec_refusals.proofs.RefusalLemmas.{code_above}
 
 -- a refusal has another status
 refusal_true : (bytes : List ℕ) (w : Written) (cert : Option (List ℕ)) (r : Refusal) → w ≡ refused r → TellsTruth bytes w cert

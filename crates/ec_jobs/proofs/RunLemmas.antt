@@ -4,14 +4,14 @@ use Rattle.std.specs.Prelude.{◌⊎◌, ◌≤◌, ◌+◌, IfSome}
 use Rattle.std.specs.Io.KnownBytes.{Appends}
 use Rattle.ec_wire.specs.Stream.{stream, has_failed, taken, WritesFront}
 use Rattle.ec_lines.specs.declared.answer.Answer.{Answer}
-use Rattle.ec_lines.specs.declared.refusal.Refusal.{Refusal}
-use Rattle.ec_lines.specs.declared.refusal.Refusal.TheVariants as refusal
+use Rattle.ec_refusals.specs.declared.refusal.Refusal.{Refusal}
+use Rattle.ec_refusals.specs.declared.refusal.Refusal.TheVariants as refusal
 use Rattle.ec_command.specs.declared.job.Job.{Job}
 use Rattle.ec_command.specs.declared.job.Job.TheVariants as job
 use Rattle.ec_wire.specs.declared.io.Io.{Io}
 use Rattle.ec_command.specs.Words.{IsResume}
 use Rattle.ec_answers.specs.Captures.{AnswersCapture, GetsCaptureFront, IsFramesWritten}
-use Rattle.ec_answers.specs.Input.{AreUnits, ConsumesAtMost}
+use Rattle.ec_inputs.specs.Input.{AreUnits, ConsumesAtMost}
 use Rattle.ec_lines.specs.Output.{Written, Answers, IsOutput, IsNoMemory, refused, written_of}
 use Rattle.ec_answers.specs.Planned.{AnswersPlan, GetsCertFront, IsPlanWritten, AnswersResume, GetsResumeFront, IsResumeWritten, Any, Gets, GetsFront}
 use Rattle.ec_jobs.specs.Runs.{Use, used, Lent, either, Reads, Tells, IsFor, Refuses, ForUnits, ForCert, Costs, Checks, Plans, PlansTo, PlansAway, Resumes, ResumesTo, Captures, CapturesPlan, CapturesAway, Does, DoesAlone, DoesAway, IsSound, HasFailed, IsKept, before, after}

@@ -16,13 +16,13 @@ use Rattle.ec_cert.specs.Shapes.{CertView}
 use Rattle.ec_checker.specs.Certified.{IsClaim, verdict_of}
 use Rattle.ec_checker.proofs.CheckLemmas.{claim_from}
 use Rattle.ec_tree.specs.Trees.{TreesBound, LevelsBound}
-use Rattle.ec_lines.specs.declared.refusal.Refusal.{Refusal}
-use Rattle.ec_lines.specs.declared.refusal.Refusal.TheVariants as refusal
+use Rattle.ec_refusals.specs.declared.refusal.Refusal.{Refusal}
+use Rattle.ec_refusals.specs.declared.refusal.Refusal.TheVariants as refusal
 use Rattle.ec_command.specs.declared.job.Job.TheVariants as job
 use Rattle.ec_lines.specs.Lines.{least_line, level_line, no_plan_line}
 use Rattle.ec_lines.specs.Output.{Written, IsUnitsOutput, IsCheckedOf, IsCheckedOutput, refused, verdict_output}
-use Rattle.ec_lines.specs.Refusals.{refusal_code}
-use Rattle.ec_lines.proofs.RefusalLemmas.{code_above}
+use Rattle.ec_refusals.specs.Refusals.{refusal_code}
+use Rattle.ec_refusals.proofs.RefusalLemmas.{code_above}
 use Rattle.ec_jobs.specs.Sound.{TellsLeast, TellsNoPlan, TellsAtLeast, YesIsTrue}
 
 -- what is told of units, by what is claimed of their loads

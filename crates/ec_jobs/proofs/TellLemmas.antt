@@ -1,7 +1,7 @@
 -- From what was written to what the program tells.
 use Rattle.std.proofs.Common.{◌≡◌, ℕ, List, Option, Some, None, Result, Ok, Err, subst, sym, inl, inr, refl}
 use Rattle.std.specs.Prelude.{◌⊎◌}
-use Rattle.ec_lines.specs.declared.refusal.Refusal.{Refusal}
+use Rattle.ec_refusals.specs.declared.refusal.Refusal.{Refusal}
 use Rattle.ec_lines.specs.declared.answer.Answer.{Answer}
 use Rattle.ec_lines.specs.Output.{Written, written_of, Answers, IsOutput, IsNoMemory}
 use Rattle.ec_command.specs.declared.job.Job.{Job}

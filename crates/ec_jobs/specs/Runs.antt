@@ -5,12 +5,12 @@ use Rattle.std.proofs.Common.{Global, MutBor, inl, inr}
 use Rattle.ec_wire.specs.declared.io.Io.{Io}
 use Rattle.ec_wire.specs.Stream.{stream, has_failed, taken, WritesFront}
 use Rattle.ec_lines.specs.declared.answer.Answer.{Answer}
-use Rattle.ec_lines.specs.declared.refusal.Refusal.{Refusal}
-use Rattle.ec_lines.specs.declared.refusal.Refusal.TheVariants as refusal
+use Rattle.ec_refusals.specs.declared.refusal.Refusal.{Refusal}
+use Rattle.ec_refusals.specs.declared.refusal.Refusal.TheVariants as refusal
 use Rattle.ec_command.specs.declared.job.Job.{Job}
 use Rattle.ec_command.specs.declared.job.Job.TheVariants as job
 use Rattle.ec_answers.specs.Captures.{IsFramesWritten, GetsCaptureFront}
-use Rattle.ec_answers.specs.Input.{ConsumesAtMost, AreUnits}
+use Rattle.ec_inputs.specs.Input.{ConsumesAtMost, AreUnits}
 use Rattle.ec_lines.specs.Output.{Written, IsOutput, IsNoMemory, refused, written_of}
 use Rattle.ec_answers.specs.Planned.{IsPlanWritten, GetsCertFront, IsResumeWritten, GetsResumeFront, Gets, GetsFront}
 use Rattle.ec_workers.specs.Answers.{Asked, asked_for}

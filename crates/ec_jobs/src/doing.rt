@@ -11,7 +11,7 @@ use crate::late::Late;
 use crate::plain::run_plain;
 use crate::running::run;
 use ec_command::{Job, Line};
-use ec_lines::Refusal;
+use ec_refusals::Refusal;
 use ec_wire::Io;
 use ec_workers::Gate;
 use std::alloc::Global;

@@ -8,7 +8,8 @@ ghost use Rattle.ec_lines.specs.Output.{refused};
 ghost use Rattle.ec_workers.specs.Answers.{asked_for};
 
 use ec_answers::{certified_answer, cost_answer, plan_answer, whole_answer};
-use ec_lines::{Answer, Refusal, refusal_line};
+use ec_lines::Answer;
+use ec_refusals::{Refusal, refusal_line};
 use ec_wire::{Io, WriteFault};
 use ec_workers::Gate;
 use std::alloc::Global;

@@ -4,10 +4,10 @@ ghost use Rattle.std.specs.Prelude.{◌≡◌, false};
 ghost use Rattle.ec_wire.specs.Stream.{has_failed};
 ghost use Rattle.ec_jobs.specs.Runs.{used, Tells, usage};
 ghost use Rattle.ec_lines.specs.Output.{refused};
-ghost use Rattle.ec_lines.specs.Refusals.{out_of_memory};
+ghost use Rattle.ec_refusals.specs.Refusals.{out_of_memory};
 
 use crate::job::{Status, refuse, write_status};
-use ec_lines::Refusal;
+use ec_refusals::Refusal;
 use ec_unit_text::UnitFault;
 use ec_wire::Io;
 use std::io::Write;

@@ -8,7 +8,7 @@ use Rattle.ec_units.specs.Views.{units_view, view_loads}
 use Rattle.ec_units.proofs.Viewed.{loads_of-views}
 use Rattle.ec_loads.specs.declared.plan.Illegal.{Illegal}
 use Rattle.ec_loads.specs.Legal.{IsLegal, IsIllegalBy}
-use Rattle.ec_lines.specs.declared.refusal.Refusal.TheVariants as refusal
+use Rattle.ec_refusals.specs.declared.refusal.Refusal.TheVariants as refusal
 use Rattle.ec_frame_lines.specs.Lines.{IsFramesText}
 use Rattle.ec_lines.specs.Framed.{IsPlacedPlan}
 use Rattle.ec_lines.specs.Output.{refused, first_unplaced, places_of, IsOwnText}

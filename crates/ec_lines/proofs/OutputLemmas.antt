@@ -10,7 +10,7 @@ use Rattle.ec_units.proofs.Viewed.{loads_of-views}
 use Rattle.ec_loads.specs.declared.plan.Illegal.{Illegal}
 use Rattle.ec_loads.specs.Cost.{plan_items}
 use Rattle.ec_loads.specs.Legal.{IsLegal, IsIllegalBy}
-use Rattle.ec_lines.specs.declared.refusal.Refusal.TheVariants as refusal
+use Rattle.ec_refusals.specs.declared.refusal.Refusal.TheVariants as refusal
 use Rattle.ec_lines.specs.Output.{done, refused, first_unplaced, places_of, IsCostText, IsCostsText, IsCostOutput}
 
 -- the plan of units that all have a place is not legal

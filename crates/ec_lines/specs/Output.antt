@@ -24,12 +24,12 @@ use Rattle.ec_checker.specs.Certified.{IsCertified, IsFaultOf, verdict_of}
 use Rattle.ec_frame_lines.specs.Lines.{IsFramesText}
 use Rattle.ec_play_lines.specs.Plays.{IsPlayText}
 use Rattle.ec_lines.specs.declared.answer.Answer.{Answer}
-use Rattle.ec_lines.specs.declared.refusal.Refusal.{Refusal}
-use Rattle.ec_lines.specs.declared.refusal.Refusal.TheVariants as refusal
+use Rattle.ec_refusals.specs.declared.refusal.Refusal.{Refusal}
+use Rattle.ec_refusals.specs.declared.refusal.Refusal.TheVariants as refusal
 use Rattle.ec_command.specs.declared.job.Job.{Job}
 use Rattle.ec_command.specs.declared.job.Job.TheVariants as job
 use Rattle.ec_lines.specs.Lines.{cost_lines, least_line, level_line, no_plan_line}
-use Rattle.ec_lines.specs.Refusals.{refusal_line, refusal_code, IsMemory}
+use Rattle.ec_refusals.specs.Refusals.{refusal_line, refusal_code, IsMemory}
 
 -- a text and the exit status
 pub record Written : Type 0 where

@@ -9,13 +9,13 @@ ghost use Rattle.ec_loads.specs.Legal.{IsLegal};
 ghost use Rattle.ec_loads.specs.Held.{items_of};
 ghost use Rattle.ec_lines.specs.Lines.{tick_line, tick_lines};
 ghost use Rattle.ec_lines.specs.Output.{IsCostText, IsCostsText, first_unplaced, places_of, IsCostOutput, Answers};
-ghost use Rattle.ec_lines.specs.Refusals.{out_of_memory};
-ghost use Rattle.ec_lines.specs.declared.refusal.Refusal.TheVariants.{NoPlace};
+ghost use Rattle.ec_refusals.specs.Refusals.{out_of_memory};
+ghost use Rattle.ec_refusals.specs.declared.refusal.Refusal.TheVariants.{NoPlace};
 ghost use Rattle.ec_command.specs.declared.job.Job.TheVariants.{Cost, PlanCost};
 
 use crate::answer::Answer;
-use crate::refusal::Refusal;
 use ec_loads::{Loads, Places, Plan, is_legal};
+use ec_refusals::Refusal;
 use ec_units::Units;
 use ec_wire::{fits, ns_of};
 use std::alloc::{AllocError, Global};

@@ -8,16 +8,16 @@ ghost use Rattle.ec_frame_lines.specs.Lines.{IsFramesText};
 ghost use Rattle.ec_frame_lines.specs.Captures.{IsCapture};
 ghost use Rattle.ec_lines.specs.Framed.{IsPlacedPlan};
 ghost use Rattle.ec_lines.specs.Output.{IsOwnText, Answers, refused};
-ghost use Rattle.ec_lines.specs.Refusals.{IsFramesMemory};
+ghost use Rattle.ec_refusals.specs.Refusals.{IsFramesMemory};
 ghost use Rattle.ec_command.specs.declared.job.Job.TheVariants.{Frames};
 
 use crate::answer::Answer;
 use crate::cost::plan_of;
-use crate::refusal::Refusal;
 use ec_fmmu::layout;
 use ec_frame_lines::{capture_of, frames_text};
 use ec_loads::{Plan, is_legal};
 use ec_play::PlayFault;
+use ec_refusals::Refusal;
 use ec_units::Units;
 use std::alloc::Global;
 

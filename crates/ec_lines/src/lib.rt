@@ -1,4 +1,4 @@
-//! What the program writes: the lines of a cost, of a plan, of a certificate, of frames and of a play, and the line that refuses.
+//! What the program writes: the lines of a cost, of a plan, of a certificate, of frames and of a play.
 #![tactic(auto)]
 
 mod answer;
@@ -6,8 +6,6 @@ mod cost;
 mod frames;
 mod outcome;
 mod play;
-mod reason;
-mod refusal;
 mod verdict;
 
 pub use answer::Answer;
@@ -15,6 +13,4 @@ pub use cost::{cost_of, plan_cost};
 pub use frames::{Captured, placed_plan, plan_capture, plan_frames};
 pub use outcome::outcome_answer;
 pub use play::{Alone, Player, Together};
-pub use reason::refusal_line;
-pub use refusal::Refusal;
 pub use verdict::verdict_answer;

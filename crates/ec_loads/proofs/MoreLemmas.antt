@@ -1,7 +1,9 @@
 -- One item more, wherever it stands in the list: what it does to groups, payloads and counts.
-use Rattle.std.proofs.Common.{◌≡◌, ℕ, zero, suc, ◌+◌, ◌<◌, ◌≤◌, ◌==◌, ◌&&◌, ◌||◌, Bool, true, false, cond, List, [], ◌∷◌, length, set, get_or, Option, Some, None, is_none, inl, inr, refl, sym, subst, ap, ◌∙◌, arith, not-suc-le-zero, le_of_suc-le-suc}
+use Rattle.std.proofs.Common.{◌≡◌, ℕ, zero, suc, ◌+◌, ◌<◌, ◌≤◌, ◌==◌, ◌&&◌, ◌||◌, Bool, true, false, cond, List, [], ◌∷◌, length, set, get_or, slice_get, Option, Some, None, is_none, inl, inr, refl, sym, subst, ap, ◌∙◌, arith, not-suc-le-zero, le_of_suc-le-suc}
 use Rattle.std.specs.List.{list_any, count_by}
 use Rattle.std.proofs.lemmas.List.Sums.{sum_by-cons}
+use Rattle.std.proofs.lemmas.List.{length-set, get_or-set_same, set-get_or}
+use Rattle.std.proofs.lemmas.Option.{slice_get-get_or}
 use Rattle.std.proofs.lemmas.Bool.{eqb-true, cases_Bool, and_parts, true≢false, false≢true}
 use Rattle.ec_units.specs.declared.slave.Place.{Place}
 use Rattle.ec_units.specs.declared.unit.Load.{Load}
@@ -127,3 +129,11 @@ set_twice (x ∷ xs) (suc i) a b = ap (λ w. x ∷ w) (set_twice xs i a b)
 
 pub set_none : (ps : List (Option Place)) (u : ℕ) (p : Place) → set (set ps u None) u (Some p) ≡ set ps u (Some p)
 set_none ps u p = set_twice ps u None (Some p)
+
+pub set_free : {X : Type 0} (xs : List X) (i : ℕ) (x : X) → i < length xs → slice_get (set xs i x) i ≡ Some x
+set_free xs i x h = slice_get-get_or (set xs i x) i x (rw (length-set xs i x) h) ∙ ap (λ y. Some y) (get_or-set_same xs i x x h)
+
+-- a load without a place that loses it
+pub none_kept : (ps : List (Option Place)) (u : ℕ) (o : Option Place) → o ≡ get_or ps u o → ((p : Place) → o ≡ Some p → ⊥) → ps ≡ set ps u None
+none_kept ps u None is some = sym (ap (λ o. set ps u o) is ∙ set-get_or ps u None)
+none_kept ps u (Some p) is some = absurd (some p refl)

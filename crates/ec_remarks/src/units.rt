@@ -6,6 +6,7 @@ use crate::quoted::add_quoted;
 use crate::refused::Refused;
 use ec_drafts::Draft;
 use ec_unit_text::Key;
+use ec_units::is_name_byte;
 use toml::{Table, Value};
 
 /// Tells that there are no units.
@@ -18,11 +19,6 @@ pub(crate) fn tell_none(out: &mut Draft) {
 pub(crate) fn tell_many(out: &mut Draft, doc: Doc<'_>) {
     let count = doc.units().len();
     out.add(format_args!("The file has {count} units, and a line has at most 48.\n"));
-}
-
-/// Whether a byte may stand in a name.
-fn is_name_byte(byte: u8) -> bool {
-    matches!(byte, b'a'..=b'z' | b'A'..=b'Z' | b'0'..=b'9' | b'_' | b'-')
 }
 
 /// Adds why a text is no name.

@@ -1,19 +1,22 @@
 -- Members and items beside what the code walks.
-use Rattle.std.proofs.Common.{◌≡◌, ◌<◌, ◌≤◌, ℕ, suc, ◌+◌, add-one, length, drop, take, set, map, All, get_or, Bool, false, not, ◌||◌, List, [], ◌∷◌, ◌++◌, append_assoc, Some, None, String, Global, string_bytes, refl, ap, sym, ◌∙◌}
+use Rattle.std.proofs.Common.{◌≡◌, ◌<◌, ◌≤◌, ℕ, suc, ◌+◌, add-one, length, drop, take, set, map, All, get_or, Bool, true, false, not, ◌||◌, nat_lt, List, [], ◌∷◌, ◌++◌, append_assoc, Option, Some, None, String, Global, string_bytes, refl, ap, sym, ◌∙◌}
 use Rattle.std.specs.Map.{keys_of}
 use Rattle.std.specs.List.{flat_map}
-use Rattle.std.proofs.lemmas.List.{drop_more, take_more, take_more_set, append-nil, map-append}
+use Rattle.std.proofs.lemmas.List.{drop_more, drop_all, take_more, take_more_set, append-nil, map-append}
 use Rattle.std.proofs.lemmas.List.Elements.{All-nil, All-cons, All-append}
 use Rattle.toml.specs.Data.{Data, Items, no_items, item, Members, as_table, push_item}
 use Rattle.toml.specs.View.{view, items_view, members_view}
 use Rattle.toml.proofs.Views.{items_view-drop, items_view-push}
 use Rattle.toml.specs.declared.value.Value.{Value}
 use Rattle.ec_unit_text.specs.declared.fault.Key.{Key}
+use Rattle.ec_unit_text.specs.declared.fault.Key.TheVariants as key
 use Rattle.ec_unit_text.specs.declared.fault.UnitFault.{UnitFault}
-use Rattle.ec_unit_text.specs.AtKey.{is_one_of, has_other_key, table_list, tables_in, item_count}
+use Rattle.ec_unit_text.specs.declared.fault.UnitFault.TheVariants as fault
+use Rattle.ec_hyper.specs.Lcm.{lcm_of}
+use Rattle.ec_unit_text.specs.AtKey.{items_at, is_one_of, has_other_key, table_list, tables_in, item_count}
 use Rattle.ec_unit_text.specs.declared.rule.Rule.{Rule}
 use Rattle.ec_unit_text.specs.Fits.{PeriodsFit}
-use Rattle.ec_unit_text.specs.UnitText.{period_at, periods_in, first, faults_of_slave_item, slave_faults_from, faults_of_unit_item, unit_faults_from}
+use Rattle.ec_unit_text.specs.UnitText.{bytes_at, bytes_in, period_at, periods_in, first, fault_if, hyper_faults, faults_of_slave_item, slave_faults_from, faults_of_unit_item, unit_faults_from}
 
 -- some key is none of these
 abbrev pub any_other : (List ℕ → Bool) → List (String Global) → Bool
@@ -104,3 +107,28 @@ pub periods_fit-drop : (vs : List Value) (i : ℕ) (d : Value) → i < length vs
 periods_fit-drop vs i d h fit =
     let parts = rw (items_view-drop vs i d h) at fit in
     parts.1
+
+-- the tests of items one after the other: an item that fails is passed, one that passes is found, and after the last there is none
+pub any_passed : (any : Items → Bool) (test : Option Members → Bool) (vs : List Value) (i : ℕ) (d : Value) (b : Bool) → ((e : Data) (es : Items) → any (item e es) ≡ (test (as_table e) || any es))
+    → i < length vs → d ≡ get_or vs i d → b ≡ test (as_table (view d)) → b ≡ false → any (items_view (drop (i + 1) vs)) ≡ any (items_view (drop i vs))
+any_passed any test vs i d b step h is tested none =
+    sym (ap any (items_view-drop vs i d h) ∙ step (view (get_or vs i d)) (items_view (drop (i + 1) vs))
+    ∙ ap (λ t. t || any (items_view (drop (i + 1) vs))) (ap (λ v. test (as_table (view v))) (sym is) ∙ sym tested ∙ none))
+
+pub any_found : (any : Items → Bool) (test : Option Members → Bool) (vs : List Value) (i : ℕ) (d : Value) (b : Bool) → ((e : Data) (es : Items) → any (item e es) ≡ (test (as_table e) || any es))
+    → i < length vs → d ≡ get_or vs i d → b ≡ test (as_table (view d)) → b ≡ true → true ≡ any (items_view (drop i vs))
+any_found any test vs i d b step h is tested good =
+    sym (ap any (items_view-drop vs i d h) ∙ step (view (get_or vs i d)) (items_view (drop (i + 1) vs))
+    ∙ ap (λ t. t || any (items_view (drop (i + 1) vs))) (ap (λ v. test (as_table (view v))) (sym is) ∙ sym tested ∙ good))
+
+pub any_none : (any : Items → Bool) (vs : List Value) (i : ℕ) → any no_items ≡ false → length vs ≤ i → false ≡ any (items_view (drop i vs))
+any_none any vs i none h = sym (ap (λ l. any (items_view l)) (drop_all i vs h) ∙ none)
+
+-- the bytes of a slave and of those after it
+pub bytes_more : (vs : List Value) (i : ℕ) (d : Value) → i < length vs → d ≡ get_or vs i d → bytes_in (items_view (drop i vs)) ≡ bytes_at (as_table (view d)) + bytes_in (items_view (drop (i + 1) vs))
+bytes_more vs i d h is = ap bytes_in (items_view-drop vs i d h) ∙ ap (λ v. bytes_at (as_table (view v)) + bytes_in (items_view (drop (i + 1) vs))) (sym is)
+
+-- what a test of the hyperperiod tells
+pub hyper_test : (ms : Members) (ds : Items) (long b : Bool) → ds ≡ items_at key.Unit ms → long ≡ nat_lt 1024 (lcm_of (periods_in ds)) → long ≡ b → hyper_faults ms ≡ fault_if b fault.HyperTooLong
+hyper_test ms ds long b there tested told =
+    ap (λ d. fault_if (nat_lt 1024 (lcm_of (periods_in d))) fault.HyperTooLong) (sym there) ∙ ap (λ t. fault_if t fault.HyperTooLong) (sym tested ∙ told)

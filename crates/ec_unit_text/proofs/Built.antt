@@ -1,10 +1,10 @@
 -- What units that a document without a fault says keep together.
-use Rattle.std.proofs.Common.{◌≡◌, ◌≤◌, ◌<◌, ℕ, ℤ, pos, negsuc, arith, length, false, List, ◌++◌, All, map, unwrap_or, Option, Some, None, ap, sym, ◌∙◌}
+use Rattle.std.proofs.Common.{◌≡◌, ◌≤◌, ◌<◌, ℕ, ℤ, pos, arith, length, false, List, ◌++◌, All, map, unwrap_or, Option, Some, None, ap, sym, ◌∙◌}
 use Rattle.std.specs.Option.{ForSome}
-use Rattle.std.proofs.lemmas.Bool.{or_parts, leb-false, eqb-false, ltb-false, true≢false}
+use Rattle.std.proofs.lemmas.Bool.{or_parts, eqb-false, ltb-false}
 use Rattle.std.proofs.lemmas.List.{length-map, get_or-map}
 use Rattle.std.proofs.lemmas.List.Elements.{All-nil, All-cons}
-use Rattle.std.specs.Prelude.{int_lt, int_le, unsigned_abs}
+use Rattle.std.specs.Prelude.{unsigned_abs}
 use Rattle.toml.specs.Data.{Items, no_items, item, Members, as_table}
 use Rattle.ec_hyper.specs.Lcm.{lcm_of}
 use Rattle.ec_unit_text.specs.declared.fault.Key.TheVariants as key
@@ -18,7 +18,7 @@ use Rattle.ec_unit_text.specs.UnitText.{first, is_outside, unit_faults}
 use Rattle.ec_units.specs.Views.{UnitView, unit_view}
 use Rattle.ec_unit_text.specs.Said.{number_at, place_from, unit_of}
 use Rattle.ec_unit_text.proofs.Faultless.{hyper_none, units_fit, some_units, few_units, slots_in, tick_in}
-use Rattle.ec_unit_text.proofs.Fitting.{within}
+use Rattle.ec_unit_text.proofs.Fitting.{within, number_inside}
 use Rattle.ec_unit_text.proofs.Tabled.{unit_count, periods_of_tables}
 
 pub tick_within : (ms : Members) → first (unit_faults ms) ≡ None → IsWithin 80 1000000000 (integer_at key.TickNs ms)
@@ -38,18 +38,12 @@ pub short : (us : List SyncUnit) (ms : Members) → first (unit_faults ms) ≡ N
 short us ms h e = rw (periods_of_tables us (items_at key.Unit ms) e) (hyper_none ms h)
 
 -- a slot that is given is below the slot count
-number_below : (n : ℕ) (z : ℤ) → is_outside (pos n) (Some z) ≡ false → unsigned_abs z < n
-number_below n (pos s) h =
-    let (whole, below) = or_parts (int_lt (pos s) (pos 0)) (int_le (pos n) (pos s)) h in
-    leb-false n s below
-number_below n (negsuc s) h = absurd (true≢false h)
-
 place_below : (phase slot : Option ℤ) (n : ℕ) (p : Place) → is_outside (pos n) slot ≡ false → place_from phase slot ≡ Some p → p.slot < n
 place_below None slot n p h e = cc
 place_below (Some a) None n p h e = cc
 place_below (Some a) (Some b) n p h e =
     let same : unsigned_abs b ≡ p.slot = ap (λ o. (unwrap_or o p).slot) e in
-    let below : unsigned_abs b < n = number_below n b h in
+    let below : unsigned_abs b < n = (number_inside n b h).1 in
     omega arith
 
 abbrev BelowSlots : ℕ → UnitView → Type 0

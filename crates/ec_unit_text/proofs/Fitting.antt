@@ -1,10 +1,18 @@
 -- What the tests of a slave's and a unit's numbers tell.
-use Rattle.std.proofs.Common.{◌≡◌, ◌≤◌, ◌<◌, ◌==◌, ℕ, zero, suc, ◌+◌, ℤ, pos, negsuc, ◌+ℤ◌, arith, true, false, not, ◌&&◌, ◌||◌, nat_lt, nat_le, int_le, int_lt, refl}
-use Rattle.std.proofs.lemmas.Bool.{and_parts, or_parts, not-true, false≢true, true≢false, ltb-false, leb-true, eqb-false}
+use Rattle.std.proofs.Common.{◌≡◌, ◌≤◌, ◌<◌, ◌==◌, ℕ, zero, suc, ◌+◌, ℤ, pos, negsuc, ◌+ℤ◌, arith, true, false, not, ◌&&◌, ◌||◌, nat_lt, nat_le, int_le, int_lt, Option, Some, unsigned_abs, subst, w64, Fits, Fits-le, refl}
+use Rattle.std.proofs.lemmas.Bool.{and_parts, or_parts, not-true, false≢true, true≢false, ltb-false, leb-true, leb-false, eqb-false}
 use Rattle.std.proofs.lemmas.Bool.Decides.{nat_tests}
 use Rattle.std.specs.Ordering.{int_eq}
-use Rattle.ec_unit_text.specs.AtKey.{is_between}
-use Rattle.ec_unit_text.specs.UnitText.{are_byte_counts, is_area, overlap, are_areas}
+use lib.Dec.{T}
+use lib.Signed.{non_neg}
+use mir.Syntax.{Width}
+use mir.Val.{to_z, of_z}
+use mir.ValLaws.{to_z_pos}
+use Rattle.toml.specs.Data.{Members}
+use Rattle.ec_unit_text.specs.declared.fault.Key.TheVariants as key
+use Rattle.ec_unit_text.specs.AtKey.{integer_given, integer_at, is_between}
+use Rattle.ec_unit_text.specs.Said.{place_from}
+use Rattle.ec_unit_text.specs.UnitText.{is_outside, is_place_outside, are_byte_counts, is_area, overlap, are_areas}
 use Rattle.ec_unit_text.specs.Fits.{IsWithin, SlaveNumbersFit}
 
 pub within : (low high : ℕ) (z : ℤ) → is_between (pos low) (pos high) z ≡ true → IsWithin low high z
@@ -64,3 +72,34 @@ count_in n h =
     let some : n ≡ 0 → ⊥ = eqb-false n 0 none in
     let few : n ≤ 8 = ltb-false 8 n many in
     (omega arith, few)
+
+-- a small number that is not negative comes back from its bits as it was
+pub small : (w : Width) (z : ℤ) → z ≡ pos (unsigned_abs z) → unsigned_abs z ≤ 60 → Fits w 60 → (to_z w64 (of_z w64 z) ≡ z) × (T (non_neg z) × Fits w (unsigned_abs z))
+small w (pos n) whole few fits = (to_z_pos w64 n (omega arith), (tt, Fits-le few fits))
+small w (negsuc n) whole few fits = cc
+
+-- a number that is given is below its limit
+pub number_inside : (n : ℕ) (z : ℤ) → is_outside (pos n) (Some z) ≡ false → (z ≡ pos (unsigned_abs z)) × (unsigned_abs z < n)
+number_inside n (pos s) h = (refl, leb-false n s (or_parts (int_lt (pos s) (pos 0)) (int_le (pos n) (pos s)) h).1)
+number_inside n (negsuc s) h = absurd (true≢false h)
+
+-- a number that is given, as the code holds it
+pub record IsGiven (w : Width) (limit z : ℤ) : Type 0 where
+  pub same : to_z w64 (of_z w64 z) ≡ z
+  pub fits : T (non_neg (to_z w64 (of_z w64 z))) × Fits w (unsigned_abs (to_z w64 (of_z w64 z)))
+  pub below : unsigned_abs (to_z w64 (of_z w64 z)) < unsigned_abs limit
+
+pub given_number : (w : Width) (limit z : ℤ) (high : ℕ) (given : Option ℤ) → Fits w 60 → high ≤ 60 → is_between (pos 1) (pos high) limit ≡ true → is_outside limit given ≡ false → given ≡ Some z → IsGiven w limit z
+given_number w limit z high given fits few range inside is =
+    let l = within 1 high limit range in
+    let n = number_inside (unsigned_abs limit) z (subst (λ m. is_outside m (Some z) ≡ false) l.whole (subst (λ o. is_outside limit o ≡ false) is inside)) in
+    let s = small w z n.0 (omega (arith, n.1, l.most, few)) fits in
+    record { same = s.0; fits = rw s.0 s.1; below = rw s.0 n.1 }
+
+-- both parts of a place that is not outside
+pub place_parts : (top ms : Members) → is_place_outside top ms ≡ false → (is_outside (integer_at key.Period ms) (integer_given key.Phase ms) ≡ false) × (is_outside (integer_at key.Slots top) (integer_given key.Slot ms) ≡ false)
+place_parts top ms h = or_parts _ _ h
+
+-- the place of two numbers that are given
+pub place_said : (a b x y : ℤ) (phase slot : Option ℤ) → x ≡ a → y ≡ b → phase ≡ Some a → slot ≡ Some b → Some (record { phase = unsigned_abs x; slot = unsigned_abs y }) ≡ place_from phase slot
+place_said a b x y phase slot e f is there = rw (e, f, is, there) refl

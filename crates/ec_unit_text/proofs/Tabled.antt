@@ -1,10 +1,11 @@
 -- Units beside what the tables of a document say of them.
-use Rattle.std.proofs.Common.{◌≡◌, ◌≤◌, ℕ, suc, ◌+◌, arith, length, List, [], ◌∷◌, ◌++◌, drop, map, Option, Some, None, refl, ap, sym, ◌∙◌}
+use Rattle.std.proofs.Common.{◌≡◌, ◌<◌, ◌≤◌, ℕ, suc, ◌+◌, arith, length, List, [], ◌∷◌, ◌++◌, append_assoc, drop, get_or, map, Option, Some, None, refl, ap, sym, subst, ◌∙◌}
 use Rattle.std.specs.List.{flat_map}
-use Rattle.std.proofs.lemmas.List.{length-map, append-nil, drop_all}
+use Rattle.std.proofs.lemmas.List.{length-map, map-append, append-nil, drop_all}
 use Rattle.std.proofs.lemmas.List.Sums.{sum_by-cons}
 use Rattle.toml.specs.Data.{Items, no_items, item, Members, as_table}
-use Rattle.toml.specs.View.{items_view}
+use Rattle.toml.specs.View.{view, items_view}
+use Rattle.toml.proofs.Views.{items_view-drop}
 use Rattle.toml.specs.declared.value.Value.{Value}
 use Rattle.ec_units.specs.declared.slave.Slave.{Slave}
 use Rattle.ec_units.specs.declared.unit.Unit.{Unit as SyncUnit}
@@ -22,6 +23,24 @@ use Rattle.ec_unit_text.specs.UnitText.{bytes_at, bytes_in, period_at, periods_i
 -- what a loop over items has read at its end
 pub said_all : {A : Type 0} (f : Members → A) (xs : List A) (vs : List Value) (i : ℕ) (all : List A) → length vs ≤ i → xs ++ map f (tables_in (items_view (drop i vs))) ≡ all → xs ≡ all
 said_all f xs vs i all h e = sym (append-nil xs) ∙ ap (λ w. xs ++ map f (tables_in (items_view w))) (sym (drop_all i vs h)) ∙ e
+
+-- a loop that has read one item more
+pub said_more : {A B : Type 0} (f : Members → A) (g : B → A) (us news : List B) (u : B) (vs : List Value) (i : ℕ) (d : Value) (all : List A) → news ≡ us ++ u ∷ [] → i < length vs → d ≡ get_or vs i d
+    → g u ∷ [] ≡ map f (table_list (as_table (view d))) → map g us ++ map f (tables_in (items_view (drop i vs))) ≡ all → map g news ++ map f (tables_in (items_view (drop (i + 1) vs))) ≡ all
+said_more f g us news u vs i d all grown h is one e =
+    let after = tables_in (items_view (drop (i + 1) vs)) in
+    let here : tables_in (items_view (drop i vs)) ≡ table_list (as_table (view d)) ++ after =
+    ap tables_in (items_view-drop vs i d h) ∙ ap (λ v. table_list (as_table (view v)) ++ after) (sym is) in
+    ap (λ l. map g l ++ map f after) grown ∙ ap (λ l. l ++ map f after) (map-append g us (u ∷ [])) ∙ append_assoc (map g us) (g u ∷ []) (map f after)
+    ∙ ap (λ l. map g us ++ (l ++ map f after)) one ∙ ap (λ l. map g us ++ l) (sym (map-append f (table_list (as_table (view d))) after))
+    ∙ ap (λ l. map g us ++ map f l) (sym here) ∙ e
+
+-- the item that a loop has come to fits, and so do those after it
+pub slaves_fit-parts : (vs : List Value) (i : ℕ) (d : Value) → i < length vs → d ≡ get_or vs i d → SlavesFit (items_view (drop i vs)) → SlaveItemFits (as_table (view d)) × SlavesFit (items_view (drop (i + 1) vs))
+slaves_fit-parts vs i d h is fit = rw is (subst SlavesFit (items_view-drop vs i d h) fit)
+
+pub units_fit-parts : (top : Members) (vs : List Value) (i : ℕ) (d : Value) → i < length vs → d ≡ get_or vs i d → UnitsFit top (items_view (drop i vs)) → UnitItemFits top (as_table (view d)) × UnitsFit top (items_view (drop (i + 1) vs))
+units_fit-parts top vs i d h is fit = rw is (subst (UnitsFit top) (items_view-drop vs i d h) fit)
 
 -- as many slaves as items, and their bytes
 tables_of_slaves : (t : Option Members) (n : ℕ) (rest : List Members) → SlaveItemFits t → length rest ≡ n → length (table_list t ++ rest) ≡ suc n

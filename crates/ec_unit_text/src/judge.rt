@@ -1,10 +1,9 @@
 //! What a rule finds in one table of a unit text.
 
 ghost use Rattle.std.specs.Prelude.{◌≡◌, ◌≤◌, ◌^◌, ◌+ℤ◌, nat_lt, int_lt};
-ghost use Rattle.std.specs.List.{flat_map, list_all};
+ghost use Rattle.std.specs.List.{flat_map};
 ghost use Rattle.toml.specs.Data.{as_table};
 ghost use Rattle.toml.specs.View.{view, items_view, table_view};
-ghost use Rattle.ec_units.specs.Names.{is_name_byte, is_name};
 ghost use Rattle.ec_unit_text.specs.AtKey.{is_between};
 ghost use Rattle.ec_unit_text.specs.UnitText.{first, fault_if, missing_at, wrong_at, key_faults, top_faults, is_named, has_name, bytes_at, bytes_in, is_outside, is_place_outside, faults_of_unit, is_stationed, has_station, is_stationed_in, has_station_in, are_byte_counts, is_area, overlap, area_at, are_areas_of, faults_of_slave};
 
@@ -14,6 +13,7 @@ use crate::table::{
     count_at, has_other_key, has_wrong, integer_at, integer_given, integer_or, is_missing, text_at,
     values_at,
 };
+use ec_units::is_name;
 use toml::{Table, Value};
 
 /// The most units of a line.
@@ -116,27 +116,6 @@ pub fn top_fault(rule: Rule, top: &Table) -> Option<UnitFault>
     }
 }
 
-fn is_name_byte(byte: u8) -> bool
-    ensures { result ≡ is_name_byte byte }
-{
-    (b'a' <= byte && byte <= b'z')
-        || (b'A' <= byte && byte <= b'Z')
-        || (b'0' <= byte && byte <= b'9')
-        || (byte == b'_' || byte == b'-')
-}
-
-fn are_name_bytes(bytes: &[u8]) -> bool
-    ensures { result ≡ list_all is_name_byte bytes.now }
-{
-    bytes.iter().all(|byte| is_name_byte(*byte))
-}
-
-fn is_name(text: &str) -> bool
-    ensures { result ≡ is_name text.now }
-{
-    1 <= text.len() && text.len() <= 32 && are_name_bytes(text.as_bytes())
-}
-
 fn is_named(name: &str, value: &Value) -> bool
     ensures { result ≡ is_named name.now (as_table (view value.now)) }
 {
@@ -219,7 +198,10 @@ pub fn unit_fault(
         slave: None,
     };
     match rule {
-        Rule::BadName => fault_if(!is_name(text_at(unit, Key::Name)), UnitFault::BadName(spot)),
+        Rule::BadName => {
+            let name = text_at(unit, Key::Name).as_bytes();
+            fault_if(!is_name(name), UnitFault::BadName(spot))
+        }
         Rule::DuplicateName => {
             let name = text_at(unit, Key::Name);
             fault_if(has_name(name, earlier), UnitFault::DuplicateName(spot))

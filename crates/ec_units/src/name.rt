@@ -1,6 +1,8 @@
 //! Names of units.
 
 ghost use Rattle.std.specs.Prelude.{◌≡◌, string_bytes};
+ghost use Rattle.std.specs.List.{list_all};
+ghost use Rattle.ec_units.specs.Names.{is_name as is_name_spec, is_name_byte as is_name_byte_spec};
 
 use std::marker::Model;
 
@@ -39,4 +41,28 @@ impl Name {
     {
         self.text
     }
+}
+
+/// Whether a byte may stand in a name: a-z, A-Z, 0-9, `_` or `-`. Own profile.
+pub fn is_name_byte(byte: u8) -> bool
+    ensures { result ≡ is_name_byte_spec byte }
+{
+    byte.is_ascii_lowercase()
+        || byte.is_ascii_uppercase()
+        || byte.is_ascii_digit()
+        || byte == b'_'
+        || byte == b'-'
+}
+
+fn are_name_bytes(bytes: &[u8]) -> bool
+    ensures { result ≡ list_all is_name_byte_spec bytes.now }
+{
+    bytes.iter().all(|byte| is_name_byte(*byte))
+}
+
+/// Whether these bytes are a name: 1 to 32 that may stand in one. Own profile.
+pub fn is_name(bytes: &[u8]) -> bool
+    ensures { result ≡ is_name_spec bytes.now }
+{
+    1 <= bytes.len() && bytes.len() <= 32 && are_name_bytes(bytes)
 }

@@ -2,6 +2,7 @@ use Rattle.std.proofs.Common.{ap, refl, ◌∙◌, Err}
 use Rattle.std.proofs.lemmas.Result.{err_from_is_err_and}
 use Rattle.ec_answers.specs.Planned.{Gets, GetsFront}
 use Rattle.ec_answers.proofs.PlanLemmas.{plan_told, plan_refused, plan_unlevelled, plan_fronted, plan_unfronted}
+use Rattle.ec_inputs.proofs.InputLemmas.{read_refused}
 use Rattle.ec_answers.proofs.plan.certified_answer.Goals as goal
 use Rattle.ec_workers.specs.Answers.{asked_for}
 
@@ -28,3 +29,8 @@ returns-in_err-line-clause-front g c = λ units. plan_unfronted _ (asked_for c.a
 
 pub returns-in_err-level-clause-front : goal.returns-in_err-level-clause-front
 returns-in_err-level-clause-front g c = λ units. plan_unfronted _ (asked_for c.args.workers c.args.nodes) (GetsFront g.O.Write.contents c.args.out.now c.args.out.now) refl
+
+pub returns-in_err-line-clause-read : goal.returns-in_err-line-clause-read
+returns-in_err-line-clause-read g c = λ read.
+    let p = err_from_is_err_and c.from_residual.result c.from_residual.ensures.1 in
+    read_refused c.from_residual.result c.in_err-line.field-0.0 (p.1 ∙ ap (λ e. Err e) p.2) (c.in_err-line.ensures.read read)

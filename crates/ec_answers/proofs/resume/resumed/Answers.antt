@@ -1,8 +1,9 @@
-use Rattle.std.proofs.Common.{ap, rules, ◌∙◌, Err}
+use Rattle.std.proofs.Common.{ap, ◌∙◌, Err, sym, subst, ◌≡◌, IfSome}
 use Rattle.std.proofs.lemmas.Result.{err_from_is_err_and}
 use Rattle.ec_loads.specs.Search.{node_count}
 use Rattle.ec_workers.specs.Answers.{asked_beyond}
 use Rattle.ec_answers.proofs.ResumeLemmas.{unresumed_inputs, unresumed_text, resumed_known}
+use Rattle.ec_inputs.proofs.InputLemmas.{read_refused}
 use Rattle.ec_answers.proofs.resume.resumed.Goals as goal
 
 pub returns-in_err-line-clause-told : goal.returns-in_err-line-clause-told
@@ -13,11 +14,21 @@ returns-in_err-line-clause-told g c = λ read cert.
 pub returns-in_err-outcome-clause-told : goal.returns-in_err-outcome-clause-told
 returns-in_err-outcome-clause-told g c = λ read cert.
     let p = err_from_is_err_and c.from_residual-in_err-outcome.result c.from_residual-in_err-outcome.ensures.1 in
-    unresumed_text _ _ c.args.workers c.args.nodes c.in_ok-line.line c.deref.result.now c.in_err-outcome.field-0.0 c.from_residual-in_err-outcome.result (p.1 ∙ ap (λ e. Err e) p.2) (c.in_ok-line.ensures.said read) (search rules) c.in_err-outcome.ensures.err
+    unresumed_text _ _ c.args.workers c.args.nodes c.in_ok-line.line c.deref.result.now c.in_err-outcome.field-0.0 c.from_residual-in_err-outcome.result (p.1 ∙ ap (λ e. Err e) p.2) (c.in_ok-line.ensures.said read) (subst (λ l. IfSome (g.C.Read.remaining c.args.cert.now.inner) (λ all. l ≡ all)) (sym c.deref.ensures.value) c.in_ok-line.ensures.text) c.in_err-outcome.ensures.err
 
 pub returns-clause-told : goal.returns-clause-told
 returns-clause-told g c = λ read cert.
-    resumed_known _ _ c.args.workers c.args.nodes c.in_ok-line.line c.deref.result.now c.in_ok-outcome.outcome (c.in_ok-line.ensures.said read) (search rules) c.in_ok-outcome.ensures.ok
+    resumed_known _ _ c.args.workers c.args.nodes c.in_ok-line.line c.deref.result.now c.in_ok-outcome.outcome (c.in_ok-line.ensures.said read) (subst (λ l. IfSome (g.C.Read.remaining c.args.cert.now.inner) (λ all. l ≡ all)) (sym c.deref.ensures.value) c.in_ok-line.ensures.text) c.in_ok-outcome.ensures.ok
 
 pub returns-clause-outcome : goal.returns-clause-outcome
 returns-clause-outcome g c = (asked_beyond c.args.workers c.args.nodes (node_count c.in_ok-outcome.ensures.ok.0.tree), c.in_ok-outcome.ensures.ok.2.answer)
+
+pub returns-in_err-line-clause-read : goal.returns-in_err-line-clause-read
+returns-in_err-line-clause-read g c = λ read.
+    let p = err_from_is_err_and c.from_residual.result c.from_residual.ensures.1 in
+    read_refused c.from_residual.result c.in_err-line.field-0.0 (p.1 ∙ ap (λ e. Err e) p.2) (c.in_err-line.ensures.read read)
+
+pub returns-in_err-line-clause-cert_read : goal.returns-in_err-line-clause-cert_read
+returns-in_err-line-clause-cert_read g c = λ read.
+    let p = err_from_is_err_and c.from_residual.result c.from_residual.ensures.1 in
+    read_refused c.from_residual.result c.in_err-line.field-0.0 (p.1 ∙ ap (λ e. Err e) p.2) (c.in_err-line.ensures.cert_read read)

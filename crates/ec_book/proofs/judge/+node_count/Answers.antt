@@ -1,8 +1,8 @@
-use Rattle.std.proofs.Common.{ap, arith, ◌∙◌, take_all}
+use Rattle.std.proofs.Common.{◌≡◌, ap, arith, ◌∙◌, take_all}
 use Rattle.ec_loads.specs.Search.{node_count, node_counts}
 use Rattle.ec_cert.specs.Shapes.{shape_of, shapes_of}
 use Rattle.ec_cert.proofs.TreeLemmas.{shape_of-trees}
-use Rattle.ec_book.proofs.DrawLemmas.{nodes_step}
+use Rattle.ec_book.proofs.DrawLemmas.{nodes_step, shape_of-OpenLeaf}
 use Rattle.ec_book.proofs.judge.+node_count.Goals as goal
 
 pub loop-i-preserved : goal.loop-i-preserved
@@ -16,3 +16,8 @@ returns-after-loop-i t c =
     let all = ap (λ w. node_counts (shapes_of w)) (take_all c.loop-i.i ts (omega (arith, c.loop-i-test.false, c.len-i-end.ensures))) in
     let whole = ap node_count (shape_of-trees c.args.tree.now c.in-Split.trees c.as_ref-trees.result.now c.in-Split.is c.as_ref-trees.ensures) in
     omega (arith, all, whole, c.loop-i.invariant)
+
+pub returns-in-OpenLeaf : goal.returns-in-OpenLeaf
+returns-in-OpenLeaf t c =
+    let none : node_count (shape_of c.args.tree.now) ≡ 0 = ap (λ w. node_count (shape_of w)) c.in-OpenLeaf.is ∙ ap node_count shape_of-OpenLeaf in
+    omega (arith, none)

@@ -5,9 +5,21 @@ use Rattle.ec_cert.proofs.TreeLemmas.{shape_of-trees}
 use Rattle.ec_symmetry.specs.Orders.{prefix_of}
 use Rattle.ec_book.specs.Open.{leaf_places, open_places}
 use Rattle.ec_book.proofs.DrawLemmas.{shape_of-OpenLeaf}
-use Rattle.ec_book.proofs.OpenLemmas.{opened_from, opened_all, opened_first, split_opened, child_opened, opened_end, no_kids, append_none, opened_step, path_back}
+use Rattle.ec_book.proofs.OpenLemmas.{opened_from, opened_all, opened_short, opened_first, split_opened, child_opened, opened_end, no_kids, append_none, opened_step, path_back}
 use Rattle.ec_book.proofs.open.+add_open.Goals.{then-not-is_closed_leaf+in_ok-push-in-Split+in_ok-add_open-in-Split, else-not-is_closed_leaf}
 use Rattle.ec_book.proofs.open.+add_open.Goals as goal
+
+pub returns-then-len-order-clause-out : goal.returns-then-len-order-clause-out
+returns-then-len-order-clause-out t c =
+    let loads = c.args.loads.now in
+    opened_short (line_by turned_time loads.loads loads.slots) c.args.order.now c.args.tree.now c.as_ref-trees.result.now c.args.path.now.items c.args.out.now.items
+    (shape_of-trees c.args.tree.now c.in-Split.trees c.as_ref-trees.result.now c.in-Split.is c.as_ref-trees.ensures) (omega (arith, c.if-len-order.true, c.len.ensures))
+
+pub children_after-places-requires-clause-order : goal.children_after-places-requires-clause-order
+children_after-places-requires-clause-order t c = c.requires.order
+
+pub children_after-places-requires-clause-few : goal.children_after-places-requires-clause-few
+children_after-places-requires-clause-few t c = omega (arith, c.if-len-order.false, c.len.ensures, ap length c.as_slice.ensures.value)
 
 pub loop-i-init : goal.loop-i-init
 loop-i-init t c =

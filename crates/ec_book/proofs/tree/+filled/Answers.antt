@@ -1,12 +1,12 @@
 use Rattle.std.proofs.Common.{◌≡◌, ◌∙◌, ap, sym, arith, rules, ◌+◌, ◌-◌, ◌<◌, refl, length, subst, take, get_or, length-append, ◌++◌, ◌∷◌, []}
 use Rattle.ec_loads.specs.Search.{open_count, open_counts}
-use Rattle.ec_cert.specs.Shapes.{shapes_of}
+use Rattle.ec_cert.specs.Shapes.{shape_of, shapes_of}
 use Rattle.ec_cert.specs.declared.tree.Tree.{the_lemmas}
 use Rattle.ec_cert.proofs.TreeLemmas.{shape_of-trees}
 use Rattle.ec_book.specs.Numbered.{numbered, draw}
 use Rattle.ec_book.specs.Grown.{shape_at}
-use Rattle.ec_book.proofs.DrawLemmas.{shape_at-last, shape_of-OpenLeaf}
-use Rattle.ec_book.proofs.PartLemmas.{opens_all, IsPart, child_at, child_get, child_above, part-step, part-skip, part-start, part-rest, part-tree, none_taken}
+use Rattle.ec_book.proofs.DrawLemmas.{shape_at-last, shape_of-OpenLeaf, shape_of-Weights, draw-closed}
+use Rattle.ec_book.proofs.PartLemmas.{opens_all, IsPart, child_at, child_get, child_above, part-step, part-skip, part-start, part-rest, part-left, part-tree, none_taken}
 use Rattle.ec_book.proofs.tree.+filled.Goals.{then-loop-i-test+else-len-floor, else-loop-i-test}
 use Rattle.ec_book.proofs.tree.+filled.Goals as goal
 
@@ -93,3 +93,27 @@ returns-in-Some-clause-tree t c =
     rw (c.in-OpenLeaf.is, c.in-Some.ensures.items) (
     sym (ap (λ w. draw (shape_at (new ++ x ∷ [])) (numbered (length (new ++ x ∷ []) - open_count w) w)) shape_of-OpenLeaf
     ∙ ap (shape_at (new ++ x ∷ [])) len ∙ shape_at-last new x))
+
+pub returns-in-Weights-clause-tree : goal.returns-in-Weights-clause-tree
+returns-in-Weights-clause-tree t c =
+    let none : open_count (shape_of c.args.tree) ≡ 0 = ap open_count (ap shape_of c.in-Weights.is ∙ shape_of-Weights c.in-Weights.weights) in
+    ap shape_of (sym c.in-Weights.is) ∙ sym (draw-closed (shape_at c.args.built.now.items) (shape_of c.args.tree) _ none)
+
+pub returns-in_default-clause-tree : goal.returns-in_default-clause-tree
+returns-in_default-clause-tree t c = sym (draw-closed (shape_at c.args.built.now.items) (shape_of c.args.tree) _ (search (rules, the_lemmas)))
+
+pub returns-after-loop-i-clause-left : goal.returns-after-loop-i-clause-left
+returns-after-loop-i-clause-left t c =
+    let ts = c.replace-trees.result.items in
+    let ls = c.loop-i.trees.items in
+    let built0 = c.args.built.now.items in
+    let built = c.loop-i.built.items in
+    let whole = shape_of-trees c.args.tree c.in-Split.room c.replace-trees.result c.in-Split.is c.replace-trees.ensures.value in
+    let opens = opens_all c.args.tree c.replace-trees.result whole in
+    let end : IsPart ts ls built0 built 0 = elim c.loop-i-test.branch [
+      | then-loop-i-test+else-len-floor w ↦
+          let none : open_counts (shapes_of (take c.loop-i.i ts)) ≡ 0 = omega (arith, w.if-len-floor.false, w.len.ensures, c.requires, opens, c.loop-i.invariant.left) in
+          part-rest ts ls built0 built c.loop-i.i c.loop-i.invariant none (omega (arith, c.requires, opens))
+      | else-loop-i-test w ↦ let zero_is : c.loop-i.i ≡ 0 = omega (arith, w.loop-i-test.false) in subst (IsPart ts ls built0 built) zero_is c.loop-i.invariant
+    ] in
+    part-left ts ls built0 built end c.args.tree c.replace-trees.result whole refl (omega (arith, c.requires))

@@ -15,3 +15,6 @@ returns c = λ rest.
     let ticks = c.from-ticks.ensures ∙ c.ticks.ensures.value in
     average-iff c.args.value c.in-Some.value c.from-3.result c.from-ticks.result _ h (least_raw held.loads held.slots held.places h) c.in-Some.is c.from-3.ensures ticks
     (omega (arith, c.from.ensures, c.from-2.ensures, c.raw_total.ensures.value, left, ticks))
+
+pub returns-in_default : goal.returns-in_default
+returns-in_default c = λ rest. (λ yes. absurd cc, λ holds. absurd (c.in_default.not-Some holds.0 holds.1))

@@ -1,7 +1,7 @@
 use Rattle.std.proofs.Common.{◌≡◌, ◌+◌, ◌-◌, take, ap, arith, rules, ◌∙◌, take_all}
 use Rattle.ec_loads.specs.Search.{open_count, open_counts}
 use Rattle.ec_cert.specs.Shapes.{shape_of, shapes_of}
-use Rattle.ec_cert.proofs.TreeLemmas.{shape_of-trees, opens_step}
+use Rattle.ec_cert.proofs.TreeLemmas.{never, shape_of-trees, shape_of-OpenLeaf, opens_step}
 use Rattle.ec_cert.proofs.closed.+is_closed.Goals as goal
 
 pub loop-i-init : goal.loop-i-init
@@ -42,3 +42,8 @@ returns-after-loop-i t c =
     let all = ap (λ w. open_counts (shapes_of (take w ts))) end in
     let whole = ap open_count (shape_of-trees c.args.tree.now c.in-Split.trees c.as_ref-trees.result.now c.in-Split.is c.as_ref-trees.ensures) in
     (λ _. omega (arith, all, whole, c.loop-i.invariant.closed), λ _. search rules)
+
+pub returns-in-OpenLeaf : goal.returns-in-OpenLeaf
+returns-in-OpenLeaf t c =
+    let one : open_count (shape_of c.args.tree.now) ≡ 1 = ap open_count (ap shape_of c.in-OpenLeaf.is ∙ shape_of-OpenLeaf) in
+    never _ (λ none. omega (arith, one, none))

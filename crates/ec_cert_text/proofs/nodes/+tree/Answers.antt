@@ -1,4 +1,4 @@
-use Rattle.std.proofs.Common.{◌≡◌, ◌++◌, ◌∷◌, [], rules}
+use Rattle.std.proofs.Common.{◌≡◌, ◌++◌, ◌∷◌, [], map, ap, rules}
 use Rattle.std.proofs.lemmas.Result.{err_from_is_err_and}
 use Rattle.std.proofs.lemmas.List.{map_push}
 use Rattle.ec_loads.specs.Shape.{leaf, tick}
@@ -6,8 +6,9 @@ use Rattle.ec_cert.specs.declared.tree.Tree.{TickLeaf, the_lemmas}
 use Rattle.ec_cert.specs.Shapes.{shape_of}
 use Rattle.ec_cert_text.specs.Views.{at_view, tree_views}
 use Rattle.ec_cert_text.specs.Reading.{node_at, tree_at, many_from}
-use Rattle.ec_cert_text.proofs.ManyLemmas.{fails_as, goes_on, ends}
+use Rattle.ec_cert_text.proofs.ManyLemmas.{fails_as, goes_on, ends, many_begin, many_end}
 use Rattle.ec_cert_text.proofs.NodeLaws.{tree_fails}
+use Rattle.ec_cert_text.proofs.TreeLemmas.{split_fails, split_reads, tick_reads, full_reads, average_reads, weights_reads, open_reads}
 use Rattle.ec_cert_text.proofs.nodes.+tree.Goals as goal
 
 pub tree_of-returns-in_err-node : goal.tree_of-returns-in_err-node
@@ -15,6 +16,36 @@ tree_of-returns-in_err-node t c =
     let p = err_from_is_err_and c.from_residual.result c.from_residual.ensures.1 in
     let here = at_view c.args.place in
     rw (p.1, p.2) (fails_as c.in_err-node.field-0.0 (node_at c.args.version c.args.levels here) (tree_at c.args.version c.args.levels here) (tree_fails c.args.version c.args.levels here) c.in_err-node.ensures.exact)
+
+pub tree_of-returns-in_err-trees-in-Split : goal.tree_of-returns-in_err-trees-in-Split
+tree_of-returns-in_err-trees-in-Split t c =
+    let p = err_from_is_err_and c.from_residual-in_err-trees-in-Split.result c.from_residual-in_err-trees-in-Split.ensures.1 in
+    rw (p.1, p.2) (split_fails c.args.version c.args.levels c.in-Split.count (at_view c.args.place) (at_view c.in_ok-node.rest) c.in_ok-node.node c.in_err-trees-in-Split.field-0.0 c.in_ok-node.ensures.deep c.in_ok-node.ensures.exact c.in-Split.is c.in_err-trees-in-Split.ensures)
+
+pub tree_of-returns-in_ok-split_of-in-Split : goal.tree_of-returns-in_ok-split_of-in-Split
+tree_of-returns-in_ok-split_of-in-Split t c =
+    split_reads c.args.version c.args.levels c.in-Split.count (at_view c.args.place) (at_view c.in_ok-node.rest) (at_view c.in_ok-trees-in-Split.rest) c.in_ok-node.node (tree_views c.in_ok-trees-in-Split.trees.items) (shape_of c.in_ok-split_of-in-Split.field-0) c.in_ok-node.ensures.deep c.in_ok-node.ensures.exact c.in-Split.is c.in_ok-trees-in-Split.ensures c.in_ok-split_of-in-Split.ensures
+
+pub tree_of-returns-in-TickLeaf : goal.tree_of-returns-in-TickLeaf
+tree_of-returns-in-TickLeaf t c = tick_reads c.args.version c.args.levels c.in-TickLeaf.tick (at_view c.args.place) (at_view c.in_ok-node.rest) c.in_ok-node.node c.in_ok-node.ensures.deep c.in_ok-node.ensures.exact c.in-TickLeaf.is
+
+pub tree_of-returns-in-FullLeaf : goal.tree_of-returns-in-FullLeaf
+tree_of-returns-in-FullLeaf t c = full_reads c.args.version c.args.levels c.in-FullLeaf.tick c.in-FullLeaf.slot (at_view c.args.place) (at_view c.in_ok-node.rest) c.in_ok-node.node c.in_ok-node.ensures.deep c.in_ok-node.ensures.exact c.in-FullLeaf.is
+
+pub tree_of-returns-in-Average : goal.tree_of-returns-in-Average
+tree_of-returns-in-Average t c = average_reads c.args.version c.args.levels (at_view c.args.place) (at_view c.in_ok-node.rest) c.in_ok-node.node c.in_ok-node.ensures.deep c.in_ok-node.ensures.exact c.in-Average.is
+
+pub tree_of-returns-in-Weights : goal.tree_of-returns-in-Weights
+tree_of-returns-in-Weights t c = weights_reads c.args.version c.args.levels c.in-Weights.weights (at_view c.args.place) (at_view c.in_ok-node.rest) c.in_ok-node.node c.in_ok-node.ensures.deep c.in_ok-node.ensures.exact c.in-Weights.is
+
+pub tree_of-returns-in-OpenLeaf : goal.tree_of-returns-in-OpenLeaf
+tree_of-returns-in-OpenLeaf t c = open_reads c.args.version c.args.levels (at_view c.args.place) (at_view c.in_ok-node.rest) c.in_ok-node.node c.in_ok-node.ensures.deep c.in_ok-node.ensures.exact c.in-OpenLeaf.is
+
+pub trees_of-children-init : goal.trees_of-children-init
+trees_of-children-init t c = many_begin (tree_at c.args.version c.args.levels) (tree_views c.in_ok-trees.trees.items) c.args.count (at_view c.args.place) (ap (map shape_of) c.in_ok-trees.ensures.items)
+
+pub trees_of-returns : goal.trees_of-returns
+trees_of-returns t c = many_end (tree_at c.args.version c.args.levels) (tree_views c.children.trees.items) c.args.count c.children.counter (at_view c.children.rest) (many_from (tree_at c.args.version c.args.levels) c.args.count (at_view c.args.place)) c.children-test.false c.children.invariant
 
 pub trees_of-returns-in_err-tree : goal.trees_of-returns-in_err-tree
 trees_of-returns-in_err-tree t c =

@@ -1,4 +1,4 @@
-use Rattle.std.proofs.Common.{◌≡◌, ap, rules, refl}
+use Rattle.std.proofs.Common.{◌≡◌, ap, rules, refl, ◌∙◌}
 use Rattle.std.specs.List.{flat_map}
 use Rattle.ec_cert_text.specs.Text.{version_line, slots_line, unit_line, order_line}
 use Rattle.ec_cert_text.proofs.WriteLemmas.{more_as, then_as, all_then, on_ok}
@@ -61,3 +61,11 @@ returns-clause-all g c =
     let e_units : c.as_slice-units.result.now ≡ c.args.cert.now.units = search rules in
     let e_order : c.as_slice-order.result.now ≡ c.args.cert.now.order = search rules in
     on_ok c.write_tree.result _ _ (λ q. all_then e_version c.in_ok-write.ensures.all (all_then e_slots c.in_ok-write-2.ensures.all (all_then (ap (flat_map unit_line) e_units) c.in_ok-write_units.ensures.all (all_then (ap order_line e_order) c.in_ok-write_order.ensures.all (all_then refl c.in_ok-write_best.ensures.all (all_then refl c.in_ok-write_level.ensures.all q)))))) c.write_tree.ensures.all
+
+pub returns-clause-ok : goal.returns-clause-ok
+returns-clause-ok g c =
+    let first = c.in_ok-write_order.ensures.ok ∙ c.in_ok-write_units.ensures.ok ∙ c.in_ok-write-2.ensures.ok ∙ c.in_ok-write.ensures.ok in
+    on_ok c.write_tree.result _ _ (λ q. q ∙ c.in_ok-write_level.ensures.ok ∙ c.in_ok-write_best.ensures.ok ∙ first) c.write_tree.ensures.ok
+
+pub returns-clause-err : goal.returns-clause-err
+returns-clause-err g c = c.write_tree.ensures.err

@@ -1,6 +1,6 @@
 use Rattle.std.proofs.Common.{◌≡◌, rules, refl}
 use Rattle.ec_lines.specs.Output.{refused}
-use Rattle.ec_lines.specs.Refusals.{refusal_line}
+use Rattle.ec_refusals.specs.Refusals.{refusal_line}
 use Rattle.ec_jobs.proofs.RunLemmas.{tells_text}
 use Rattle.ec_jobs.proofs.job.refuse.Goals as goal
 

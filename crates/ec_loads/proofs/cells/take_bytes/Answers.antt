@@ -99,3 +99,18 @@ loop-tick-preserved c =
           omega (arith, e, inv.total, raw_at, raw_least, raw_same, fewer, c.raw_of.ensures, c.raw_of-in-loop-tick.ensures, c.from-fall.ensures);
       small = omega (arith, inv.small, most, grows, c.raw_of.ensures, c.raw_of-in-loop-tick.ensures, c.from-fall.ensures, c.requires.bytes, c.requires.phase);
     }
+
+pub returns-clause-sent : goal.returns-clause-sent
+returns-clause-sent c = λ t h on. c.loop-tick.invariant.sent t (omega arith) (omega arith) on
+
+pub returns-clause-idle : goal.returns-clause-idle
+returns-clause-idle c = λ t h off. c.loop-tick.invariant.idle t (omega arith) off
+
+pub returns-clause-slots : goal.returns-clause-slots
+returns-clause-slots c = c.loop-tick.invariant.slots
+
+pub returns-clause-costs : goal.returns-clause-costs
+returns-clause-costs c = λ t h. c.loop-tick.invariant.costs t (omega arith)
+
+pub returns-clause-raws : goal.returns-clause-raws
+returns-clause-raws c = λ t h. c.loop-tick.invariant.raws t (omega arith)

@@ -1,7 +1,6 @@
-use Rattle.std.proofs.Common.{◌≡◌, ℕ, ◌+◌, ◌*◌, ◌<◌, ◌≤◌, length, slice_index, ap, ◌∙◌, arith}
+use Rattle.std.proofs.Common.{◌+◌, ◌*◌, ◌<◌, ◌≤◌, length, slice_index, ◌∙◌, arith, subst, min, Some, None}
 use Rattle.std.proofs.Math.Nat.{add-mod_right}
-use Rattle.ec_loads.specs.Table.{cell_cost}
-use Rattle.ec_loads.specs.Excess.{cell_at}
+use Rattle.ec_loads.specs.Excess.{cell_at, IsFirstRaised}
 use Rattle.ec_loads.proofs.CellLemmas.{cell_cost-le}
 use Rattle.ec_loads.proofs.ExcessLemmas.{next_tick, raised_step, raised_end}
 use Rattle.ec_loads.proofs.excess.first_excess.Goals as goal
@@ -33,3 +32,24 @@ loop-tick-preserved c =
       found = raised_step cells costs (length costs) p f s b c.args.value k _ c.loop-tick.found c.first_of-found.result below (omega (arith, c.requires.phase)) inv.turn inv.found
           (omega (arith, within, c.cost_of.ensures, c.cost_of-in-loop-tick.ensures)) c.first_of-found.ensures.kept c.first_of-found.ensures.reached c.first_of-found.ensures.below;
     }
+
+pub returns-then-new-gt-MOST_PAYLOAD : goal.returns-then-new-gt-MOST_PAYLOAD
+returns-then-new-gt-MOST_PAYLOAD c =
+    let inv = c.loop-tick.invariant in
+    (c.loop-tick-test.true, inv.turn, c.if-new-gt-MOST_PAYLOAD.true, λ i low on. inv.fits i (omega arith) low on)
+
+pub returns-in-Some : goal.returns-in-Some
+returns-in-Some c =
+    let k = c.args.change in
+    let inv = c.loop-tick.invariant in
+    let h = length c.args.costs.now in
+    let found = subst (IsFirstRaised c.args.cells.now c.args.costs.now (min c.loop-tick.tick h) k.period k.phase k.slot k.bytes c.args.value) c.in-Some.is inv.found in
+    raised_end c.args.cells.now c.args.costs.now h k.period k.phase k.slot k.bytes c.args.value c.loop-tick.tick (Some c.in-Some.tick) c.loop-tick-test.false inv.fits found
+
+pub returns-in-None : goal.returns-in-None
+returns-in-None c =
+    let k = c.args.change in
+    let inv = c.loop-tick.invariant in
+    let h = length c.args.costs.now in
+    let found = subst (IsFirstRaised c.args.cells.now c.args.costs.now (min c.loop-tick.tick h) k.period k.phase k.slot k.bytes c.args.value) c.in-None.is inv.found in
+    raised_end c.args.cells.now c.args.costs.now h k.period k.phase k.slot k.bytes c.args.value c.loop-tick.tick None c.loop-tick-test.false inv.fits found

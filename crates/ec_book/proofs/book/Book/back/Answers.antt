@@ -1,13 +1,19 @@
-use Rattle.std.proofs.Common.{arith, refl, rules}
+use Rattle.std.proofs.Common.{arith, refl, set}
 use Rattle.ec_loads.specs.Line.{turned_time, line_by}
 use Rattle.ec_cert.specs.Shapes.{shape_of}
 use Rattle.ec_book.specs.declared.piece.Piece.TheVariants.{Free, Taken}
 use Rattle.ec_cert.specs.BestPlan.{value_of}
 use Rattle.ec_book.specs.Steps.{start}
+use Rattle.ec_book.specs.Views.{book_view}
 use Rattle.ec_book.proofs.HistoryLemmas.{granted-le, taken-le}
 use Rattle.ec_book.proofs.PieceLemmas.{within}
 use Rattle.ec_book.proofs.KeepLemmas.{counted-back, grown-set}
 use Rattle.ec_book.proofs.book.Book.back.Goals as goal
+
+pub returns-in-Err-clause-err : goal.returns-in-Err-clause-err
+returns-in-Err-clause-err c =
+    let fault = rw c.as_slice.ensures.value at c.in-Err.ensures.err in
+    rw (← c.self.view_is) (fault, refl)
 
 pub push_reserved-requires : goal.push_reserved-requires
 push_reserved-requires c =
@@ -49,4 +55,11 @@ invariant_of-self c =
     })
 
 pub returns-clause-ok : goal.returns-clause-ok
-returns-clause-ok c = search rules
+returns-clause-ok c =
+    let b = c.self.inside in
+    rw (← c.self.view_is) (λ j. book_view b.loads.loads b.loads.slots b.order.items b.nodes (set b.pieces.items c.args.piece Free) b.prefixes.items b.best b.spent (c.push_reserved.ensures.items j) (shape_of b.given) b.given_value)
+
+pub returns-clause-held : goal.returns-clause-held
+returns-clause-held c =
+    let at = rw c.as_slice.ensures.value at c.in-Ok.ensures.ok in
+    rw (← c.self.view_is) (c.in-Ok.grant, at)

@@ -1,10 +1,11 @@
-use Rattle.std.proofs.Common.{◌≡◌, ◌<◌, ◌+◌, ◌-◌, arith, refl, vec_capacity, slice_get, Some}
+use Rattle.std.proofs.Common.{◌≡◌, ◌<◌, ◌+◌, ◌-◌, arith, refl, sym, ◌∙◌, vec_capacity, slice_get, Some, rules}
+use Rattle.std.proofs.lemmas.Option.{slice_get_read, slice_get_within}
 use Rattle.ec_loads.specs.Line.{turned_time, line_by}
 use Rattle.ec_cert.specs.Shapes.{shape_of}
 use Rattle.ec_book.specs.declared.piece.Piece.TheVariants.{Free, Taken}
 use Rattle.ec_cert.specs.BestPlan.{value_of}
 use Rattle.ec_book.specs.Steps.{start, granted}
-use Rattle.ec_book.proofs.KeepLemmas.{counted-took, grown-set}
+use Rattle.ec_book.proofs.KeepLemmas.{reached_at, counted-took, grown-set}
 use Rattle.ec_book.proofs.book.Book.hand_out.Goals as goal
 
 pub invariant_of-self-2 : goal.invariant_of-self-2
@@ -27,3 +28,23 @@ invariant_of-self-2 c =
           (omega (arith, c.in-Ok-reserve.ensures.ok, c.in-Some.ensures.1, c.push_reserved.ensures.capacity, c.reserve.ensures.len, b.log.ok.0));
       grown = grown-set (shape_of b.given) (line_by turned_time b.loads.loads b.loads.slots) b.order.items b.pieces.items b.prefixes.items b.reports.items (value_of b.best) b.spent inv.grown p Free (Taken c.args.worker g) at refl;
     })
+
+pub returns-clause-ok : goal.returns-clause-ok
+returns-clause-ok c =
+    let b = c.self.inside in
+    let grown = c.self.invariant.grown in
+    let free : slice_get b.pieces.items c.args.at ≡ Some Free = rw (← c.self.view_is) at c.requires.free in
+    let same : c.new.result ≡ c.index.result.now = c.new.ensures ∙ c.in-Ok.ensures.items ∙ c.as_slice.ensures in
+    let place : slice_get b.prefixes.items c.args.at ≡ Some c.new.result =
+    slice_get_read b.prefixes.items _ c.args.at c.new.result (sym grown.each) (slice_get_within b.pieces.items c.args.at Free free) (rw same c.index.ensures) in (
+      refl,
+      record {
+        free = c.requires.free;
+        place = rw (← c.self.view_is) place;
+        reached = rw (← c.self.view_is) (reached_at (line_by turned_time b.loads.loads b.loads.slots) b.order.items b.prefixes.items c.args.at c.new.result place grown.reached);
+        value = search rules;
+        grant = search rules;
+        some = search rules;
+        book = search rules;
+      },
+    )

@@ -1,10 +1,11 @@
-use Rattle.std.proofs.Common.{◌≡◌, ◌++◌, ◌∷◌, [], arith, refl, ◌∙◌, set, replicate, drop, ◌≤◌, ◌<◌, length}
+use Rattle.std.proofs.Common.{◌≡◌, ◌+◌, ap, ◌++◌, ◌∷◌, [], arith, refl, ◌∙◌, set, replicate, drop, ◌≤◌, ◌<◌, length}
 use Rattle.ec_loads.specs.Line.{turned_time, line_by}
 use Rattle.ec_loads.specs.Search.{node_count, IsPartialTree}
 use Rattle.ec_cert.specs.Shapes.{shape_of}
 use Rattle.ec_book.specs.declared.piece.Piece.TheVariants.{Free, Taken, Ended}
 use Rattle.ec_symmetry.specs.Orders.{prefix_of}
-use Rattle.ec_book.specs.Open.{AreOpened}
+use Rattle.ec_book.specs.Open.{AreOpened, open_places}
+use Rattle.ec_book.specs.declared.step.Step.TheVariants.{Reported}
 use Rattle.ec_cert.specs.BestPlan.{value_of}
 use Rattle.ec_book.specs.Steps.{start}
 use Rattle.ec_book.specs.Views.{book_view}
@@ -14,6 +15,9 @@ use Rattle.ec_book.proofs.PieceLemmas.{within}
 use Rattle.ec_book.proofs.KeepLemmas.{counted-report, grown-report}
 use Rattle.ec_book.proofs.OpenLemmas.{added}
 use Rattle.ec_book.proofs.book.Book.report_counted.Goals as goal
+
+pub judged-requires : goal.judged-requires
+judged-requires c = rw (c.as_slice-pieces.ensures.value, c.as_slice-prefixes.ensures.value) (record { each = c.self.invariant.grown.each })
 
 pub returns-in-Err-clause-err : goal.returns-in-Err-clause-err
 returns-in-Err-clause-err c =
@@ -115,3 +119,28 @@ invariant_of-self-2 c =
           grown-report (shape_of b.given) line order b.pieces.items b.prefixes.items b.reports.items (value_of b.best) b.spent inv.grown p c.args.worker g k count q sub.threshold sub.tree
           c.add_free.new.pieces.items c.add_opened.new.prefixes.items c.push_reserved-2.new.self.items welcome.held welcome.place welcome.ahead partial c.in-Ok.ensures.nodes more.0 pieces_are more.1 reports_are;
     })
+
+pub returns-clause-welcome : goal.returns-clause-welcome
+returns-clause-welcome c =
+    let b = c.self.inside in
+    let sub = c.args.counted.sub in
+    let welcome : IsWelcome b.pieces.items b.prefixes.items (value_of b.best) c.args.worker c.args.piece c.args.prefix.now sub.threshold (node_count (shape_of sub.tree)) c.in-Ok.grant =
+    rw (c.as_slice-pieces.ensures.value, c.as_slice-prefixes.ensures.value, c.value_in-value.ensures) at c.in-Ok.ensures.ok in
+    rw (← c.self.view_is) (c.in-Ok.grant, welcome)
+
+pub returns-clause-ok : goal.returns-clause-ok
+returns-clause-ok c =
+    let b = c.self.inside in
+    let sub = c.args.counted.sub in
+    let line = line_by turned_time b.loads.loads b.loads.slots in
+    let order = b.order.items in
+    let p = c.args.piece in
+    let count = c.in-Ok-add_opened.count in
+    let first_is : c.len-first.result ≡ length b.pieces.items = omega (arith, c.len-first.ensures, b.pieces.ok.0) in
+    let known : AreOpened line order (shape_of sub.tree) c.args.prefix.now c.args.counted.opened = rw (← c.self.view_is) at c.requires.opened in
+    let more = added line order (shape_of sub.tree) c.args.prefix.now c.args.counted.opened count b.prefixes.items c.add_opened.new.prefixes.items known c.in-Ok-add_opened.ensures.known in
+    let pieces_are : c.add_free.new.pieces.items ≡ set b.pieces.items p Ended ++ replicate count Free =
+    c.add_free.ensures ∙ (λ j. set (c.add_opened.ensures.same.0 j) p Ended ++ replicate count Free) in
+    let log_is : c.push_reserved.new.self.items ≡ b.log.items ++ (Reported c.args.worker p (node_count (shape_of sub.tree)) (length b.pieces.items) (length (open_places line order (shape_of sub.tree) c.args.prefix.now))) ∷ [] =
+    c.push_reserved.ensures.items ∙ (λ j. b.log.items ++ (Reported c.args.worker p (c.in-Ok.ensures.nodes j) (first_is j) (more.0 j)) ∷ []) in
+    rw (← c.self.view_is) (λ j. book_view b.loads.loads b.loads.slots order b.nodes ((pieces_are ∙ ap (λ n. set b.pieces.items p Ended ++ replicate n Free) more.0) j) (more.1 j) b.best (b.spent + c.in-Ok.ensures.nodes j) (log_is j) (shape_of b.given) b.given_value)

@@ -1,5 +1,4 @@
-use Rattle.std.proofs.Common.{◌≡◌, [], ap, ◌∙◌, arith, replicate}
-use Rattle.std.proofs.lemmas.Grind.{common_steps}
+use Rattle.std.proofs.Common.{◌≡◌, [], length, ap, ◌∙◌, arith, replicate}
 use Rattle.ec_units.specs.Load.{loads_of}
 use Rattle.ec_loads.specs.Line.{turned_time, line_by, line_of}
 use Rattle.ec_loads.specs.Search.{open_count}
@@ -8,8 +7,15 @@ use Rattle.ec_cert.specs.Shapes.{shape_of}
 use Rattle.ec_book.specs.declared.piece.Piece.TheVariants.{Free}
 use Rattle.ec_book.specs.Open.{open_places}
 use Rattle.ec_book.specs.Views.{book_view}
-use Rattle.ec_book.proofs.GivenLemmas.{pieces-are, kept-given}
+use Rattle.ec_book.proofs.GivenLemmas.{order-given, pieces-are, kept-given}
 use Rattle.ec_book.proofs.book.Book.resume.Goals as goal
+
+pub opened_by-requires-clause-order : goal.opened_by-requires-clause-order
+opened_by-requires-clause-order c =
+    order-given c.args.units.now.units c.args.units.now.slots c.in_ok-loads.loads _ c.args.cert.now.order c.requires.order c.in_ok-loads.ensures (c.as_slice-2.ensures.value ∙ c.in_ok-order.ensures.items ∙ c.as_slice.ensures)
+
+pub add_free-requires : goal.add_free-requires
+add_free-requires c = omega (arith, c.in_ok-pieces.ensures.capacity, ap length c.in_ok-pieces.ensures.items, c.len.ensures, c.len-2.ensures)
 
 pub invariant_of-result : goal.invariant_of-result
 invariant_of-result c =
@@ -23,7 +29,7 @@ invariant_of-result c =
     c.in_ok-prefixes.ensures ∙ (λ j. open_places (line_of turned_time (c.in_ok-loads.ensures j)) ((c.as_slice-2.ensures.value ∙ order_is) j) (given_is j) []) in
     let free = pieces-are (shape_of cert.tree) line cert.order (value_of cert.best) c.requires.tree _ _ c.in_ok-prefixes.prefixes.items _ c.add_free.ensures c.in_ok-pieces.ensures.items opened in
     let pieces_is : c.add_free.new.pieces.items ≡ replicate (open_count (shape_of cert.tree)) Free =
-    free (grind (arith, common_steps)) in
+    free (omega (arith, c.len-2.ensures, c.in_ok-prefixes.prefixes.ok.0)) in
     rw (order_is, given_is, c.value_in-given_value.ensures, c.in_ok-best.ensures) (
     kept-given us n cert.order cert.best (shape_of cert.tree) c.args.nodes c.requires.order c.requires.best c.requires.tree
     c.in_ok-loads.loads c.add_free.new.pieces.items c.in_ok-prefixes.prefixes.items c.new-2.result.items c.new-3.result.items _
@@ -41,6 +47,6 @@ returns c =
     c.in_ok-prefixes.ensures ∙ (λ j. open_places (line_of turned_time (c.in_ok-loads.ensures j)) ((c.as_slice-2.ensures.value ∙ order_is) j) (given_is j) []) in
     let free = pieces-are (shape_of cert.tree) line cert.order (value_of cert.best) c.requires.tree _ _ c.in_ok-prefixes.prefixes.items _ c.add_free.ensures c.in_ok-pieces.ensures.items opened in
     let pieces_is : c.add_free.new.pieces.items ≡ replicate (open_count (shape_of cert.tree)) Free =
-    free (grind (arith, common_steps)) in
+    free (omega (arith, c.len-2.ensures, c.in_ok-prefixes.prefixes.ok.0)) in
     let value_is = c.value_in-given_value.ensures ∙ ap value_of c.in_ok-best.ensures in
     λ j. book_view (c.in_ok-loads.ensures j).loads (c.in_ok-loads.ensures j).slots (order_is j) c.args.nodes (pieces_is j) (opened j) (c.in_ok-best.ensures j) 0 (c.new-3.ensures.items j) (given_is j) (value_is j)

@@ -1,4 +1,4 @@
-use Rattle.std.proofs.Common.{reverse, ◌<◌, ◌≤◌, length, set, Some, None, arith, sym, subst, ◌∙◌}
+use Rattle.std.proofs.Common.{rules, reverse, ◌<◌, ◌≤◌, length, set, Some, None, arith, sym, subst, ◌∙◌}
 use Rattle.std.proofs.lemmas.List.{length-set}
 use Rattle.std.proofs.lemmas.Option.{get_or_from_slice_get}
 use Rattle.ec_loads.specs.Cost.{item, items}
@@ -67,3 +67,6 @@ invariant_of-self c =
             kept = kept-push s.loads.items s.slots (length s.table.costs.items) s.places.items c.args.place (record { unit = c.args.unit; payload = s.table.payload; cost = s.table.cost }) (reverse s.table.marks.items) _ (get_or_from_slice_get s.places.items c.args.unit None None free) (most-held xs s.slots (length s.table.costs.items) s.table.counts.items s.table.cells.items s.table.costs.items s.table.raws.items s.table.total s.table.payload s.table.cost inv.table) inv.kept c.push_mark.ensures;
           })
     ]
+
+pub returns : goal.returns
+returns c = search rules

@@ -1,4 +1,6 @@
-use Rattle.std.proofs.Common.{rules}
+use Rattle.std.proofs.Common.{rules, subst}
+use Rattle.std.proofs.lemmas.List.{take_all}
+use Rattle.std.specs.Io.KnownBytes.{Appends}
 use Rattle.ec_wire.proofs.Bytes.{written_more}
 use Rattle.ec_wire.proofs.io.Io.write_whole.Goals as goal
 
@@ -9,3 +11,6 @@ loop-at-preserved g c = record {
   failed = search rules;
   taken = search rules;
 }
+
+pub returns-clause-all : goal.returns-clause-all
+returns-clause-all g c = subst (Appends _ _) (take_all _ _ (search rules)) c.loop-at.invariant.written
