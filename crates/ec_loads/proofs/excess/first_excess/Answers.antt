@@ -33,11 +33,6 @@ loop-tick-preserved c =
           (omega (arith, within, c.cost_of.ensures, c.cost_of-in-loop-tick.ensures)) c.first_of-found.ensures.kept c.first_of-found.ensures.reached c.first_of-found.ensures.below;
     }
 
-pub returns-then-new-gt-MOST_PAYLOAD : goal.returns-then-new-gt-MOST_PAYLOAD
-returns-then-new-gt-MOST_PAYLOAD c =
-    let inv = c.loop-tick.invariant in
-    (c.loop-tick-test.true, inv.turn, c.if-new-gt-MOST_PAYLOAD.true, λ i low on. inv.fits i (omega arith) low on)
-
 pub returns-in-Some : goal.returns-in-Some
 returns-in-Some c =
     let k = c.args.change in
