@@ -5,7 +5,7 @@
 use Rattle.std.proofs.Common.{◌≡◌, ℕ, List, Option, Some, None, Result, Ok, Err, refl, ap, sym, subst, inl, inr, append-nil, arith}
 use Rattle.std.specs.Prelude.{◌⊎◌, IfSome, IfOk, IfErr}
 use Rattle.ec_units.specs.declared.units.Units.{Units}
-use Rattle.ec_workers.specs.declared.outcome.Outcome.{Outcome}
+use Rattle.ec_outcome.specs.declared.search.Outcome.{Outcome}
 use Rattle.ec_lines.specs.declared.answer.Answer.{Answer}
 use Rattle.ec_refusals.specs.declared.refusal.Refusal.{Refusal}
 use Rattle.ec_lines.specs.Output.{shown, written_of}
@@ -20,8 +20,8 @@ use Rattle.ec_cert.specs.declared.order.Order.{Order}
 use Rattle.ec_cert.specs.declared.tree.Tree.{Tree}
 use Rattle.ec_cert.specs.Shapes.{shape_of}
 use Rattle.ec_units.specs.declared.unit.Unit.{Unit as SyncUnit}
-use Rattle.ec_workers.specs.declared.outcome.Cut.{Cut}
-use Rattle.ec_workers.specs.declared.outcome.Outcome.TheVariants as outcome
+use Rattle.ec_outcome.specs.declared.search.Cut.{Cut}
+use Rattle.ec_outcome.specs.declared.search.Outcome.TheVariants as outcome
 use Rattle.ec_workers.specs.Answers.{Asked, IsOutcome, IsUnproved}
 
 -- what is answered where there is an outcome, and where there is none

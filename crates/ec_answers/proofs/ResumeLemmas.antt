@@ -24,8 +24,8 @@ use Rattle.ec_checker.specs.declared.fault.Verdict.TheVariants as verdict
 use Rattle.ec_checker.specs.Certified.{IsCertified, IsAnswer, verdict_of}
 use Rattle.ec_checker.specs.Laws.{FaultsRefute}
 use Rattle.ec_checker.proofs.CheckLemmas.{claim_from}
-use Rattle.ec_workers.specs.declared.outcome.Outcome.{Outcome}
-use Rattle.ec_workers.specs.declared.outcome.Outcome.TheVariants as outcome
+use Rattle.ec_outcome.specs.declared.search.Outcome.{Outcome}
+use Rattle.ec_outcome.specs.declared.search.Outcome.TheVariants as outcome
 use Rattle.ec_workers.specs.Answers.{Asked, asked_beyond, IsOutcome, HasOrder}
 use Rattle.ec_workers.specs.Outcomes.{Shows, IsOptimal, IsWithoutPlan}
 use Rattle.ec_lines.specs.declared.answer.Answer.{Answer}

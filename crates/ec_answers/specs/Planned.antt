@@ -13,9 +13,9 @@ use Rattle.ec_cert_text.specs.Text.{certificate_text}
 use Rattle.ec_cert_text.specs.declared.fault.CertFault.{CertFault}
 use Rattle.ec_checker.specs.Certified.{IsCertified, IsFaultOf}
 use Rattle.ec_checker.specs.declared.fault.CheckFault.{CheckFault}
-use Rattle.ec_workers.specs.declared.outcome.Outcome.{Outcome}
-use Rattle.ec_workers.specs.declared.outcome.Outcome.TheVariants as outcome
-use Rattle.ec_workers.specs.declared.outcome.SolveFault.{SolveFault}
+use Rattle.ec_outcome.specs.declared.search.Outcome.{Outcome}
+use Rattle.ec_outcome.specs.declared.search.Outcome.TheVariants as outcome
+use Rattle.ec_outcome.specs.declared.search.SolveFault.{SolveFault}
 use Rattle.ec_workers.specs.Answers.{Asked, asked_beyond, IsOutcome, IsSolveFault, HasOrder}
 use Rattle.ec_workers.specs.Outcomes.{partial_for}
 use Rattle.ec_lines.specs.declared.answer.Answer.{Answer}

@@ -8,9 +8,9 @@ ghost use Rattle.ec_frame_lines.specs.Lines.{zeros};
 ghost use Rattle.ec_frame_lines.specs.Captures.{four_bytes, file_header, frame_record, frame_records, tick_records, capture};
 
 use crate::lines::blank;
-use crate::ticks::TextFault;
 use ec_fmmu::Mapping;
 use ec_frames::Frame;
+use ec_outcome::TextFault;
 use ec_player::tick_frames;
 use ec_units::Units;
 use ec_wire::{frame_wire, ns_of};

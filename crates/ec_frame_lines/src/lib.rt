@@ -9,6 +9,6 @@ mod stations;
 mod ticks;
 
 pub use capture::capture_of;
+pub use ec_outcome::TextFault;
 pub use lines::{blank, frames_text};
 pub use stations::stations_of;
-pub use ticks::TextFault;

@@ -7,8 +7,9 @@ ghost use Rattle.ec_player.specs.Frames.{HasLayout};
 ghost use Rattle.ec_frame_lines.specs.Lines.{zeros, tick_lines, frames_text as text_of};
 
 use crate::stations::{push_fmmus, stations_of};
-use crate::ticks::{TextFault, push_tick};
+use crate::ticks::push_tick;
 use ec_fmmu::Mapping;
+use ec_outcome::TextFault;
 use ec_units::Units;
 use std::alloc::{AllocError, Global};
 

@@ -7,26 +7,12 @@ ghost use Rattle.ec_frame_lines.specs.Lines.{frame_line, frame_lines, zeros, slo
 use crate::hex::push_hex;
 use ec_fmmu::Mapping;
 use ec_frames::Frame;
+use ec_outcome::TextFault;
 use ec_player::{busy_slots, tick_frames};
 use ec_units::Units;
 use ec_wire::frame_wire;
 use std::alloc::{AllocError, Global};
 use std::fmt::Write;
-
-/// Over what memory ran out.
-#[derive(Clone, Copy, Debug, PartialEq, Eq)]
-pub enum TextFault {
-    /// The image of zeros, or the frames of a tick.
-    Frames,
-    /// The text, or the bytes of the capture file.
-    Text,
-}
-
-impl From<AllocError> for TextFault {
-    fn from(_error: AllocError) -> TextFault {
-        TextFault::Text
-    }
-}
 
 /// Adds the line of a frame.
 fn push_frame(text: &mut String, tick: u32, slot: u8, frame: &[u8]) -> Result<(), AllocError>

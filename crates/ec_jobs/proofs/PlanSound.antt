@@ -21,8 +21,8 @@ use Rattle.ec_symmetry.specs.Orders.{IsOrder}
 use Rattle.ec_tree.specs.Trees.{LevelsBound}
 use Rattle.ec_checker.specs.Levels.{IsGreatestLevel}
 use Rattle.ec_workers.specs.Answers.{Asked, asked_beyond, IsOutcome}
-use Rattle.ec_workers.specs.declared.outcome.Outcome.{Outcome}
-use Rattle.ec_workers.specs.declared.outcome.Outcome.TheVariants as outcome
+use Rattle.ec_outcome.specs.declared.search.Outcome.{Outcome}
+use Rattle.ec_outcome.specs.declared.search.Outcome.TheVariants as outcome
 use Rattle.ec_refusals.specs.declared.refusal.Refusal.{Refusal}
 use Rattle.ec_lines.specs.Outcomes.{outcome_output, optimal_text, unproved_text, IsLevelOf}
 use Rattle.ec_lines.specs.Output.{Written, refused}

@@ -14,7 +14,7 @@ use Rattle.ec_cert.specs.Shapes.{CertView}
 use Rattle.ec_cert_text.specs.Text.{certificate_text}
 use Rattle.ec_checker.specs.declared.fault.Verdict.{Verdict}
 use Rattle.ec_checker.specs.declared.fault.Verdict.TheVariants as verdict
-use Rattle.ec_workers.specs.declared.outcome.Cut.{Cut}
+use Rattle.ec_outcome.specs.declared.search.Cut.{Cut}
 use Rattle.ec_workers.specs.Answers.{Asked}
 use Rattle.ec_workers.specs.Outcomes.{Shows}
 use Rattle.ec_answers.specs.Planned.{IsPlanWritten, IsResumeWritten}

@@ -4,8 +4,8 @@ use Rattle.std.specs.List.{flat_map, range_with_len}
 use Rattle.std.specs.Fmt.{decimal}
 use Rattle.ec_units.specs.declared.slave.Place.{Place}
 use Rattle.ec_units.specs.declared.unit.Unit.{Unit as SyncUnit}
-use Rattle.ec_workers.specs.declared.outcome.Cut.{Cut}
-use Rattle.ec_workers.specs.declared.outcome.Cut.TheVariants as cut
+use Rattle.ec_outcome.specs.declared.search.Cut.{Cut}
+use Rattle.ec_outcome.specs.declared.search.Cut.TheVariants as cut
 
 abbrev pub hyperperiod_line : ℕ → List ℕ
 hyperperiod_line h = codes "hyperperiod " ++ (decimal h ++ codes "\n")

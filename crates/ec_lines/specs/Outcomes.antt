@@ -8,9 +8,9 @@ use Rattle.ec_cert.specs.declared.cert.Best.{Best}
 use Rattle.ec_cert.specs.BestPlan.{value_of}
 use Rattle.ec_cert.specs.Shapes.{shape_of}
 use Rattle.ec_checker.specs.Levels.{IsGreatestLevel}
-use Rattle.ec_workers.specs.declared.outcome.Cut.{Cut}
-use Rattle.ec_workers.specs.declared.outcome.Outcome.{Outcome}
-use Rattle.ec_workers.specs.declared.outcome.Outcome.TheVariants as outcome
+use Rattle.ec_outcome.specs.declared.search.Cut.{Cut}
+use Rattle.ec_outcome.specs.declared.search.Outcome.{Outcome}
+use Rattle.ec_outcome.specs.declared.search.Outcome.TheVariants as outcome
 use Rattle.ec_lines.specs.Lines.{optimal_line, no_plan_line, unproved_line, cut_line, level_lines, unit_lines}
 use Rattle.ec_lines.specs.Output.{Written, done}
 

@@ -16,7 +16,7 @@ use crate::cost::plan_of;
 use ec_fmmu::layout;
 use ec_frame_lines::{capture_of, frames_text};
 use ec_loads::{Plan, is_legal};
-use ec_play::PlayFault;
+use ec_outcome::PlayFault;
 use ec_refusals::Refusal;
 use ec_units::Units;
 use std::alloc::Global;

@@ -8,8 +8,8 @@ ghost use Rattle.ec_lines.specs.Output.{shown};
 use crate::answer::Answer;
 use ec_cert::Best;
 use ec_loads::Plan;
+use ec_outcome::{Cut, Outcome};
 use ec_units::{Place, Units};
-use ec_workers::{Cut, Outcome};
 use std::alloc::{AllocError, Global};
 use std::fmt::Write;
 

@@ -12,7 +12,7 @@ ghost use Rattle.ec_command.specs.declared.job.Job.TheVariants.{Play};
 use crate::answer::Answer;
 use ec_fmmu::layout;
 use ec_loads::Plan;
-use ec_play::PlayFault;
+use ec_outcome::PlayFault;
 use ec_play_lines::{played_text, played_together};
 use ec_refusals::Refusal;
 use ec_units::Units;

@@ -3,7 +3,7 @@ use Rattle.std.proofs.Common.{◌≡◌, ℕ, suc, ◌+◌, List, [], ◌∷◌,
 use Rattle.std.proofs.lemmas.List.{length-map, map-append}
 use Rattle.ec_slave.specs.Journey.{through, passed, journey, arrived}
 use Rattle.ec_slave.specs.Logical.{first_of}
-use Rattle.ec_play.specs.declared.faults.PlayFault.{PlayFault}
+use Rattle.ec_outcome.specs.declared.play.PlayFault.{PlayFault}
 use Rattle.ec_play.specs.Sent.{Sent}
 use Rattle.ec_play.specs.Faults.{fault_of, first_fault}
 use Rattle.ec_play.specs.Lines.{bytes_of, came_back, slaves_after, AreRight}

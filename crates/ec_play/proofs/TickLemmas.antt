@@ -15,7 +15,7 @@ use Rattle.ec_slave.specs.Logical.{first_of}
 use Rattle.ec_player.specs.Frames.{IsLayoutFor, carries, slot_frame, sent, sent_byte}
 use Rattle.ec_player.proofs.FrameLemmas.{range-one, tick-wire}
 use Rattle.ec_player.proofs.WithinLemmas.{groups-within}
-use Rattle.ec_play.specs.declared.faults.PlayFault.{PlayFault}
+use Rattle.ec_outcome.specs.declared.play.PlayFault.{PlayFault}
 use Rattle.ec_play.specs.declared.rows.TickRow.{TickRow}
 use Rattle.ec_play.specs.Sent.{Sent, slot_sent, tick_sents, ticks_sents}
 use Rattle.ec_play.specs.Faults.{entries_of, first_fault}

@@ -9,8 +9,8 @@ use Rattle.ec_slave.specs.Step.{is_raised}
 use Rattle.ec_slave.specs.Logical.{first_of}
 use Rattle.ec_play.specs.declared.faults.Stage.{Stage}
 use Rattle.ec_play.specs.declared.faults.Stage.TheVariants as stage
-use Rattle.ec_play.specs.declared.faults.PlayFault.{PlayFault}
-use Rattle.ec_play.specs.declared.faults.PlayFault.TheVariants as fault
+use Rattle.ec_outcome.specs.declared.play.PlayFault.{PlayFault}
+use Rattle.ec_outcome.specs.declared.play.PlayFault.TheVariants as fault
 use Rattle.ec_play.specs.declared.faults.Wrong.{Wrong}
 use Rattle.ec_play.specs.Sent.{Sent}
 

@@ -1,8 +1,8 @@
 -- Frames that are sent through slaves in a line, one after the other.
 use Rattle.std.specs.Prelude.{◌≡◌, ℕ, List, map, None}
 use Rattle.ec_slave.specs.Journey.{journey, arrived}
-use Rattle.ec_play.specs.declared.faults.PlayFault.{PlayFault}
-use Rattle.ec_play.specs.declared.faults.PlayFault.TheVariants as fault
+use Rattle.ec_outcome.specs.declared.play.PlayFault.{PlayFault}
+use Rattle.ec_outcome.specs.declared.play.PlayFault.TheVariants as fault
 use Rattle.ec_play.specs.Sent.{Sent}
 use Rattle.ec_play.specs.Faults.{first_fault}
 

@@ -3,7 +3,7 @@ use Rattle.std.specs.Prelude.{◌≡◌, ◌⊎◌, ℕ, List, length, Some, Res
 use Rattle.ec_units.specs.declared.units.Units.{Units}
 use Rattle.ec_fmmu.specs.declared.mapping.Mapping.{Mapping}
 use Rattle.ec_player.specs.Start.{starts_of}
-use Rattle.ec_play.specs.declared.faults.PlayFault.{PlayFault}
+use Rattle.ec_outcome.specs.declared.play.PlayFault.{PlayFault}
 use Rattle.ec_play.specs.declared.playing.Played.{Played}
 use Rattle.ec_play.specs.Sent.{start_sents, ticks_sents, all_sents}
 use Rattle.ec_play.specs.Faults.{first_fault}

@@ -6,10 +6,10 @@ ghost use Rattle.ec_play.specs.Faults.{fault_of, first_fault};
 ghost use Rattle.ec_play.specs.Lines.{came_back, slaves_after, AreRight, IsMemory};
 ghost use Rattle.ec_play.specs.Trips.{sent_in};
 
-use crate::faults::PlayFault;
 use crate::judging::judge;
 use crate::trips::{Trip, copy_of};
 use ec_frames::Frame;
+use ec_outcome::PlayFault;
 use ec_slave::Pass;
 use std::alloc::Global;
 

@@ -9,8 +9,9 @@ ghost use Rattle.ec_slave.specs.Step.{extent};
 ghost use Rattle.ec_play.specs.Sent.{Sent};
 ghost use Rattle.ec_play.specs.Faults.{is_open as is_open_in, may_change as may_change_in, is_reply_of, is_reply as is_reply_in, first_wrong as first_wrong_in, wrong_fault as wrong_fault_of, fault_of};
 
-use crate::faults::{PlayFault, Stage, Wrong};
+use crate::faults::{Stage, Wrong};
 use ec_frames::{AddressKind, FrameFault, Parsed, View, address_kind, datagrams, parse};
+use ec_outcome::PlayFault;
 
 /// What a frame is read as.
 pub(crate) fn read(frame: &[u8]) -> Result<Parsed<'_>, FrameFault>

@@ -10,7 +10,8 @@ mod playing;
 mod rows;
 mod trips;
 
-pub use faults::{PlayFault, Stage, Wrong};
+pub use ec_outcome::PlayFault;
+pub use faults::{Stage, Wrong};
 pub use images::{bring, image_of};
 pub use journeys::judge_trip;
 pub use playing::{Played, play_plain, row_of};

@@ -16,7 +16,6 @@ ghost use Rattle.ec_play.specs.Trips.{sent_in};
 ghost use Rattle.ec_play.specs.Rows.{counters_of, row_of as row_in, rows_of};
 ghost use Rattle.ec_play.specs.Plays.{IsAnswer};
 
-use crate::faults::PlayFault;
 use crate::images::{bring, image_of};
 use crate::journeys::travel;
 use crate::judging::read;
@@ -24,6 +23,7 @@ use crate::rows::{Counters, Rows, TickRow};
 use crate::trips::{Trip, start_trips, tick_trips};
 use ec_fmmu::Mapping;
 use ec_frames::{Frame, Parsed, datagrams};
+use ec_outcome::PlayFault;
 use ec_slave::Pass;
 use ec_units::Units;
 use std::alloc::{AllocError, Global};

@@ -18,7 +18,7 @@ use Rattle.ec_fmmu.specs.declared.mapping.Mapping.{Mapping}
 use Rattle.ec_slave.specs.Step.{frame_after, memory_after}
 use Rattle.ec_player.specs.Start.{start_list, starts_of}
 use Rattle.ec_player.specs.Frames.{HasLayout}
-use Rattle.ec_play.specs.declared.faults.PlayFault.{PlayFault}
+use Rattle.ec_outcome.specs.declared.play.PlayFault.{PlayFault}
 use Rattle.ec_play.specs.declared.playing.Played.{Played}
 use Rattle.ec_play.specs.declared.rows.TickRow.{TickRow}
 use Rattle.ec_play.specs.Sent.{start_sent, start_sents, all_sents}

@@ -11,14 +11,14 @@ use Rattle.ec_fmmu.specs.Mappings.{IsLayout}
 use Rattle.ec_slave.specs.Step.{frame_after, memory_after}
 use Rattle.ec_player.specs.Start.{start_list}
 use Rattle.ec_play.specs.declared.rows.TickRow.{TickRow}
-use Rattle.ec_play.specs.declared.faults.PlayFault.{PlayFault}
-use Rattle.ec_play.specs.declared.faults.PlayFault.TheVariants as fault
+use Rattle.ec_outcome.specs.declared.play.PlayFault.{PlayFault}
+use Rattle.ec_outcome.specs.declared.play.PlayFault.TheVariants as fault
 use Rattle.ec_play.specs.Sent.{Sent, start_sent, slot_sent}
 use Rattle.ec_play.specs.Lines.{came_back, slaves_after}
 use Rattle.ec_play.specs.Rows.{row_of}
 use Rattle.ec_frame_lines.specs.Lines.{stations_in, zeros, slots_of}
-use Rattle.ec_play_lines.specs.declared.played.PlayTextFault.{PlayTextFault}
-use Rattle.ec_play_lines.specs.declared.played.PlayTextFault.TheVariants as text
+use Rattle.ec_outcome.specs.declared.play.PlayTextFault.{PlayTextFault}
+use Rattle.ec_outcome.specs.declared.play.PlayTextFault.TheVariants as text
 use Rattle.ec_play_lines.specs.Lines.{play_text}
 
 -- the start frames of slaves with these stations

@@ -6,5 +6,6 @@ mod counters;
 mod lines;
 mod played;
 
+pub use ec_outcome::PlayTextFault;
 pub use lines::play_text;
-pub use played::{PlayTextFault, played_text, played_together};
+pub use played::{played_text, played_together};

@@ -10,13 +10,14 @@ ghost use Rattle.ec_play.specs.Lines.{IsMemory};
 ghost use Rattle.ec_play.specs.Plays.{IsAnswer};
 ghost use Rattle.ec_play_threads.specs.Plays.{IsLack};
 ghost use Rattle.ec_frame_lines.specs.Lines.{stations_in, zeros};
-ghost use Rattle.ec_play_lines.specs.declared.played.PlayTextFault.TheVariants.{Play as Unplayed, Text as Untold};
+ghost use Rattle.ec_outcome.specs.declared.play.PlayTextFault.TheVariants.{Play as Unplayed, Text as Untold};
 ghost use Rattle.ec_play_lines.specs.Plays.{new_slaves as slaves_of, played, IsNoMemory, IsNoThread};
 
 use crate::lines::play_text;
 use ec_fmmu::Mapping;
 use ec_frame_lines::{blank, stations_of};
-use ec_play::{PlayFault, Played, play_plain};
+use ec_outcome::{PlayFault, PlayTextFault};
+use ec_play::{Played, play_plain};
 use ec_play_threads::play_threads;
 use ec_replies::play_is_right;
 use ec_slave::SlaveBox;
@@ -27,31 +28,6 @@ use std::thread::Threads;
 
 /// The most slaves that get a thread each.
 const MOST_THREADS: usize = 16;
-
-/// Why there is no text of a play.
-#[derive(Clone, Copy, Debug, PartialEq, Eq)]
-pub enum PlayTextFault {
-    /// The plan wasn't played to its end. Modelled slaves leave no faulty frame, so memory, a ring or a thread was wanting.
-    Play(PlayFault),
-    /// Memory ran out over the text.
-    Text,
-}
-
-impl From<PlayFault> for PlayTextFault {
-    ghost from_gives = { λ f r. r ≡ Unplayed f };
-
-    fn from(fault: PlayFault) -> PlayTextFault {
-        PlayTextFault::Play(fault)
-    }
-}
-
-impl From<AllocError> for PlayTextFault {
-    ghost from_gives = { λ _ r. r ≡ Untold };
-
-    fn from(_error: AllocError) -> PlayTextFault {
-        PlayTextFault::Text
-    }
-}
 
 /// What a play begins with: an image, and a slave for each station.
 #[derive(Drop)]

@@ -8,7 +8,7 @@ use Rattle.ec_units.specs.Load.{loads_of}
 use Rattle.ec_loads.specs.Cost.{plan_items, tick_cost}
 use Rattle.ec_fmmu.specs.declared.mapping.Mapping.{Mapping}
 use Rattle.ec_player.specs.Frames.{IsLayoutFor}
-use Rattle.ec_play.specs.declared.faults.PlayFault.{PlayFault}
+use Rattle.ec_outcome.specs.declared.play.PlayFault.{PlayFault}
 use Rattle.ec_play.specs.declared.playing.Played.{Played}
 use Rattle.ec_play.specs.declared.rows.TickRow.{TickRow}
 use Rattle.ec_play.specs.Lines.{IsMemory}

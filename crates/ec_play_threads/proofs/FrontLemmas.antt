@@ -4,7 +4,7 @@ use Rattle.std.proofs.Math.Seq.{drop-cons}
 use Rattle.std.proofs.Math.ListN.{get_or-map}
 use Rattle.std.proofs.lemmas.List.{length-map, take_more}
 use Rattle.ec_slave.specs.Logical.{first_of}
-use Rattle.ec_play.specs.declared.faults.PlayFault.{PlayFault}
+use Rattle.ec_outcome.specs.declared.play.PlayFault.{PlayFault}
 use Rattle.ec_play.specs.Sent.{Sent}
 use Rattle.ec_play.specs.Faults.{fault_of, first_fault}
 use Rattle.ec_play.specs.Lines.{bytes_of}

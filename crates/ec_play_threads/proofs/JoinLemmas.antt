@@ -12,7 +12,7 @@ use Rattle.ec_fmmu.specs.declared.fmmu.Fmmu.{Fmmu}
 use Rattle.ec_player.specs.Start.{starts_of}
 use Rattle.ec_slave.specs.Journey.{journey, arrived, line_outs, line_finals}
 use Rattle.ec_slave.proofs.JourneyLemmas.{frames_alike, slaves_alike}
-use Rattle.ec_play.specs.declared.faults.PlayFault.{PlayFault}
+use Rattle.ec_outcome.specs.declared.play.PlayFault.{PlayFault}
 use Rattle.ec_play.specs.declared.playing.Played.{Played}
 use Rattle.ec_play.specs.declared.rows.TickRow.{TickRow}
 use Rattle.ec_play.specs.Faults.{first_fault}

@@ -2,7 +2,7 @@
 use Rattle.std.specs.Prelude.{◌≡◌, ℕ, ◌+◌, ◌<◌, nat_lt, if◌then◌else◌, List, [], ◌++◌, length, get_or, unwrap_or, Some, None}
 use Rattle.ec_units.specs.declared.units.Units.{Units}
 use Rattle.ec_fmmu.specs.declared.mapping.Mapping.{Mapping}
-use Rattle.ec_play.specs.declared.faults.PlayFault.{PlayFault}
+use Rattle.ec_outcome.specs.declared.play.PlayFault.{PlayFault}
 use Rattle.ec_play.specs.declared.rows.TickRow.{TickRow}
 use Rattle.ec_player.specs.Start.{starts_of}
 use Rattle.ec_play.specs.Sent.{Sent, start_sents, tick_sents, ticks_sents, all_sents}

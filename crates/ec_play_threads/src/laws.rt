@@ -3,7 +3,7 @@
 ghost use Rattle.std.specs.Prelude.{◌≡◌, ◌⊎◌, ℕ, List, Result};
 ghost use Rattle.ec_units.specs.declared.units.Units.{Units};
 ghost use Rattle.ec_fmmu.specs.declared.mapping.Mapping.{Mapping};
-ghost use Rattle.ec_play.specs.declared.faults.PlayFault.{PlayFault};
+ghost use Rattle.ec_outcome.specs.declared.play.PlayFault.{PlayFault};
 ghost use Rattle.ec_play.specs.declared.playing.Played.{Played};
 ghost use Rattle.ec_play.specs.Lines.{IsMemory};
 ghost use Rattle.ec_play.specs.Plays.{IsAnswer};

@@ -3,7 +3,7 @@ use Rattle.std.proofs.Common.{ℕ, ◌≤◌, arith}
 use Rattle.ec_unit_text.specs.declared.fault.UnitFault.TheVariants as fault
 use Rattle.ec_cert_text.specs.declared.fault.CertFault.TheVariants as cert_fault
 use Rattle.ec_checker.specs.declared.fault.CheckFault.TheVariants as check_fault
-use Rattle.ec_play.specs.declared.faults.PlayFault.TheVariants as play
+use Rattle.ec_outcome.specs.declared.play.PlayFault.TheVariants as play
 use Rattle.ec_refusals.specs.declared.refusal.Refusal.{Refusal}
 use Rattle.ec_refusals.specs.declared.refusal.Refusal.TheVariants as refusal
 use Rattle.ec_refusals.specs.Refusals.{refusal_code}

@@ -1,8 +1,8 @@
 -- Which refusal says over what memory ran out, or why a plan isn't played to its end.
-use Rattle.ec_frame_lines.specs.declared.ticks.TextFault.{TextFault}
-use Rattle.ec_frame_lines.specs.declared.ticks.TextFault.TheVariants as fault
-use Rattle.ec_play_lines.specs.declared.played.PlayTextFault.{PlayTextFault}
-use Rattle.ec_play_lines.specs.declared.played.PlayTextFault.TheVariants as played
+use Rattle.ec_outcome.specs.declared.text.TextFault.{TextFault}
+use Rattle.ec_outcome.specs.declared.text.TextFault.TheVariants as fault
+use Rattle.ec_outcome.specs.declared.play.PlayTextFault.{PlayTextFault}
+use Rattle.ec_outcome.specs.declared.play.PlayTextFault.TheVariants as played
 use Rattle.ec_refusals.specs.declared.refusal.Refusal.{Refusal}
 use Rattle.ec_refusals.specs.declared.refusal.Refusal.TheVariants as refusal
 use Rattle.ec_refusals.specs.Refusals.{out_of_memory, frame_memory}

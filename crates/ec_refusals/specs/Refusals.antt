@@ -10,11 +10,11 @@ use Rattle.ec_cert_text.specs.declared.fault.CertFault.{CertFault}
 use Rattle.ec_cert_text.specs.declared.fault.CertFault.TheVariants as cert
 use Rattle.ec_checker.specs.declared.fault.CheckFault.{CheckFault}
 use Rattle.ec_checker.specs.declared.fault.CheckFault.TheVariants as check
-use Rattle.ec_workers.specs.declared.outcome.SolveFault.{SolveFault}
-use Rattle.ec_workers.specs.declared.outcome.SolveFault.TheVariants as solve
+use Rattle.ec_outcome.specs.declared.search.SolveFault.{SolveFault}
+use Rattle.ec_outcome.specs.declared.search.SolveFault.TheVariants as solve
 use Rattle.ec_frames.specs.FaultTexts.{frame_fault_text}
-use Rattle.ec_play.specs.declared.faults.PlayFault.{PlayFault}
-use Rattle.ec_play.specs.declared.faults.PlayFault.TheVariants as play
+use Rattle.ec_outcome.specs.declared.play.PlayFault.{PlayFault}
+use Rattle.ec_outcome.specs.declared.play.PlayFault.TheVariants as play
 use Rattle.ec_refusals.specs.declared.refusal.Refusal.{Refusal}
 use Rattle.ec_refusals.specs.declared.refusal.Refusal.TheVariants as refusal
 use Rattle.ec_command.specs.declared.job.Job.{Job}

@@ -12,9 +12,8 @@ use ec_checker::CheckFault;
 use ec_digits::{LineText, push_bytes, push_number};
 use ec_frames::FrameFault;
 use ec_loads::Illegal;
-use ec_play::PlayFault;
+use ec_outcome::{PlayFault, SolveFault};
 use ec_unit_text::{Key, Spot, UnitFault};
-use ec_workers::SolveFault;
 
 /// A number, or `-` for none.
 fn push_index(line: &mut LineText, index: Option<usize>)

@@ -7,13 +7,10 @@ ghost use Rattle.ec_refusals.specs.declared.refusal.Refusal.TheVariants.{Unit as
 
 use ec_cert_text::CertFault;
 use ec_checker::CheckFault;
-use ec_frame_lines::TextFault;
 use ec_loads::Illegal;
-use ec_play::PlayFault;
-use ec_play_lines::PlayTextFault;
+use ec_outcome::{PlayFault, PlayTextFault, SolveFault, TextFault};
 use ec_unit_text::UnitFault;
 use ec_wire::WriteFault;
-use ec_workers::SolveFault;
 use std::alloc::{AllocError, AllocFailed};
 
 /// Why a run was refused.

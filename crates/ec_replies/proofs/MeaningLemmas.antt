@@ -5,7 +5,7 @@ use Rattle.std.proofs.lemmas.Bool.{true≢false, cases_eq, cases_Bool, and_parts
 use Rattle.ec_frames.specs.declared.reading.FrameFault.{FrameFault}
 use Rattle.ec_frames.specs.Reading.{Entry, ReadsAs, HasFault}
 use Rattle.ec_frames.proofs.ReadingFrames.{read_is, fault_is}
-use Rattle.ec_play.specs.declared.faults.PlayFault.TheVariants as fault
+use Rattle.ec_outcome.specs.declared.play.PlayFault.TheVariants as fault
 use Rattle.ec_play.specs.Sent.{Sent}
 use Rattle.ec_play.specs.Faults.{entries_of, may_change, is_reply_of, first_wrong, counter_fault, fault_by, fault_of}
 use Rattle.ec_replies.specs.Meanings.{IsReply}

@@ -11,7 +11,7 @@ use Rattle.ec_fmmu.specs.declared.mapping.Mapping.{Mapping}
 use Rattle.ec_fmmu.specs.Seats.{seats_of}
 use Rattle.ec_slave.specs.Step.{frame_after, memory_after}
 use Rattle.ec_player.specs.Frames.{HasLayout, IsLayoutFor}
-use Rattle.ec_play.specs.declared.faults.PlayFault.{PlayFault}
+use Rattle.ec_outcome.specs.declared.play.PlayFault.{PlayFault}
 use Rattle.ec_play.specs.Sent.{start_sents, ticks_sents, all_sents}
 use Rattle.ec_play.specs.Lines.{slaves_after, came_back, AreRight, IsMemory}
 use Rattle.ec_play.specs.Images.{last_byte, all_entries, image_after}

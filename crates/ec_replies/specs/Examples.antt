@@ -7,7 +7,7 @@ use Rattle.ec_frames.specs.Written.{written, datagram_bytes}
 use Rattle.ec_fmmu.specs.declared.fmmu.Fmmu.{Fmmu}
 use Rattle.ec_fmmu.specs.Mappings.{fmmu_for}
 use Rattle.ec_player.specs.Start.{roll_call}
-use Rattle.ec_play.specs.declared.faults.PlayFault.TheVariants as fault
+use Rattle.ec_outcome.specs.declared.play.PlayFault.TheVariants as fault
 use Rattle.ec_play.specs.Sent.{Sent, start_sent}
 use Rattle.ec_play.specs.Faults.{is_reply_of, fault_of}
 use Rattle.ec_play.specs.Images.{image_after}

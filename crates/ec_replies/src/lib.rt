@@ -5,8 +5,8 @@ ghost use Rattle.std.specs.Prelude.{◌≡◌, ◌<◌, ◌↔◌, ℕ, true, Li
 ghost use Rattle.ec_frames.specs.Reading.{Entry, ReadsAs, HasFault};
 ghost use Rattle.ec_frames.specs.declared.reading.FrameFault.{FrameFault};
 ghost use Rattle.ec_play.specs.declared.faults.Wrong.{Wrong};
-ghost use Rattle.ec_play.specs.declared.faults.PlayFault.{PlayFault};
-ghost use Rattle.ec_play.specs.declared.faults.PlayFault.TheVariants as fault;
+ghost use Rattle.ec_outcome.specs.declared.play.PlayFault.{PlayFault};
+ghost use Rattle.ec_outcome.specs.declared.play.PlayFault.TheVariants as fault;
 ghost use Rattle.ec_units.specs.declared.units.Units.{Units};
 ghost use Rattle.ec_units.specs.Together.{stations_of};
 ghost use Rattle.ec_fmmu.specs.declared.mapping.Mapping.{Mapping};

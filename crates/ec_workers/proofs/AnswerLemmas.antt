@@ -21,11 +21,11 @@ use Rattle.ec_checker.specs.Laws.{FaultsRefute}
 use Rattle.ec_checker.specs.Levels.{IsGreatestLevel}
 use Rattle.ec_checker.specs.declared.fault.Verdict.TheVariants as verdict
 use Rattle.ec_symmetry.specs.Orders.{IsOrder}
-use Rattle.ec_workers.specs.declared.outcome.Cut.{Cut}
-use Rattle.ec_workers.specs.declared.outcome.Cut.TheVariants as cut
-use Rattle.ec_workers.specs.declared.outcome.Outcome.{Outcome}
-use Rattle.ec_workers.specs.declared.outcome.Outcome.TheVariants as outcome
-use Rattle.ec_workers.specs.declared.outcome.SolveFault.{SolveFault}
+use Rattle.ec_outcome.specs.declared.search.Cut.{Cut}
+use Rattle.ec_outcome.specs.declared.search.Cut.TheVariants as cut
+use Rattle.ec_outcome.specs.declared.search.Outcome.{Outcome}
+use Rattle.ec_outcome.specs.declared.search.Outcome.TheVariants as outcome
+use Rattle.ec_outcome.specs.declared.search.SolveFault.{SolveFault}
 use Rattle.ec_workers.specs.Answers.{Asked, asked_beyond, IsCut, IsUnproved, IsOutcome}
 use Rattle.ec_workers.specs.Outcomes.{cert_for, IsFound, IsOptimal, IsWithoutPlan, Shows}
 use Rattle.ec_workers.proofs.LevelLemmas.{tree-partial}

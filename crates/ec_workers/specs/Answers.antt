@@ -10,12 +10,12 @@ use Rattle.ec_symmetry.specs.Orders.{IsOrder}
 use Rattle.ec_cert.specs.declared.cert.Best.{Best}
 use Rattle.ec_cert.specs.Shapes.{shape_of, cert_view}
 use Rattle.ec_cert.specs.BestPlan.{value_of, IsBestPlan}
-use Rattle.ec_workers.specs.declared.outcome.Cut.{Cut}
-use Rattle.ec_workers.specs.declared.outcome.Cut.TheVariants as cut
-use Rattle.ec_workers.specs.declared.outcome.Outcome.{Outcome}
-use Rattle.ec_workers.specs.declared.outcome.SolveFault.{SolveFault}
-use Rattle.ec_workers.specs.declared.outcome.SolveFault.TheVariants as refused
-use Rattle.ec_workers.specs.declared.outcome.Outcome.TheVariants as outcome
+use Rattle.ec_outcome.specs.declared.search.Cut.{Cut}
+use Rattle.ec_outcome.specs.declared.search.Cut.TheVariants as cut
+use Rattle.ec_outcome.specs.declared.search.Outcome.{Outcome}
+use Rattle.ec_outcome.specs.declared.search.SolveFault.{SolveFault}
+use Rattle.ec_outcome.specs.declared.search.SolveFault.TheVariants as refused
+use Rattle.ec_outcome.specs.declared.search.Outcome.TheVariants as outcome
 use Rattle.ec_workers.specs.Outcomes.{IsOptimal, IsWithoutPlan}
 
 -- what a search was asked for: how many workers, how many nodes may be split and closed, and how many nodes the tree has that it goes on with

@@ -12,15 +12,15 @@ ghost use Rattle.ec_crew.specs.Crews.{IsCrewed};
 ghost use Rattle.ec_crew.specs.declared.ended.Ended.TheVariants.{Refused, Memory as EndedMemory};
 ghost use Rattle.ec_workers.specs.Answers.{asked_beyond, asked_for, HasCut, HasOrder, IsOutcome, IsSolveFault};
 ghost use Rattle.ec_workers.specs.Outcomes.{IsPartialCert};
-ghost use Rattle.ec_workers.specs.declared.outcome.Cut.TheVariants.{Budget, Journal, Memory};
+ghost use Rattle.ec_outcome.specs.declared.search.Cut.TheVariants.{Budget, Journal, Memory};
 
 use crate::certify::lines_of;
-use crate::outcome::{Cut, Outcome, SolveFault};
 use crate::planning::{nothing, proved};
 use ec_book::{Book, Finished};
 use ec_branch::search_order;
 use ec_cert::{Cert, Order, UnitLines, is_closed};
 use ec_crew::{CrewFault, Crewed, Ended, Gate, search_by_crew};
+use ec_outcome::{Cut, Outcome, SolveFault};
 use ec_units::Units;
 use std::alloc::Global;
 use std::sync::Wait;

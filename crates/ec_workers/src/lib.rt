@@ -5,7 +5,6 @@ mod alone;
 mod certify;
 mod crewed;
 mod desk;
-mod outcome;
 mod planning;
 mod resuming;
 mod solving;
@@ -14,7 +13,7 @@ mod unfinished;
 mod watch;
 
 pub use ec_crew::{Gate, Quiet};
-pub use outcome::{Cut, Outcome, SolveFault};
+pub use ec_outcome::{Cut, Outcome, SolveFault};
 pub use resuming::solve_from;
 pub use solving::solve;
 pub use unfinished::partial;

@@ -11,18 +11,18 @@ ghost use Rattle.ec_workers.specs.Answers.{Asked, asked_beyond, asked_for, HasOr
 ghost use Rattle.ec_book.specs.Books.{IsBookOf, IsSameSearch};
 ghost use Rattle.ec_book.specs.Views.{given_nodes};
 ghost use Rattle.ec_workers.specs.Outcomes.{IsFound, IsPartialCert};
-ghost use Rattle.ec_workers.specs.declared.outcome.Cut.TheVariants.{Budget, Journal, Memory};
-ghost use Rattle.ec_workers.specs.declared.outcome.SolveFault.TheVariants.{OutOfMemory};
+ghost use Rattle.ec_outcome.specs.declared.search.Cut.TheVariants.{Budget, Journal, Memory};
+ghost use Rattle.ec_outcome.specs.declared.search.SolveFault.TheVariants.{OutOfMemory};
 
 use crate::alone::work;
 use crate::certify::{certificate, lines_of};
-use crate::outcome::{Cut, Outcome, SolveFault};
 use crate::turn::offer;
 use ec_book::{Book, Finished};
 use ec_branch::{greedy, search_order};
 use ec_cert::{Best, Cert, Order, Tree, UnitLines};
 use ec_checker::faults_refute;
 use ec_crew::{Gate, copy_of};
+use ec_outcome::{Cut, Outcome, SolveFault};
 use ec_tree::trees_bound;
 use ec_units::Units;
 use std::alloc::Global;

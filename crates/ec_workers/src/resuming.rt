@@ -7,10 +7,10 @@ ghost use Rattle.ec_workers.specs.Answers.{asked_beyond, HasOrder, IsOutcome, Is
 ghost use Rattle.ec_workers.specs.Outcomes.{IsPartialCert};
 
 use crate::crewed::resume_by_crew;
-use crate::outcome::{Outcome, SolveFault};
 use crate::planning::resume_alone;
 use ec_cert::{Cert, is_closed};
 use ec_crew::Gate;
+use ec_outcome::{Outcome, SolveFault};
 use ec_units::Units;
 use std::alloc::Global;
 use std::sync::Wait;

@@ -4,9 +4,9 @@ ghost use Rattle.std.specs.Prelude.{◌≤◌, IfOk, IfErr};
 ghost use Rattle.ec_workers.specs.Answers.{asked_for, IsOutcome, IsSolveFault};
 
 use crate::crewed::solve_by_crew;
-use crate::outcome::{Outcome, SolveFault};
 use crate::planning::solve_alone;
 use ec_crew::Gate;
+use ec_outcome::{Outcome, SolveFault};
 use ec_units::Units;
 use std::alloc::Global;
 use std::sync::Wait;

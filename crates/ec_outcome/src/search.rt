@@ -49,7 +49,7 @@ pub enum SolveFault {
 
 impl From<AllocError> for SolveFault {
     ghost use Rattle.std.specs.Prelude.{◌≡◌};
-    ghost use Rattle.ec_workers.specs.declared.outcome.SolveFault.TheVariants.{OutOfMemory};
+    ghost use Rattle.ec_outcome.specs.declared.search.SolveFault.TheVariants.{OutOfMemory};
 
     ghost from_gives = { λ _ e. e ≡ OutOfMemory };
 
