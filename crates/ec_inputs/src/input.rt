@@ -1,8 +1,9 @@
 //! Reading the inputs of a job, each whole and up to a limit.
 
-ghost use Rattle.std.specs.Prelude.{◌≡◌, ◌≢◌, ℕ, ◌+◌, ◌-◌, ◌<◌, ◌^◌, ◌≤◌, min, true, false, length, IfOk, IfErr, IfSome, IsErrOf, IsTrue, ◌↔◌, ◌⊎◌, Ok as OkOf};
+ghost use Rattle.std.specs.Prelude.{◌≡◌, ◌≢◌, ℕ, ◌+◌, ◌-◌, ◌<◌, ◌^◌, ◌≤◌, min, true, false, length, IfOk, IfErr, IfSome, IsErrOf, IsSome, IsTrue, ◌↔◌, ◌⊎◌, Ok as OkOf};
 ghost use Rattle.ec_wire.specs.Stream.{stream, has_failed, taken};
-ghost use Rattle.ec_inputs.specs.Input.{ReadsAll, ReadsTooMany, ConsumesAtMost, AreUnits, AnswersUnits, IsInputFault};
+ghost use Rattle.ec_inputs.specs.Input.{ReadsAll, ReadsTooMany, ConsumesAtMost, AreUnits, AnswersUnits, IsInputFault, AreRead, HasRoom, ReadsUpTo, ReadsBoth, most_of_units, most_of_cert};
+ghost use Rattle.ec_inputs.specs.Use.{used};
 ghost use Rattle.ec_units.specs.Load.{loads_of};
 ghost use Rattle.ec_loads.specs.Held.{no_places};
 ghost use Rattle.ec_refusals.specs.Refusals.{IsReadFault, out_of_memory};
@@ -23,6 +24,20 @@ use std::io::Read;
 const MOST_UNIT_BYTES: usize = 1_048_576;
 
 const CHUNK: usize = 4096;
+
+/// The text of a certificate, and the room to check it: the loads of the units, with no place.
+#[derive(Drop)]
+pub struct Given {
+    pub loads: Loads,
+    pub text: Vec<u8>,
+}
+
+/// What a job has read: its units, and a certificate where it reads one.
+#[derive(Drop)]
+pub struct Inputs {
+    pub units: Units,
+    pub given: Option<Given>,
+}
 
 /// Reads all there is, if it has at most `limit` bytes. Of more, `limit + 1` bytes are read, and no more.
 pub fn read_all<R: Read>(alloc: Global, input: &mut Io<R>, limit: usize) -> Result<Vec<u8>, Refusal>
@@ -49,7 +64,7 @@ pub fn read_all<R: Read>(alloc: Global, input: &mut Io<R>, limit: usize) -> Resu
 }
 
 /// The units that the reader has. At most 1,048,577 bytes are read.
-pub fn units_of<R: Read>(alloc: Global, input: &mut Io<R>) -> Result<Units, Refusal>
+fn units_of<R: Read>(alloc: Global, input: &mut Io<R>) -> Result<Units, Refusal>
     requires { has_failed input.old ≡ false }
     ensures told { has_failed input.new ≡ false → IfSome (R.remaining (stream input.old)) (AnswersUnits result) }
     ensures valid { IfOk result (λ _. IfSome (R.remaining (stream input.old)) AreUnits) }
@@ -62,7 +77,7 @@ pub fn units_of<R: Read>(alloc: Global, input: &mut Io<R>) -> Result<Units, Refu
 }
 
 /// The text of the certificate that the reader has. Of one that is too long 67,108,865 bytes are read.
-pub fn cert_text<C: Read>(alloc: Global, input: &mut Io<C>) -> Result<Vec<u8>, Refusal>
+fn cert_text<C: Read>(alloc: Global, input: &mut Io<C>) -> Result<Vec<u8>, Refusal>
     requires { has_failed input.old ≡ false }
     ensures ok { IfOk result (λ v. IfSome (C.remaining (stream input.old)) (λ all. v.items ≡ all)) }
     ensures err { has_failed input.new ≡ false → IfErr result (λ r.
@@ -79,7 +94,7 @@ pub fn cert_text<C: Read>(alloc: Global, input: &mut Io<C>) -> Result<Vec<u8>, R
 
 /// The units that the first reader has, their loads with no place, and the text of the certificate that the second one
 /// has. The certificate isn't read before the units are right and the room to check it is there.
-pub fn inputs<R: Read, C: Read>(
+fn parts<R: Read, C: Read>(
     alloc: Global,
     units: &mut Io<R>,
     cert: &mut Io<C>,
@@ -106,4 +121,35 @@ pub fn inputs<R: Read, C: Read>(
     };
     let text = cert_text(alloc, cert)?;
     Ok((line, loads, text))
+}
+
+/// Reads the units of a job that reads no certificate: at most 1,048,577 bytes.
+pub fn read_alone<R: Read>(alloc: Global, units: &mut Io<R>) -> Result<Inputs, Refusal>
+    requires { has_failed units.old ≡ false }
+    ensures told { has_failed units.new ≡ false → IfSome (R.remaining (stream units.old)) (λ bytes. AreRead bytes None result) }
+    ensures read { ReadsUpTo (used R.remaining units.old units.new) most_of_units (result ≡ Err Refusal.Read) }
+    ensures none { IfOk result (λ i. i.given ≡ None) }
+{
+    let units = units_of(alloc, units)?;
+    Ok(Inputs { units, given: None })
+}
+
+/// Reads the units of a job, and then the certificate: at most 1,048,577 bytes of the one and 67,108,865 of the other. The
+/// certificate isn't read before the units are right and the room to check it is there.
+pub fn read_both<R: Read, C: Read>(
+    alloc: Global,
+    units: &mut Io<R>,
+    cert: &mut Io<C>,
+) -> Result<Inputs, Refusal>
+    requires units { has_failed units.old ≡ false }
+    requires cert { has_failed cert.old ≡ false }
+    ensures told { has_failed units.new ≡ false → has_failed cert.new ≡ false → IfSome (R.remaining (stream units.old)) (λ bytes.
+        IfSome (C.remaining (stream cert.old)) (λ text. AreRead bytes (Some text) result)) }
+    ensures read { ReadsBoth (used R.remaining units.old units.new) (used C.remaining cert.old cert.new) (result ≡ Err Refusal.Read) }
+    ensures given { IfOk result (λ i. IsSome i.given) }
+    ensures room { IfOk result HasRoom }
+{
+    let (units, loads, text) = parts(alloc, units, cert)?;
+    let given = Some(Given { loads, text });
+    Ok(Inputs { units, given })
 }

@@ -1,6 +1,6 @@
-//! Reading units and certificates, each whole and up to a limit.
+//! Reading the inputs of a job: units and certificates, each whole and up to a limit.
 #![tactic(auto)]
 
 mod input;
 
-pub use input::{cert_text, inputs, read_all, units_of};
+pub use input::{Given, Inputs, read_all, read_alone, read_both};

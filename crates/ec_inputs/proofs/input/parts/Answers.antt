@@ -2,7 +2,7 @@ use Rattle.std.proofs.Common.{Err, [], ap, ◌∙◌, arith}
 use Rattle.std.proofs.KnownBytes.{Consumes-nil}
 use Rattle.std.proofs.lemmas.Result.{err_from_is_err_and}
 use Rattle.ec_inputs.proofs.InputLemmas.{read_refused, cert_unread, cert_after, unread_units, no_room, unread_text}
-use Rattle.ec_inputs.proofs.input.inputs.Goals as goal
+use Rattle.ec_inputs.proofs.input.parts.Goals as goal
 
 pub returns-in_err-line-clause-err : goal.returns-in_err-line-clause-err
 returns-in_err-line-clause-err g c = λ read cert.
