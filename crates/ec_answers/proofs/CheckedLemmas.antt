@@ -45,23 +45,3 @@ checked_no us c f h = elim (memory_or f) [
 pub too_long : (text : List ℕ) → 67108864 < length text → cert_reading text ≡ Err cert.TooLarge
 unfolding cert_reading
 too_long text h = rw (lt-ltb 67108864 (length text) h) refl
-
--- why there is nothing to check is what is answered
-pub unread_answer : (left text : Option (List ℕ)) (r : Refusal) (answer : Result Answer Refusal) → answer ≡ Err r → IfSome left (λ bytes. IfSome text (λ t. IsInputFault bytes t r))
-    → IfSome left (λ bytes. IfSome text (λ t. Answers job.Check answer (IsOutput job.Check bytes (Some t))))
-unread_answer None text r answer is why = tt
-unread_answer (Some bytes) None r answer is why = tt
-unread_answer (Some bytes) (Some t) r answer is (inl (inl memory)) = rw is (inl (inl memory))
-unread_answer (Some bytes) (Some t) r answer is (inl (inr room)) = rw is (inl (inr (inr room)))
-unread_answer (Some bytes) (Some t) r answer is (inr (inl (inl h))) = rw is (inr (inl (h.0, rw h.1.1 (ap refused h.1.2))))
-unread_answer (Some bytes) (Some t) r answer is (inr (inl (inr h))) = rw is (inr (inr (h.0, ap refused h.1)))
-unread_answer (Some bytes) (Some t) r answer is (inr (inr h)) = rw is (inr (inl (h.1.0, rw (h.1.1, too_long t h.3) (ap refused h.2))))
-
--- what is answered for units and a text is the answer for the bytes that both were read of
-pub whole_answered : (left text : Option (List ℕ)) (us : Units) (v : List ℕ) (answer : Result Answer Refusal) → IfSome left (AnswersUnits (Ok us)) → IfSome text (λ all. v ≡ all) → Answers job.Check answer (IsCheckOutput (units_view us) v)
-    → IfSome left (λ bytes. IfSome text (λ cert_bytes. Answers job.Check answer (IsOutput job.Check bytes (Some cert_bytes))))
-whole_answered None text us v answer read same told = tt
-whole_answered (Some bytes) None us v answer read same told = tt
-whole_answered (Some bytes) (Some cert_bytes) us v (Ok a) read same told = inl (read.0, rw (read.1, sym same) told)
-whole_answered (Some bytes) (Some cert_bytes) us v (Err r) read same (inl memory) = inl memory
-whole_answered (Some bytes) (Some cert_bytes) us v (Err r) read same (inr told) = inr (inl (read.0, rw (read.1, sym same) told))

@@ -23,7 +23,8 @@ use Rattle.ec_command.specs.declared.job.Job.TheVariants as job
 use Rattle.ec_lines.specs.Framed.{IsPlacedPlan, IsBestPlanOf, IsCertPlan, IsFramedPlan}
 use Rattle.ec_lines.specs.Output.{Written, IsBestText, IsOwnText, IsCertText, IsReadText, IsTextFor, IsOutput, Answers, refused, shown}
 use Rattle.ec_refusals.specs.Refusals.{IsFramesMemory}
-use Rattle.ec_inputs.specs.Input.{AnswersUnits, IsInputFault}
+use Rattle.ec_inputs.specs.Input.{AnswersUnits, IsUnread, Says, text_given}
+use Rattle.ec_inputs.specs.declared.input.Inputs.{Inputs}
 use Rattle.ec_answers.specs.Captures.{IsFramesFault, FramesFrom}
 use Rattle.ec_answers.proofs.CheckedLemmas.{memory_or, too_long}
 
@@ -59,50 +60,11 @@ plan_err us text c (Ok p) said h = tt
 plan_err us text c (Err e) said (inl memory) = inl memory
 plan_err us text c (Err e) said (inr h) = inr (rw said h)
 
--- ---- units with a plan
-
 -- why units have none is why there are no frames
 pub units_fault : (cert : Option (List ℕ)) (bytes : List ℕ) (r : Refusal) → AnswersUnits (Err r) bytes → IsFramesFault cert bytes r
 units_fault cert bytes r (inl e) = inl (inl e)
 units_fault cert bytes r (inr (inl h)) = inr (inl (h.0, rw h.1.1 (ap refused h.1.2)))
 units_fault cert bytes r (inr (inr h)) = inr (inr (h.0, ap refused h.1))
-
--- the places of the units that the bytes say
-pub placed_known : (left : Option (List ℕ)) (us : Units) (plan : Plan) → IfSome left (AnswersUnits (Ok us)) → IsPlacedPlan (units_view us) plan.places → IfSome left (FramesFrom None (Ok (us, plan)))
-placed_known None us plan read h = tt
-placed_known (Some bytes) us plan read h = (read.0, read.1, h)
-
-pub unplaced_known : (left : Option (List ℕ)) (us : Units) (r : Refusal) (answer : Result (Units × Plan) Refusal) → answer ≡ Err r → IfSome left (AnswersUnits (Ok us)) → (IsFramesMemory r ⊎ IsOwnText IsFramesText (units_view us) (refused r)) → IfSome left (FramesFrom None answer)
-unplaced_known None us r answer is read h = tt
-unplaced_known (Some bytes) us r answer is read (inl memory) = rw is (inl memory)
-unplaced_known (Some bytes) us r answer is read (inr h) = rw is (inr (inl (read.0, rw read.1 h)))
-
-pub unread_known : (left : Option (List ℕ)) (r : Refusal) (answer : Result (Units × Plan) Refusal) → answer ≡ Err r → IfSome left (AnswersUnits (Err r)) → IfSome left (FramesFrom None answer)
-unread_known None r answer is h = tt
-unread_known (Some bytes) r answer is h = rw is (units_fault None bytes r h)
-
--- the plan of the text that was read, for the units that the bytes say
-pub certified_known : (left text : Option (List ℕ)) (us : Units) (plan : Plan) (v : List ℕ) → IfSome left (AnswersUnits (Ok us)) → IfSome text (λ all. v ≡ all) → IsCertPlan v (units_view us) plan.places
-    → IfSome left (λ bytes. IfSome text (λ t. FramesFrom (Some t) (Ok (us, plan)) bytes))
-certified_known None text us plan v read same h = tt
-certified_known (Some bytes) None us plan v read same h = tt
-certified_known (Some bytes) (Some t) us plan v read same h = (read.0, read.1, subst (λ (w : List ℕ). IsCertPlan w (units_view us) plan.places) same h)
-
-pub uncertified_known : (left text : Option (List ℕ)) (us : Units) (v : List ℕ) (r : Refusal) (answer : Result (Units × Plan) Refusal) → answer ≡ Err r → IfSome left (AnswersUnits (Ok us)) → IfSome text (λ all. v ≡ all)
-    → (IsFramesMemory r ⊎ IsReadText IsFramesText (units_view us) v (refused r)) → IfSome left (λ bytes. IfSome text (λ t. FramesFrom (Some t) answer bytes))
-uncertified_known None text us v r answer is read same h = tt
-uncertified_known (Some bytes) None us v r answer is read same h = tt
-uncertified_known (Some bytes) (Some t) us v r answer is read same (inl memory) = rw is (inl memory)
-uncertified_known (Some bytes) (Some t) us v r answer is read same (inr h) = rw is (inr (inl (read.0, rw (read.1, sym same) h)))
-
--- why there is nothing to check is why there are none
-pub unread_inputs : (left text : Option (List ℕ)) (r : Refusal) (answer : Result (Units × Plan) Refusal) → answer ≡ Err r → IfSome left (λ bytes. IfSome text (λ t. IsInputFault bytes t r)) → IfSome left (λ bytes. IfSome text (λ t. FramesFrom (Some t) answer bytes))
-unread_inputs None text r answer is why = tt
-unread_inputs (Some bytes) None r answer is why = tt
-unread_inputs (Some bytes) (Some t) r answer is (inl (inl memory)) = rw is (inl (inl memory))
-unread_inputs (Some bytes) (Some t) r answer is (inl (inr room)) = rw is (inl (inr (inr (inl room))))
-unread_inputs (Some bytes) (Some t) r answer is (inr (inl h)) = rw is (units_fault (Some t) bytes r (inr h))
-unread_inputs (Some bytes) (Some t) r answer is (inr (inr h)) = rw is (inr (inl (h.1.0, rw (h.1.1, too_long t h.3) (ap refused h.2))))
 
 -- ---- what is written for them
 
@@ -121,30 +83,24 @@ text_for IsText (Some t) v places w plan text code =
 framed_output : (cert : Option (List ℕ)) (bytes : List ℕ) (us : Units) (plan : Plan) (w : Written) → FramesFrom cert (Ok (us, plan)) bytes → IsFramesText (units_view us) plan.places w.text → w.code ≡ 0 → IsOutput job.Frames bytes cert w
 framed_output cert bytes us plan w from text code = inl (from.0, rw from.1 (text_for IsFramesText cert (units_view us) plan.places w from.2 text code))
 
-answered : (cert : Option (List ℕ)) (bytes : List ℕ) (us : Units) (plan : Plan) (answer : Result Answer Refusal) → FramesFrom cert (Ok (us, plan)) bytes → Answers job.Frames answer (λ w. IsFramesText (units_view us) plan.places w.text × (w.code ≡ 0)) → Answers job.Frames answer (IsOutput job.Frames bytes cert)
+pub answered : (cert : Option (List ℕ)) (bytes : List ℕ) (us : Units) (plan : Plan) (answer : Result Answer Refusal) → FramesFrom cert (Ok (us, plan)) bytes → Answers job.Frames answer (λ w. IsFramesText (units_view us) plan.places w.text × (w.code ≡ 0)) → Answers job.Frames answer (IsOutput job.Frames bytes cert)
 answered cert bytes us plan (Ok a) from h = framed_output cert bytes us plan (shown a) from h.0 h.1
 answered cert bytes us plan (Err r) from (inl memory) = inl memory
 answered cert bytes us plan (Err r) from (inr h) = inr (framed_output cert bytes us plan (refused r) from h.0 h.1)
 
-unanswered : (cert : Option (List ℕ)) (bytes : List ℕ) (r : Refusal) (answer : Result Answer Refusal) → answer ≡ Err r → FramesFrom cert (Err r) bytes → Answers job.Frames answer (IsOutput job.Frames bytes cert)
-unanswered cert bytes r answer is h = rw is h
+-- ---- the plan for the bytes that the inputs were read of
 
-pub frames_told : (left : Option (List ℕ)) (us : Units) (plan : Plan) (answer : Result Answer Refusal) → IfSome left (FramesFrom None (Ok (us, plan))) → Answers job.Frames answer (λ w. IsFramesText (units_view us) plan.places w.text × (w.code ≡ 0))
-    → IfSome left (λ bytes. Answers job.Frames answer (IsOutput job.Frames bytes None))
-frames_told None us plan answer from h = tt
-frames_told (Some bytes) us plan answer from h = answered None bytes us plan answer from h
+pub frames_from : (bytes : List ℕ) (cert : Option (List ℕ)) (i : Inputs) (plan : Plan) → Says bytes cert i → IsFramedPlan (text_given i) (units_view i.units) plan.places → FramesFrom cert (Ok (i.units, plan)) bytes
+frames_from bytes cert i plan says h = (says.0.0, says.0.1, subst (λ (t : Option (List ℕ)). IsFramedPlan t (units_view i.units) plan.places) says.1 h)
 
-pub frames_untold : (left : Option (List ℕ)) (r : Refusal) (answer : Result Answer Refusal) → answer ≡ Err r → IfSome left (FramesFrom None (Err r)) → IfSome left (λ bytes. Answers job.Frames answer (IsOutput job.Frames bytes None))
-frames_untold None r answer is from = tt
-frames_untold (Some bytes) r answer is from = unanswered None bytes r answer is from
+pub faults_from : (bytes : List ℕ) (cert : Option (List ℕ)) (i : Inputs) (r : Refusal) → Says bytes cert i → (IsFramesMemory r ⊎ IsTextFor IsFramesText (text_given i) (units_view i.units) (refused r)) → IsFramesFault cert bytes r
+faults_from bytes cert i r says (inl memory) = inl memory
+faults_from bytes cert i r says (inr h) = inr (inl (says.0.0, rw says.0.1 (subst (λ (t : Option (List ℕ)). IsTextFor IsFramesText t (units_view i.units) (refused r)) says.1 h)))
 
-pub planned_told : (left text : Option (List ℕ)) (us : Units) (plan : Plan) (answer : Result Answer Refusal) → IfSome left (λ bytes. IfSome text (λ t. FramesFrom (Some t) (Ok (us, plan)) bytes)) → Answers job.Frames answer (λ w. IsFramesText (units_view us) plan.places w.text × (w.code ≡ 0))
-    → IfSome left (λ bytes. IfSome text (λ t. Answers job.Frames answer (IsOutput job.Frames bytes (Some t))))
-planned_told None text us plan answer from h = tt
-planned_told (Some bytes) None us plan answer from h = tt
-planned_told (Some bytes) (Some t) us plan answer from h = answered (Some t) bytes us plan answer from h
-
-pub planned_untold : (left text : Option (List ℕ)) (r : Refusal) (answer : Result Answer Refusal) → answer ≡ Err r → IfSome left (λ bytes. IfSome text (λ t. FramesFrom (Some t) (Err r) bytes)) → IfSome left (λ bytes. IfSome text (λ t. Answers job.Frames answer (IsOutput job.Frames bytes (Some t))))
-planned_untold None text r answer is from = tt
-planned_untold (Some bytes) None r answer is from = tt
-planned_untold (Some bytes) (Some t) r answer is from = unanswered (Some t) bytes r answer is from
+-- why there are no inputs is why there are none
+pub unread_fault : (bytes : List ℕ) (cert : Option (List ℕ)) (r : Refusal) → IsUnread bytes cert r → IsFramesFault cert bytes r
+unread_fault bytes None r h = units_fault None bytes r h
+unread_fault bytes (Some t) r (inl (inl memory)) = inl (inl memory)
+unread_fault bytes (Some t) r (inl (inr room)) = inl (inr (inr (inl room)))
+unread_fault bytes (Some t) r (inr (inl h)) = units_fault (Some t) bytes r (inr h)
+unread_fault bytes (Some t) r (inr (inr h)) = inr (inl (h.1.0, rw (h.1.1, too_long t h.3) (ap refused h.2)))

@@ -1,6 +1,6 @@
-pub mod CaptureLemmas
 pub mod CheckedLemmas
 pub mod FramedLemmas
 pub mod PlanLemmas
 pub mod PlayedLemmas
 pub mod ResumeLemmas
+pub mod ToldLemmas

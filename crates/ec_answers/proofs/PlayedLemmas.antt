@@ -75,62 +75,25 @@ refused_costs cert bytes r (inr h) = inr h
 played_output : (cert : Option (List ℕ)) (bytes : List ℕ) (us : Units) (plan : Plan) (w : Written) → FramesFrom cert (Ok (us, plan)) bytes → IsPlayText (units_view us) plan.places w.text → w.code ≡ 0 → IsOutput job.Play bytes cert w
 played_output cert bytes us plan w from text code = inl (from.0, rw from.1 (text_for IsPlayText cert (units_view us) plan.places w from.2 text code))
 
-answered : (cert : Option (List ℕ)) (bytes : List ℕ) (us : Units) (plan : Plan) (answer : Result Answer Refusal) → FramesFrom cert (Ok (us, plan)) bytes → Answers job.Play answer (λ w. IsPlayText (units_view us) plan.places w.text × (w.code ≡ 0)) → Answers job.Play answer (IsOutput job.Play bytes cert)
-answered cert bytes us plan (Ok a) from h = played_output cert bytes us plan (shown a) from h.0 h.1
-answered cert bytes us plan (Err r) from (inl lack) = inl lack
-answered cert bytes us plan (Err r) from (inr h) = inr (played_output cert bytes us plan (refused r) from h.0 h.1)
+pub played : (cert : Option (List ℕ)) (bytes : List ℕ) (us : Units) (plan : Plan) (answer : Result Answer Refusal) → FramesFrom cert (Ok (us, plan)) bytes → Answers job.Play answer (λ w. IsPlayText (units_view us) plan.places w.text × (w.code ≡ 0)) → Answers job.Play answer (IsOutput job.Play bytes cert)
+played cert bytes us plan (Ok a) from h = played_output cert bytes us plan (shown a) from h.0 h.1
+played cert bytes us plan (Err r) from (inl lack) = inl lack
+played cert bytes us plan (Err r) from (inr h) = inr (played_output cert bytes us plan (refused r) from h.0 h.1)
 
-from_fault : (cert : Option (List ℕ)) (bytes : List ℕ) (r : Refusal) → FramesFrom cert (Err r) bytes → Answers job.Play (Err r) (IsOutput job.Play bytes cert)
-from_fault cert bytes r (inl memory) = inl (inl memory)
-from_fault cert bytes r (inr h) = inr (refused_alike cert bytes r h)
-
-unanswered : (cert : Option (List ℕ)) (bytes : List ℕ) (r : Refusal) (answer : Result Answer Refusal) → answer ≡ Err r → FramesFrom cert (Err r) bytes → Answers job.Play answer (IsOutput job.Play bytes cert)
-unanswered cert bytes r answer is h = rw is (from_fault cert bytes r h)
-
-pub played_told : (left : Option (List ℕ)) (us : Units) (plan : Plan) (answer : Result Answer Refusal) → IfSome left (FramesFrom None (Ok (us, plan))) → Answers job.Play answer (λ w. IsPlayText (units_view us) plan.places w.text × (w.code ≡ 0))
-    → IfSome left (λ bytes. Answers job.Play answer (IsOutput job.Play bytes None))
-played_told None us plan answer from h = tt
-played_told (Some bytes) us plan answer from h = answered None bytes us plan answer from h
-
-pub played_untold : (left : Option (List ℕ)) (r : Refusal) (answer : Result Answer Refusal) → answer ≡ Err r → IfSome left (FramesFrom None (Err r)) → IfSome left (λ bytes. Answers job.Play answer (IsOutput job.Play bytes None))
-played_untold None r answer is from = tt
-played_untold (Some bytes) r answer is from = unanswered None bytes r answer is from
-
-pub play_told : (left text : Option (List ℕ)) (us : Units) (plan : Plan) (answer : Result Answer Refusal) → IfSome left (λ bytes. IfSome text (λ t. FramesFrom (Some t) (Ok (us, plan)) bytes)) → Answers job.Play answer (λ w. IsPlayText (units_view us) plan.places w.text × (w.code ≡ 0))
-    → IfSome left (λ bytes. IfSome text (λ t. Answers job.Play answer (IsOutput job.Play bytes (Some t))))
-play_told None text us plan answer from h = tt
-play_told (Some bytes) None us plan answer from h = tt
-play_told (Some bytes) (Some t) us plan answer from h = answered (Some t) bytes us plan answer from h
-
-pub play_untold : (left text : Option (List ℕ)) (r : Refusal) (answer : Result Answer Refusal) → answer ≡ Err r → IfSome left (λ bytes. IfSome text (λ t. FramesFrom (Some t) (Err r) bytes)) → IfSome left (λ bytes. IfSome text (λ t. Answers job.Play answer (IsOutput job.Play bytes (Some t))))
-play_untold None text r answer is from = tt
-play_untold (Some bytes) None r answer is from = tt
-play_untold (Some bytes) (Some t) r answer is from = unanswered (Some t) bytes r answer is from
+pub play_fault : (cert : Option (List ℕ)) (bytes : List ℕ) (r : Refusal) → FramesFrom cert (Err r) bytes → Answers job.Play (Err r) (IsOutput job.Play bytes cert)
+play_fault cert bytes r (inl memory) = inl (inl memory)
+play_fault cert bytes r (inr h) = inr (refused_alike cert bytes r h)
 
 -- ---- the costs of a certificate's plan
 
 priced_output : (cert : Option (List ℕ)) (bytes : List ℕ) (us : Units) (plan : Plan) (w : Written) → FramesFrom cert (Ok (us, plan)) bytes → IsCostsText (units_view us) plan.places w.text → w.code ≡ 0 → IsOutput job.PlanCost bytes cert w
 priced_output cert bytes us plan w from text code = inl (from.0, rw from.1 (text_for IsCostsText cert (units_view us) plan.places w from.2 text code))
 
-priced : (cert : Option (List ℕ)) (bytes : List ℕ) (us : Units) (plan : Plan) (answer : Result Answer Refusal) → FramesFrom cert (Ok (us, plan)) bytes → Answers job.PlanCost answer (λ w. IsCostsText (units_view us) plan.places w.text × (w.code ≡ 0)) → Answers job.PlanCost answer (IsOutput job.PlanCost bytes cert)
+pub priced : (cert : Option (List ℕ)) (bytes : List ℕ) (us : Units) (plan : Plan) (answer : Result Answer Refusal) → FramesFrom cert (Ok (us, plan)) bytes → Answers job.PlanCost answer (λ w. IsCostsText (units_view us) plan.places w.text × (w.code ≡ 0)) → Answers job.PlanCost answer (IsOutput job.PlanCost bytes cert)
 priced cert bytes us plan (Ok a) from h = priced_output cert bytes us plan (shown a) from h.0 h.1
 priced cert bytes us plan (Err r) from (inl lack) = inl lack
 priced cert bytes us plan (Err r) from (inr h) = inr (priced_output cert bytes us plan (refused r) from h.0 h.1)
 
-priced_fault : (cert : Option (List ℕ)) (bytes : List ℕ) (r : Refusal) → FramesFrom cert (Err r) bytes → Answers job.PlanCost (Err r) (IsOutput job.PlanCost bytes cert)
+pub priced_fault : (cert : Option (List ℕ)) (bytes : List ℕ) (r : Refusal) → FramesFrom cert (Err r) bytes → Answers job.PlanCost (Err r) (IsOutput job.PlanCost bytes cert)
 priced_fault cert bytes r (inl memory) = inl memory
 priced_fault cert bytes r (inr h) = inr (refused_costs cert bytes r h)
-
-unpriced : (cert : Option (List ℕ)) (bytes : List ℕ) (r : Refusal) (answer : Result Answer Refusal) → answer ≡ Err r → FramesFrom cert (Err r) bytes → Answers job.PlanCost answer (IsOutput job.PlanCost bytes cert)
-unpriced cert bytes r answer is h = rw is (priced_fault cert bytes r h)
-
-pub cost_told : (left text : Option (List ℕ)) (us : Units) (plan : Plan) (answer : Result Answer Refusal) → IfSome left (λ bytes. IfSome text (λ t. FramesFrom (Some t) (Ok (us, plan)) bytes)) → Answers job.PlanCost answer (λ w. IsCostsText (units_view us) plan.places w.text × (w.code ≡ 0))
-    → IfSome left (λ bytes. IfSome text (λ t. Answers job.PlanCost answer (IsOutput job.PlanCost bytes (Some t))))
-cost_told None text us plan answer from h = tt
-cost_told (Some bytes) None us plan answer from h = tt
-cost_told (Some bytes) (Some t) us plan answer from h = priced (Some t) bytes us plan answer from h
-
-pub cost_untold : (left text : Option (List ℕ)) (r : Refusal) (answer : Result Answer Refusal) → answer ≡ Err r → IfSome left (λ bytes. IfSome text (λ t. FramesFrom (Some t) (Err r) bytes)) → IfSome left (λ bytes. IfSome text (λ t. Answers job.PlanCost answer (IsOutput job.PlanCost bytes (Some t))))
-cost_untold None text r answer is from = tt
-cost_untold (Some bytes) None r answer is from = tt
-cost_untold (Some bytes) (Some t) r answer is from = unpriced (Some t) bytes r answer is from

@@ -34,8 +34,7 @@ use Rattle.ec_lines.specs.Output.{shown}
 use Rattle.ec_refusals.specs.declared.refusal.Refusal.{Refusal}
 use Rattle.ec_refusals.specs.Refusals.{out_of_memory, level_memory}
 use Rattle.ec_inputs.specs.Input.{AnswersUnits, IsInputFault}
-use Rattle.ec_answers.specs.Planned.{Any, GoesOn, GoesOnFrom, IsProofBy, IsStopped, IsStoppedFrom, IsResumeOf, IsResumeFault, ResumesFrom, AnswersResume, GetsResumeFront, outcome_cert}
-use Rattle.ec_answers.proofs.PlanLemmas.{answered, fronted, told_of, unanswered}
+use Rattle.ec_answers.specs.Planned.{GoesOn, GoesOnFrom, IsProofBy, IsStopped, IsStoppedFrom, IsResumeOf, IsResumeFault}
 use Rattle.ec_answers.proofs.CheckedLemmas.{memory_or, too_long}
 
 -- ---- a certificate that is a proof
@@ -101,72 +100,19 @@ stopped_fault workers bytes text us c r said read (inl memory) = inl (inr (inl m
 stopped_fault workers bytes text us c r said read (inr (inl h)) = inl (inr (inr (inr h)))
 stopped_fault workers bytes text us c r said read (inr (inr h)) = inr (inr (h.0, h.1, record { units = us; said = said; cert = c; read = read; fault = h.2 }))
 
--- nothing to check
-pub unresumed_inputs : (left text : Option (List ℕ)) (workers nodes : ℕ) (r : Refusal) (answer : Result (Units × Outcome) Refusal) → answer ≡ Err r → IfSome left (λ bytes. IfSome text (λ t. IsInputFault bytes t r)) → IfSome left (λ bytes. IfSome text (λ t. ResumesFrom workers nodes answer bytes t))
-unresumed_inputs None text workers nodes r answer is why = tt
-unresumed_inputs (Some bytes) None workers nodes r answer is why = tt
-unresumed_inputs (Some bytes) (Some t) workers nodes r answer is (inl (inl memory)) = rw is (inl (inr (inl memory)))
-unresumed_inputs (Some bytes) (Some t) workers nodes r answer is (inl (inr room)) = rw is (inl (inr (inr (inl room))))
-unresumed_inputs (Some bytes) (Some t) workers nodes r answer is (inr (inl h)) = rw is (inl (inl h))
-unresumed_inputs (Some bytes) (Some t) workers nodes r answer is (inr (inr h)) = rw is (inr (inl (cert.TooLarge, h.2, too_long t h.3)))
-
 -- a text from which nothing comes
-stopped_text : (workers : ℕ) (bytes text : List ℕ) (us : Units) (r : Refusal) → reading bytes ≡ Ok (units_view us) → IsStoppedFrom workers us text r → IsResumeFault workers bytes text r
+pub stopped_text : (workers : ℕ) (bytes text : List ℕ) (us : Units) (r : Refusal) → reading bytes ≡ Ok (units_view us) → IsStoppedFrom workers us text r → IsResumeFault workers bytes text r
 stopped_text workers bytes text us r said (inl (inl memory)) = inl (inr (inl memory))
 stopped_text workers bytes text us r said (inl (inr fault)) = inr (inl fault)
 stopped_text workers bytes text us r said (inr h) = stopped_fault workers bytes text us h.0 r said h.1 h.2
 
-pub unresumed_text : (left text : Option (List ℕ)) (workers nodes : ℕ) (us : Units) (v : List ℕ) (r : Refusal) (answer : Result (Units × Outcome) Refusal) → answer ≡ Err r → IfSome left (AnswersUnits (Ok us)) → IfSome text (λ all. v ≡ all) → IsStoppedFrom workers us v r
-    → IfSome left (λ bytes. IfSome text (λ t. ResumesFrom workers nodes answer bytes t))
-unresumed_text None text workers nodes us v r answer is read same h = tt
-unresumed_text (Some bytes) None workers nodes us v r answer is read same h = tt
-unresumed_text (Some bytes) (Some t) workers nodes us v r answer is read same h = rw is (stopped_text workers bytes t us r read.1 (subst (λ (w : List ℕ). IsStoppedFrom workers us w r) same h))
+-- why there are no inputs is why nothing comes of it
+pub unresumed : (workers : ℕ) (bytes text : List ℕ) (r : Refusal) → IsInputFault bytes text r → IsResumeFault workers bytes text r
+unresumed workers bytes text r (inl (inl memory)) = inl (inr (inl memory))
+unresumed workers bytes text r (inl (inr room)) = inl (inr (inr (inl room)))
+unresumed workers bytes text r (inr (inl h)) = inl (inl h)
+unresumed workers bytes text r (inr (inr h)) = inr (inl (cert.TooLarge, h.2, too_long text h.3))
 
--- and one from which an outcome comes
-pub resumed_known : (left text : Option (List ℕ)) (workers nodes : ℕ) (us : Units) (v : List ℕ) (o : Outcome) → IfSome left (AnswersUnits (Ok us)) → IfSome text (λ all. v ≡ all) → GoesOnFrom workers nodes us v o
-    → IfSome left (λ bytes. IfSome text (λ t. ResumesFrom workers nodes (Ok (us, o)) bytes t))
-resumed_known None text workers nodes us v o read same goes = tt
-resumed_known (Some bytes) None workers nodes us v o read same goes = tt
-resumed_known (Some bytes) (Some t) workers nodes us v o read same goes = record { short = read.0; said = read.1; cert = goes.0; read = rw (sym same) goes.1; goes = goes.2 }
-
--- ---- what is answered for it
-
-pub resume_told : (left text : Option (List ℕ)) (workers nodes : ℕ) (us : Units) (o : Outcome) (level : Option ℕ) (answer : Result Answer Refusal) (gets : Option (List ℕ) → Type 0)
-    → IfSome left (λ bytes. IfSome text (λ t. ResumesFrom workers nodes (Ok (us, o)) bytes t)) → IsLevelOf us.units us.slots o level → IfOk answer (λ a. shown a ≡ outcome_output us.units o level) → IfErr answer (λ r. (r ≡ out_of_memory) × gets None) → IfOk answer (λ _. gets (outcome_cert us o level))
-    → IfSome left (λ bytes. IfSome text (λ t. AnswersResume workers nodes gets answer bytes t))
-resume_told None text workers nodes us o level answer gets found proved ok err got = tt
-resume_told (Some bytes) None workers nodes us o level answer gets found proved ok err got = tt
-resume_told (Some bytes) (Some t) workers nodes us o level answer gets found proved ok err got =
-    answered (IsResumeOf workers nodes bytes t) (IsResumeFault workers bytes t) us o level answer gets found (inl (inr (inl refl))) proved ok err got
-
-pub resume_refused : (left text : Option (List ℕ)) (workers nodes : ℕ) (r : Refusal) (answer : Result Answer Refusal) (gets : Option (List ℕ) → Type 0) → answer ≡ Err r
-    → IfSome left (λ bytes. IfSome text (λ t. ResumesFrom workers nodes (Err r) bytes t)) → gets None → IfSome left (λ bytes. IfSome text (λ t. AnswersResume workers nodes gets answer bytes t))
-resume_refused None text workers nodes r answer gets is why got = tt
-resume_refused (Some bytes) None workers nodes r answer gets is why got = tt
-resume_refused (Some bytes) (Some t) workers nodes r answer gets is why got = unanswered (IsResumeOf workers nodes bytes t) (IsResumeFault workers bytes t) r answer gets is why got
-
-pub resume_answered : (left text : Option (List ℕ)) (workers nodes : ℕ) (us : Units) (o : Outcome) (answer : Result Answer Refusal) → IfSome left (λ bytes. IfSome text (λ t. ResumesFrom workers nodes (Ok (us, o)) bytes t))
-    → IfOk answer (λ a. (level : Option ℕ) × IsLevelOf us.units us.slots o level × (shown a ≡ outcome_output us.units o level)) → IfErr answer (λ r. (r ≡ out_of_memory) ⊎ (r ≡ level_memory)) → IfSome left (λ bytes. IfSome text (λ t. AnswersResume workers nodes Any answer bytes t))
-resume_answered None text workers nodes us o answer found ok err = tt
-resume_answered (Some bytes) None workers nodes us o answer found ok err = tt
-resume_answered (Some bytes) (Some t) workers nodes us o answer found ok err =
-    told_of (IsResumeOf workers nodes bytes t) (IsResumeFault workers bytes t) us o answer found (inl (inr (inl refl))) (inl (inr (inr (inl refl)))) ok err
-
--- want of memory over the level
-pub resume_unlevelled : (left text : Option (List ℕ)) (workers nodes : ℕ) (r : Refusal) (answer : Result Answer Refusal) (gets : Option (List ℕ) → Type 0) → answer ≡ Err r → r ≡ level_memory → gets None → IfSome left (λ bytes. IfSome text (λ t. AnswersResume workers nodes gets answer bytes t))
-resume_unlevelled None text workers nodes r answer gets is memory got = tt
-resume_unlevelled (Some bytes) None workers nodes r answer gets is memory got = tt
-resume_unlevelled (Some bytes) (Some t) workers nodes r answer gets is memory got =
-    unanswered (IsResumeOf workers nodes bytes t) (IsResumeFault workers bytes t) r answer gets is (inl (inr (inr (inl memory)))) got
-
-pub resume_fronted : (left text : Option (List ℕ)) (workers nodes : ℕ) (us : Units) (o : Outcome) (level : Option ℕ) (gets : Option (List ℕ) → Type 0) → IfSome left (λ bytes. IfSome text (λ t. ResumesFrom workers nodes (Ok (us, o)) bytes t)) → IsLevelOf us.units us.slots o level → gets (outcome_cert us o level)
-    → IfSome left (λ bytes. IfSome text (λ t. GetsResumeFront workers nodes gets bytes t))
-resume_fronted None text workers nodes us o level gets found proved got = tt
-resume_fronted (Some bytes) None workers nodes us o level gets found proved got = tt
-resume_fronted (Some bytes) (Some t) workers nodes us o level gets found proved got = fronted (IsResumeOf workers nodes bytes t) us o level gets found proved got
-
--- no front at all
-pub resume_unfronted : (left text : Option (List ℕ)) (workers nodes : ℕ) (gets : Option (List ℕ) → Type 0) → gets None → IfSome left (λ bytes. IfSome text (λ t. GetsResumeFront workers nodes gets bytes t))
-resume_unfronted None text workers nodes gets got = tt
-resume_unfronted (Some bytes) None workers nodes gets got = tt
-resume_unfronted (Some bytes) (Some t) workers nodes gets got = (None, inr refl, got)
+-- an outcome of the text for the units that the bytes say
+pub resume_of : (workers nodes : ℕ) (bytes text : List ℕ) (us : Units) (o : Outcome) → AnswersUnits (Ok us) bytes → GoesOnFrom workers nodes us text o → IsResumeOf workers nodes bytes text us o
+resume_of workers nodes bytes text us o read goes = record { short = read.0; said = read.1; cert = goes.0; read = goes.1; goes = goes.2 }

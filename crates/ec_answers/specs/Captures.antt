@@ -1,14 +1,13 @@
 -- What frames write: their text, and before it their capture file.
-use Rattle.std.specs.Prelude.{◌≡◌, ◌⊎◌, ℕ, ◌≤◌, List, length, Option, Some, None, Result, Ok, Err, IfSome}
+use Rattle.std.specs.Prelude.{◌≡◌, ◌⊎◌, ℕ, ◌≤◌, List, length, Option, Some, None, Result, Ok, Err}
 use Rattle.ec_units.specs.declared.units.Units.{Units}
 use Rattle.ec_unit_text.specs.Reading.{reading}
 use Rattle.ec_units.specs.Views.{units_view}
 use Rattle.ec_loads.specs.declared.plan.Plan.{Plan}
-use Rattle.ec_lines.specs.declared.answer.Answer.{Answer}
 use Rattle.ec_refusals.specs.declared.refusal.Refusal.{Refusal}
 use Rattle.ec_command.specs.declared.job.Job.TheVariants as job
-use Rattle.ec_lines.specs.Framed.{IsFramedPlan, IsCaptureFor, IsCaptured}
-use Rattle.ec_lines.specs.Output.{Written, IsOutput, refused, written_of}
+use Rattle.ec_lines.specs.Framed.{IsFramedPlan, IsCaptured}
+use Rattle.ec_lines.specs.Output.{Written, IsOutput, refused}
 use Rattle.ec_refusals.specs.Refusals.{IsFramesMemory}
 
 -- why there are no frames for the bytes of units, and of a certificate where there is one: want of memory, or what the line says that frames write
@@ -31,11 +30,3 @@ pub record IsUnframed (cert : Option (List ℕ)) (bytes : List ℕ) (w : Written
 -- what is written for the bytes of units, and the capture file that is written before it: the text of the frames and these frames, or a refusal and none
 abbrev pub IsFramesWritten : Option (List ℕ) → List ℕ → Written → Option (List ℕ) → Type 0
 IsFramesWritten cert bytes w file = ((all : List ℕ) × (file ≡ Some all) × IsCaptured cert bytes w all) ⊎ IsUnframed cert bytes w file
-
--- an answer is what is written for the bytes, and the capture file goes where it shall
-abbrev pub AnswersCapture : Option (List ℕ) → (Option (List ℕ) → Type 0) → Result Answer Refusal → List ℕ → Type 0
-AnswersCapture cert gets answer bytes = (file : Option (List ℕ)) × IsFramesWritten cert bytes (written_of answer) file × gets file
-
--- the front of a capture file goes where it shall, if there is one
-abbrev pub GetsCaptureFront : Option (List ℕ) → (Option (List ℕ) → Type 0) → List ℕ → Type 0
-GetsCaptureFront cert gets bytes = (file : Option (List ℕ)) × IfSome file (IsCaptureFor cert bytes) × gets file

@@ -1,2 +1,3 @@
 pub mod Captures
 pub mod Planned
+pub mod Told

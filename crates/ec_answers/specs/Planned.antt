@@ -18,12 +18,11 @@ use Rattle.ec_outcome.specs.declared.search.Outcome.TheVariants as outcome
 use Rattle.ec_outcome.specs.declared.search.SolveFault.{SolveFault}
 use Rattle.ec_workers.specs.Answers.{Asked, asked_beyond, IsOutcome, IsSolveFault, HasOrder}
 use Rattle.ec_workers.specs.Outcomes.{partial_for}
-use Rattle.ec_lines.specs.declared.answer.Answer.{Answer}
 use Rattle.ec_refusals.specs.declared.refusal.Refusal.{Refusal}
 use Rattle.ec_refusals.specs.declared.refusal.Refusal.TheVariants as refusal
 use Rattle.ec_inputs.specs.Input.{IsUnitsFault}
 use Rattle.ec_lines.specs.Outcomes.{outcome_output, IsLevelOf}
-use Rattle.ec_lines.specs.Output.{Written, refused, written_of}
+use Rattle.ec_lines.specs.Output.{Written, refused}
 use Rattle.ec_refusals.specs.Refusals.{out_of_memory, level_memory}
 
 -- the certificate that is written for an outcome of these units: its own, or that of a search without a proof, with its level
@@ -106,11 +105,6 @@ IsResumeFault workers bytes text r =
 
 -- ---- what is written for it
 
--- units with an outcome of a search, or why there is none
-abbrev pub Finds : (Units → Outcome → Type 0) → (Refusal → Type 0) → Result (Units × Outcome) Refusal → Type 0
-Finds is fault (Ok found) = is found.0 found.1
-Finds is fault (Err r) = fault r
-
 -- written is the text of an outcome, and this is its certificate
 pub record IsOutcomeWritten (is : Units → Outcome → Type 0) (w : Written) (cert : Option (List ℕ)) : Type 0 where
   pub units : Units
@@ -140,11 +134,6 @@ IsPlanWritten asked bytes w cert = IsSearchWritten (IsPlanOf asked bytes) (IsPla
 abbrev pub IsResumeWritten : ℕ → ℕ → List ℕ → List ℕ → Written → Option (List ℕ) → Type 0
 IsResumeWritten workers nodes bytes text w cert = IsSearchWritten (IsResumeOf workers nodes bytes text) (IsResumeFault workers bytes text) w cert
 
--- a certificate of what a search finds, or none
-abbrev pub IsCertOf : (Units → Outcome → Type 0) → Option (List ℕ) → Type 0
-IsCertOf is cert =
-    ((us : Units) × (o : Outcome) × is us o × (level : Option ℕ) × IsLevelOf us.units us.slots o level × (cert ≡ outcome_cert us o level)) ⊎ (cert ≡ None)
-
 -- a writer gets a certificate; where there is none it is left as it was
 abbrev pub Gets : {O : Type 0} → (O → Option (List ℕ)) → Io O → Io O → Option (List ℕ) → Type 0
 Gets contents old new None = new ≡ old
@@ -154,35 +143,3 @@ Gets contents old new (Some bytes) = Appends (contents (stream old)) (contents (
 abbrev pub GetsFront : {O : Type 0} → (O → Option (List ℕ)) → Io O → Io O → Option (List ℕ) → Type 0
 GetsFront contents old new None = new ≡ old
 GetsFront contents old new (Some bytes) = WritesFront (contents (stream old)) (contents (stream new)) bytes
-
--- without a writer nothing is asked of the certificate
-abbrev pub Any : Option (List ℕ) → Type 0
-Any cert = Unit {0}
-
--- an answer is what is written for a search, and the certificate goes where it shall
-abbrev pub AnswersSearch : (Units → Outcome → Type 0) → (Refusal → Type 0) → (Option (List ℕ) → Type 0) → Result Answer Refusal → Type 0
-AnswersSearch is fault gets answer = (cert : Option (List ℕ)) × IsSearchWritten is fault (written_of answer) cert × gets cert
-
--- the front of a certificate goes where it shall
-abbrev pub GetsSearchFront : (Units → Outcome → Type 0) → (Option (List ℕ) → Type 0) → Type 0
-GetsSearchFront is gets = (cert : Option (List ℕ)) × IsCertOf is cert × gets cert
-
--- for the bytes of units
-abbrev pub PlansFrom : Asked → Result (Units × Outcome) Refusal → List ℕ → Type 0
-PlansFrom asked found bytes = Finds (IsPlanOf asked bytes) (IsPlanFault asked bytes) found
-
-abbrev pub AnswersPlan : Asked → (Option (List ℕ) → Type 0) → Result Answer Refusal → List ℕ → Type 0
-AnswersPlan asked gets answer bytes = AnswersSearch (IsPlanOf asked bytes) (IsPlanFault asked bytes) gets answer
-
-abbrev pub GetsCertFront : Asked → (Option (List ℕ) → Type 0) → List ℕ → Type 0
-GetsCertFront asked gets bytes = GetsSearchFront (IsPlanOf asked bytes) gets
-
--- for the bytes of units and the text of a certificate
-abbrev pub ResumesFrom : ℕ → ℕ → Result (Units × Outcome) Refusal → List ℕ → List ℕ → Type 0
-ResumesFrom workers nodes found bytes text = Finds (IsResumeOf workers nodes bytes text) (IsResumeFault workers bytes text) found
-
-abbrev pub AnswersResume : ℕ → ℕ → (Option (List ℕ) → Type 0) → Result Answer Refusal → List ℕ → List ℕ → Type 0
-AnswersResume workers nodes gets answer bytes text = AnswersSearch (IsResumeOf workers nodes bytes text) (IsResumeFault workers bytes text) gets answer
-
-abbrev pub GetsResumeFront : ℕ → ℕ → (Option (List ℕ) → Type 0) → List ℕ → List ℕ → Type 0
-GetsResumeFront workers nodes gets bytes text = GetsSearchFront (IsResumeOf workers nodes bytes text) gets

@@ -1,18 +1,14 @@
-//! What each job answers of the units, and the certificate, that its readers have.
+//! What each job answers of the units and the certificate that were read: values, and no reader or writer.
 #![tactic(auto)]
 
-mod capture;
+mod answering;
 mod check;
-mod cost;
-mod frames;
-mod plan;
-mod play;
+mod outcome;
+mod plain;
+mod plans;
 mod resume;
+mod told;
 
-pub use capture::{captured_answer, captured_plan};
-pub use check::whole_answer;
-pub use cost::{cost_answer, planned_cost};
-pub use frames::{frames_answer, planned_frames};
-pub use plan::{certified_answer, plan_answer};
-pub use play::{planned_play, played_answer};
-pub use resume::{resume_answer, resumed_answer};
+pub use answering::answer;
+pub use plain::answer_plain;
+pub use told::{File, Told};

@@ -1,28 +1,25 @@
-//! The jobs of the program: what is read, and what is written for it.
+//! The jobs of the program: what is read, what is told of it, and how that is delivered.
 #![tactic(auto)]
 
-mod capturing;
-mod costing;
+mod answering;
+mod delivering;
 mod doing;
-mod framing;
 mod job;
 mod late;
 mod law;
 mod plain;
-mod playing;
-mod resuming;
+mod plain_steps;
 mod running;
+mod steps;
 mod usage;
 
-pub use capturing::{run_capture, run_captured_plan};
 pub use doing::do_line;
-pub use job::{Status, refuse, run_plan_to};
+pub use job::{Status, refuse};
 pub use late::Late;
 pub use law::{
     a_plan_is_true, a_resumed_plan_is_true, a_yes_is_true, one_capture_each, one_least_each,
     one_output_each,
 };
 pub use plain::run_plain;
-pub use resuming::run_resume_to;
 pub use running::run;
 pub use usage::{refuse_memory, refuse_words};

@@ -2,16 +2,13 @@
 
 ghost use Rattle.std.specs.Prelude.{◌≡◌, false, option_map};
 ghost use Rattle.ec_wire.specs.Stream.{has_failed};
-ghost use Rattle.ec_jobs.specs.Runs.{used, lent, HasCert, HasOut, IsRun};
+ghost use Rattle.ec_inputs.specs.Use.{used, lent};
+ghost use Rattle.ec_jobs.specs.Runs.{HasCert, HasOut, IsRun};
 ghost use Rattle.ec_command.specs.Words.{IsPlain};
 
-use crate::capturing::{run_capture, run_captured_plan};
-use crate::costing::run_planned_cost;
-use crate::framing::{run_frames, run_planned};
-use crate::job::{Status, run_check, run_cost};
-use crate::playing::{run_planned_play, run_played};
+use crate::job::Status;
+use crate::plain_steps::{do_alone, do_alone_to, do_both, do_both_to};
 use ec_command::Job;
-use ec_lines::Alone;
 use ec_wire::Io;
 use std::alloc::Global;
 use std::io::{Read, Write};
@@ -36,34 +33,34 @@ pub fn run_plain<R: Read, C: Read, W: Write, O: Write>(
     ensures { IsRun job.now (used R.remaining units.old units.new) (lent C.remaining cert.entry cert.exit) (used W.contents text.old text.new) (lent O.contents out.entry out.exit) result.code }
 {
     match job {
-        Job::Cost => run_cost(alloc, units, text),
-        Job::Plan { .. } => unreachable!(),
-        Job::Resume { .. } => unreachable!(),
+        Job::Cost => do_alone(alloc, job, units, text),
         Job::Check => match cert {
-            Some(cert) => run_check(alloc, units, cert, text),
+            Some(cert) => do_both(alloc, job, units, cert, text),
+            None => unreachable!(),
+        },
+        Job::PlanCost => match cert {
+            Some(cert) => do_both(alloc, job, units, cert, text),
             None => unreachable!(),
         },
         Job::Frames => match cert {
-            Some(plan) => run_planned(alloc, units, plan, text),
-            None => run_frames(alloc, units, text),
-        },
-        Job::Capture => match out {
-            Some(out) => match cert {
-                Some(plan) => run_captured_plan(alloc, units, plan, text, out),
-                None => run_capture(alloc, units, text, out),
-            },
-            None => match cert {
-                Some(plan) => run_planned(alloc, units, plan, text),
-                None => run_frames(alloc, units, text),
-            },
+            Some(cert) => do_both(alloc, job, units, cert, text),
+            None => do_alone(alloc, job, units, text),
         },
         Job::Play => match cert {
-            Some(plan) => run_planned_play(&Alone, alloc, units, plan, text),
-            None => run_played(&Alone, alloc, units, text),
+            Some(cert) => do_both(alloc, job, units, cert, text),
+            None => do_alone(alloc, job, units, text),
         },
-        Job::PlanCost => match cert {
-            Some(cert) => run_planned_cost(alloc, units, cert, text),
-            None => unreachable!(),
+        Job::Capture => match cert {
+            Some(cert) => match out {
+                Some(out) => do_both_to(alloc, job, units, cert, text, out),
+                None => do_both(alloc, job, units, cert, text),
+            },
+            None => match out {
+                Some(out) => do_alone_to(alloc, job, units, text, out),
+                None => do_alone(alloc, job, units, text),
+            },
         },
+        Job::Plan { .. } => unreachable!(),
+        Job::Resume { .. } => unreachable!(),
     }
 }

@@ -2,17 +2,13 @@
 
 ghost use Rattle.std.specs.Prelude.{◌≡◌, false, option_map};
 ghost use Rattle.ec_wire.specs.Stream.{has_failed};
-ghost use Rattle.ec_jobs.specs.Runs.{used, lent, HasCert, IsRun, NoneFailed};
+ghost use Rattle.ec_inputs.specs.Use.{used, lent};
+ghost use Rattle.ec_jobs.specs.Runs.{HasCert, IsRun, NoneFailed};
 ghost use Rattle.ec_command.specs.Words.{JobFits};
 
-use crate::capturing::{run_capture, run_captured_plan};
-use crate::costing::run_planned_cost;
-use crate::framing::{run_frames, run_planned};
-use crate::job::{Status, run_check, run_cost, run_plan, run_plan_to};
-use crate::playing::{run_planned_play, run_played};
-use crate::resuming::{run_resume, run_resume_to};
+use crate::job::Status;
+use crate::steps::{run_alone, run_alone_to, run_both, run_both_to};
 use ec_command::Job;
-use ec_lines::Together;
 use ec_wire::Io;
 use ec_workers::Gate;
 use std::alloc::Global;
@@ -43,43 +39,41 @@ pub fn run<R: Read, C: Read, W: Write, O: Write, T: Threads + Wait + Sync, G: Ga
     ensures { IsRun job.now (used R.remaining units.old units.new) (lent C.remaining cert.entry cert.exit) (used W.contents text.old text.new) (lent O.contents out.entry out.exit) result.code }
 {
     match job {
-        Job::Cost => run_cost(alloc, units, text),
-        Job::Plan { workers, nodes } => match out {
-            Some(out) => run_plan_to(rt, alloc, *workers, *nodes, units, text, out, gate),
-            None => run_plan(rt, alloc, *workers, *nodes, units, text, gate),
-        },
+        Job::Cost => run_alone(rt, alloc, job, units, text, gate),
         Job::Check => match cert {
-            Some(cert) => run_check(alloc, units, cert, text),
+            Some(cert) => run_both(rt, alloc, job, units, cert, text, gate),
+            None => unreachable!(),
+        },
+        Job::PlanCost => match cert {
+            Some(cert) => run_both(rt, alloc, job, units, cert, text, gate),
             None => unreachable!(),
         },
         Job::Frames => match cert {
-            Some(plan) => run_planned(alloc, units, plan, text),
-            None => run_frames(alloc, units, text),
-        },
-        Job::Capture => match out {
-            Some(out) => match cert {
-                Some(plan) => run_captured_plan(alloc, units, plan, text, out),
-                None => run_capture(alloc, units, text, out),
-            },
-            None => match cert {
-                Some(plan) => run_planned(alloc, units, plan, text),
-                None => run_frames(alloc, units, text),
-            },
+            Some(cert) => run_both(rt, alloc, job, units, cert, text, gate),
+            None => run_alone(rt, alloc, job, units, text, gate),
         },
         Job::Play => match cert {
-            Some(plan) => run_planned_play(&Together(rt), alloc, units, plan, text),
-            None => run_played(&Together(rt), alloc, units, text),
+            Some(cert) => run_both(rt, alloc, job, units, cert, text, gate),
+            None => run_alone(rt, alloc, job, units, text, gate),
         },
-        Job::PlanCost => match cert {
-            Some(cert) => run_planned_cost(alloc, units, cert, text),
-            None => unreachable!(),
-        },
-        Job::Resume { workers, nodes } => match cert {
+        Job::Capture => match cert {
             Some(cert) => match out {
-                Some(out) => run_resume_to(
-                    rt, alloc, *workers, *nodes, units, cert, text, out, gate,
-                ),
-                None => run_resume(rt, alloc, *workers, *nodes, units, cert, text, gate),
+                Some(out) => run_both_to(rt, alloc, job, units, cert, text, out, gate),
+                None => run_both(rt, alloc, job, units, cert, text, gate),
+            },
+            None => match out {
+                Some(out) => run_alone_to(rt, alloc, job, units, text, out, gate),
+                None => run_alone(rt, alloc, job, units, text, gate),
+            },
+        },
+        Job::Plan { .. } => match out {
+            Some(out) => run_alone_to(rt, alloc, job, units, text, out, gate),
+            None => run_alone(rt, alloc, job, units, text, gate),
+        },
+        Job::Resume { .. } => match cert {
+            Some(cert) => match out {
+                Some(out) => run_both_to(rt, alloc, job, units, cert, text, out, gate),
+                None => run_both(rt, alloc, job, units, cert, text, gate),
             },
             None => unreachable!(),
         },

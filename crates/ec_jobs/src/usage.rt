@@ -2,7 +2,8 @@
 
 ghost use Rattle.std.specs.Prelude.{◌≡◌, false};
 ghost use Rattle.ec_wire.specs.Stream.{has_failed};
-ghost use Rattle.ec_jobs.specs.Runs.{used, Tells, usage};
+ghost use Rattle.ec_inputs.specs.Use.{used};
+ghost use Rattle.ec_jobs.specs.Runs.{Tells, usage};
 ghost use Rattle.ec_lines.specs.Output.{refused};
 ghost use Rattle.ec_refusals.specs.Refusals.{out_of_memory};
 
