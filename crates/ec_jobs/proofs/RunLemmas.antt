@@ -10,12 +10,13 @@ use Rattle.ec_refusals.specs.declared.refusal.Refusal.{Refusal}
 use Rattle.ec_refusals.specs.declared.refusal.Refusal.TheVariants as refusal
 use Rattle.ec_command.specs.declared.job.Job.{Job}
 use Rattle.ec_command.specs.declared.job.Job.TheVariants as job
-use Rattle.ec_inputs.specs.Input.{ReadsBoth, ReadsUpTo, most_of_units, most_of_cert}
+use Rattle.ec_inputs.specs.Input.{IsUnread, ReadsBoth, ReadsUpTo, most_of_units, most_of_cert}
 use Rattle.ec_inputs.specs.Use.{Use, before, after, IsSound, HasFailed, IsKept, Lent, IsLeft}
 use Rattle.ec_lines.specs.Output.{Written}
 use Rattle.ec_answers.specs.Planned.{Gets, GetsFront}
 use Rattle.ec_answers.specs.Told.{HasInput, IsTold, TellsFor, file_of, told}
 use Rattle.ec_answers.specs.declared.told.Told.{Told}
+use Rattle.ec_answers.proofs.ToldLemmas.{unread_tells}
 use Rattle.ec_jobs.specs.Runs.{Does, DoesWith, IsDelivered, ReadsSomeCert, Refuses, Tells, here, nobody}
 
 -- what is told is also what follows from it
@@ -44,6 +45,16 @@ some_input job.Frames text h = tt
 some_input job.Capture text h = tt
 some_input job.PlanCost text h = tt
 some_input job.Play text h = tt
+
+-- where there are no inputs
+pub alone_unread : (wanted : Bool) (j : Job) (left : Option (List ℕ)) (r : Refusal) (t : Result Told Refusal) → HasInput j None → t ≡ Err r → IfSome left (λ bytes. IsUnread bytes None r) → IfSome left (λ bytes. TellsFor wanted j bytes None t)
+alone_unread wanted j None r t has is h = tt
+alone_unread wanted j (Some bytes) r t has is h = unread_tells wanted j bytes None r t has is h
+
+pub both_unread : (wanted : Bool) (j : Job) (left cert : Option (List ℕ)) (r : Refusal) (t : Result Told Refusal) → ReadsSomeCert j → t ≡ Err r → IfSome left (λ bytes. IfSome cert (λ text. IsUnread bytes (Some text) r)) → IfSome left (λ bytes. IfSome cert (λ text. TellsFor wanted j bytes (Some text) t))
+both_unread wanted j None cert r t has is h = tt
+both_unread wanted j (Some bytes) None r t has is h = tt
+both_unread wanted j (Some bytes) (Some text) r t has is h = unread_tells wanted j bytes (Some text) r t (some_input j text has) is h
 
 -- another refusal follows from the one
 reads_more : {X : Type 0} {s : Use X} {most : ℕ} {P Q : Type 0} → (HasFailed s → P → Q) → ReadsUpTo s most P → ReadsUpTo s most Q
@@ -158,11 +169,11 @@ does_both_to j u c o answer fresh tells read w d = record {
 
 -- ---- what a job leaves alone
 
-pub with_cost : {R C O : Type 0} (j : Job) (u : Use R) (c : Lent C) (o : Lent O) (w : Written) → j ≡ job.Cost → Does j u (nobody {C}) (nobody {O}) w → IsLeft c → IsLeft o → DoesWith j u c o w
-with_cost {R} {C} {O} j u c o w is h cert out = subst (λ (k : Job). DoesWith k u c o w) (sym is) (subst (λ (k : Job). Does k u (nobody {C}) (nobody {O}) w) is h, cert, out)
+pub with_cost : {R C O : Type 0} (j : Job) (u : Use R) (c : Lent C) (o : Lent O) (w : Written) → j ≡ job.Cost → Does j u (nobody {X = C}) (nobody {X = O}) w → IsLeft c → IsLeft o → DoesWith j u c o w
+with_cost {R} {C} {O} j u c o w is h cert out = subst (λ (k : Job). DoesWith k u c o w) (sym is) (subst (λ (k : Job). Does k u (nobody {X = C}) (nobody {X = O}) w) is h, cert, out)
 
-pub with_plan : {R C O : Type 0} (j : Job) (workers nodes : ℕ) (u : Use R) (c : Lent C) (o : Lent O) (w : Written) → j ≡ job.Plan workers nodes → Does j u (nobody {C}) o w → IsLeft c → DoesWith j u c o w
-with_plan {R} {C} {O} j workers nodes u c o w is h cert = subst (λ (k : Job). DoesWith k u c o w) (sym is) (subst (λ (k : Job). Does k u (nobody {C}) o w) is h, cert)
+pub with_plan : {R C O : Type 0} (j : Job) (workers nodes : ℕ) (u : Use R) (c : Lent C) (o : Lent O) (w : Written) → j ≡ job.Plan workers nodes → Does j u (nobody {X = C}) o w → IsLeft c → DoesWith j u c o w
+with_plan {R} {C} {O} j workers nodes u c o w is h cert = subst (λ (k : Job). DoesWith k u c o w) (sym is) (subst (λ (k : Job). Does k u (nobody {X = C}) o w) is h, cert)
 
 pub with_resume : {R C O : Type 0} (j : Job) (workers nodes : ℕ) (u : Use R) (c : Lent C) (o : Lent O) (w : Written) → j ≡ job.Resume workers nodes → Does j u c o w → DoesWith j u c o w
 with_resume j workers nodes u c o w is h = subst (λ (k : Job). DoesWith k u c o w) (sym is) (subst (λ (k : Job). Does k u c o w) is h)
@@ -170,14 +181,14 @@ with_resume j workers nodes u c o w is h = subst (λ (k : Job). DoesWith k u c o
 pub with_capture : {R C O : Type 0} (j : Job) (u : Use R) (c : Lent C) (o : Lent O) (w : Written) → j ≡ job.Capture → Does j u c o w → DoesWith j u c o w
 with_capture j u c o w is h = subst (λ (k : Job). DoesWith k u c o w) (sym is) (subst (λ (k : Job). Does k u c o w) is h)
 
-pub with_check : {R C O : Type 0} (j : Job) (u : Use R) (c : Lent C) (o : Lent O) (w : Written) → j ≡ job.Check → Does j u c (nobody {O}) w → IsLeft o → DoesWith j u c o w
-with_check {R} {C} {O} j u c o w is h out = subst (λ (k : Job). DoesWith k u c o w) (sym is) (subst (λ (k : Job). Does k u c (nobody {O}) w) is h, out)
+pub with_check : {R C O : Type 0} (j : Job) (u : Use R) (c : Lent C) (o : Lent O) (w : Written) → j ≡ job.Check → Does j u c (nobody {X = O}) w → IsLeft o → DoesWith j u c o w
+with_check {R} {C} {O} j u c o w is h out = subst (λ (k : Job). DoesWith k u c o w) (sym is) (subst (λ (k : Job). Does k u c (nobody {X = O}) w) is h, out)
 
-pub with_frames : {R C O : Type 0} (j : Job) (u : Use R) (c : Lent C) (o : Lent O) (w : Written) → j ≡ job.Frames → Does j u c (nobody {O}) w → IsLeft o → DoesWith j u c o w
-with_frames {R} {C} {O} j u c o w is h out = subst (λ (k : Job). DoesWith k u c o w) (sym is) (subst (λ (k : Job). Does k u c (nobody {O}) w) is h, out)
+pub with_frames : {R C O : Type 0} (j : Job) (u : Use R) (c : Lent C) (o : Lent O) (w : Written) → j ≡ job.Frames → Does j u c (nobody {X = O}) w → IsLeft o → DoesWith j u c o w
+with_frames {R} {C} {O} j u c o w is h out = subst (λ (k : Job). DoesWith k u c o w) (sym is) (subst (λ (k : Job). Does k u c (nobody {X = O}) w) is h, out)
 
-pub with_plan_cost : {R C O : Type 0} (j : Job) (u : Use R) (c : Lent C) (o : Lent O) (w : Written) → j ≡ job.PlanCost → Does j u c (nobody {O}) w → IsLeft o → DoesWith j u c o w
-with_plan_cost {R} {C} {O} j u c o w is h out = subst (λ (k : Job). DoesWith k u c o w) (sym is) (subst (λ (k : Job). Does k u c (nobody {O}) w) is h, out)
+pub with_plan_cost : {R C O : Type 0} (j : Job) (u : Use R) (c : Lent C) (o : Lent O) (w : Written) → j ≡ job.PlanCost → Does j u c (nobody {X = O}) w → IsLeft o → DoesWith j u c o w
+with_plan_cost {R} {C} {O} j u c o w is h out = subst (λ (k : Job). DoesWith k u c o w) (sym is) (subst (λ (k : Job). Does k u c (nobody {X = O}) w) is h, out)
 
-pub with_play : {R C O : Type 0} (j : Job) (u : Use R) (c : Lent C) (o : Lent O) (w : Written) → j ≡ job.Play → Does j u c (nobody {O}) w → IsLeft o → DoesWith j u c o w
-with_play {R} {C} {O} j u c o w is h out = subst (λ (k : Job). DoesWith k u c o w) (sym is) (subst (λ (k : Job). Does k u c (nobody {O}) w) is h, out)
+pub with_play : {R C O : Type 0} (j : Job) (u : Use R) (c : Lent C) (o : Lent O) (w : Written) → j ≡ job.Play → Does j u c (nobody {X = O}) w → IsLeft o → DoesWith j u c o w
+with_play {R} {C} {O} j u c o w is h out = subst (λ (k : Job). DoesWith k u c o w) (sym is) (subst (λ (k : Job). Does k u c (nobody {X = O}) w) is h, out)

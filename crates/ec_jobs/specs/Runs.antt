@@ -72,14 +72,14 @@ pub record Does {R C O : Type 0} (j : Job) (units : Use R) (cert : Lent C) (out 
 
 -- a cost and a plan leave the certificate, and a job that writes no file leaves the writer
 abbrev pub DoesWith : {R C O : Type 0} → Job → Use R → Lent C → Lent O → Written → Type 0
-DoesWith {R} {C} {O} job.Cost units cert out w = Does job.Cost units (nobody {C}) (nobody {O}) w × IsLeft cert × IsLeft out
-DoesWith {R} {C} {O} (job.Plan workers nodes) units cert out w = Does (job.Plan workers nodes) units (nobody {C}) out w × IsLeft cert
+DoesWith {R} {C} {O} job.Cost units cert out w = Does job.Cost units (nobody {X = C}) (nobody {X = O}) w × IsLeft cert × IsLeft out
+DoesWith {R} {C} {O} (job.Plan workers nodes) units cert out w = Does (job.Plan workers nodes) units (nobody {X = C}) out w × IsLeft cert
 DoesWith {R} {C} {O} (job.Resume workers nodes) units cert out w = Does (job.Resume workers nodes) units cert out w
-DoesWith {R} {C} {O} job.Check units cert out w = Does job.Check units cert (nobody {O}) w × IsLeft out
-DoesWith {R} {C} {O} job.Frames units cert out w = Does job.Frames units cert (nobody {O}) w × IsLeft out
+DoesWith {R} {C} {O} job.Check units cert out w = Does job.Check units cert (nobody {X = O}) w × IsLeft out
+DoesWith {R} {C} {O} job.Frames units cert out w = Does job.Frames units cert (nobody {X = O}) w × IsLeft out
 DoesWith {R} {C} {O} job.Capture units cert out w = Does job.Capture units cert out w
-DoesWith {R} {C} {O} job.PlanCost units cert out w = Does job.PlanCost units cert (nobody {O}) w × IsLeft out
-DoesWith {R} {C} {O} job.Play units cert out w = Does job.Play units cert (nobody {O}) w × IsLeft out
+DoesWith {R} {C} {O} job.PlanCost units cert out w = Does job.PlanCost units cert (nobody {X = O}) w × IsLeft out
+DoesWith {R} {C} {O} job.Play units cert out w = Does job.Play units cert (nobody {X = O}) w × IsLeft out
 
 -- a run does its job, and tells what is to be written for it
 abbrev pub IsRun : {R C W O : Type 0} → Job → Use R → Lent C → Use W → Lent O → ℕ → Type 0
