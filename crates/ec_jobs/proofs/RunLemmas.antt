@@ -2,8 +2,8 @@
 -- `run` has one relation (`IsRun`): the record `Does` says what is to be written as facts under premises, and `Tells` says
 -- what becomes of that. Never look at a goal's `Exit.see ..`: `lent` takes entry and exit raw, and `rw` by the arm's `.is`,
 -- round the small fact, computes it away.
-use Rattle.std.proofs.Common.{◌≡◌, ◌∙◌, ℕ, Bool, true, false, List, Option, Some, None, Result, Ok, Err, refl, sym, ap, subst}
-use Rattle.std.specs.Prelude.{IfSome}
+use Rattle.std.proofs.Common.{◌≡◌, ◌∙◌, ℕ, Bool, Global, inl, inr, true, false, true≢false, List, Option, Some, None, Result, Ok, Err, refl, sym, ap, subst}
+use Rattle.std.specs.Prelude.{◌⊎◌, IfSome, String}
 use Rattle.std.specs.Io.KnownBytes.{Appends}
 use Rattle.ec_wire.specs.Stream.{has_failed, WritesFront}
 use Rattle.ec_refusals.specs.declared.refusal.Refusal.{Refusal}
@@ -11,13 +11,13 @@ use Rattle.ec_refusals.specs.declared.refusal.Refusal.TheVariants as refusal
 use Rattle.ec_command.specs.declared.job.Job.{Job}
 use Rattle.ec_command.specs.declared.job.Job.TheVariants as job
 use Rattle.ec_inputs.specs.Input.{IsUnread, ReadsBoth, ReadsUpTo, most_of_units, most_of_cert}
-use Rattle.ec_inputs.specs.Use.{Use, before, after, IsSound, HasFailed, IsKept, Lent, IsLeft}
+use Rattle.ec_inputs.specs.Use.{Use, before, after, IsSound, HasFailed, IsKept, Lent}
 use Rattle.ec_lines.specs.Output.{Written}
 use Rattle.ec_answers.specs.Planned.{Gets, GetsFront}
 use Rattle.ec_answers.specs.Told.{HasInput, IsTold, TellsFor, file_of, told}
 use Rattle.ec_answers.specs.declared.told.Told.{Told}
 use Rattle.ec_answers.proofs.ToldLemmas.{unread_tells}
-use Rattle.ec_jobs.specs.Runs.{Does, DoesWith, IsDelivered, ReadsSomeCert, Refuses, Tells, here, nobody}
+use Rattle.ec_jobs.specs.Runs.{Does, DoesLine, IsDelivered, LineTold, ReadsSomeCert, Refuses, Tells, here, nobody}
 
 -- what is told is also what follows from it
 pub tells_more : {W : Type 0} {P Q : Written → Type 0} {text : Use W} {code : ℕ} → ((w : Written) → P w → Q w) → Tells P text code → Tells Q text code
@@ -114,6 +114,10 @@ does_both j u c answer tells read w is = record {
 
 -- ---- with one
 
+-- what is told is delivered where its file was written whole
+pub delivered : {O : Type 0} (o : Use O) (answer : Result Told Refusal) (w : Written) → IsSound o → w ≡ told answer → Gets o.tells o.old o.new (file_of answer) → GetsFront o.tells o.old o.new (file_of answer) → IsDelivered answer o w
+delivered o answer w sound is got front = record { whole = λ _. (is, got); front = front; failed = λ f. absurd (true≢false (sym f ∙ sound)) }
+
 -- where nothing was read, the writer is as it was, and the refusal is written
 unread_kept : {O : Type 0} (answer : Result Told Refusal) (o : Use O) (w : Written) → IsDelivered answer o w → answer ≡ Err refusal.Read → IsKept o
 unread_kept answer o w d is = subst (λ (a : Result Told Refusal). GetsFront o.tells o.old o.new (file_of a)) is d.front
@@ -167,28 +171,47 @@ does_both_to j u c o answer fresh tells read w d = record {
   cert_unread = λ f. unread_kept answer o w d (read.cert_read.failed f);
 }
 
--- ---- what a job leaves alone
+-- ---- of whatever it is that isn't lent
 
-pub with_cost : {R C O : Type 0} (j : Job) (u : Use R) (c : Lent C) (o : Lent O) (w : Written) → j ≡ job.Cost → Does j u (nobody {X = C}) (nobody {X = O}) w → IsLeft c → IsLeft o → DoesWith j u c o w
-with_cost {R} {C} {O} j u c o w is h cert out = subst (λ (k : Job). DoesWith k u c o w) (sym is) (subst (λ (k : Job). Does k u (nobody {X = C}) (nobody {X = O}) w) is h, cert, out)
+-- one that isn't lent
+abbrev Gone : {X : Type 0} → (X → Option (List ℕ)) → Lent X
+Gone tells = record { tells = tells; old = None; new = None }
 
-pub with_plan : {R C O : Type 0} (j : Job) (workers nodes : ℕ) (u : Use R) (c : Lent C) (o : Lent O) (w : Written) → j ≡ job.Plan workers nodes → Does j u (nobody {X = C}) o w → IsLeft c → DoesWith j u c o w
-with_plan {R} {C} {O} j workers nodes u c o w is h cert = subst (λ (k : Job). DoesWith k u c o w) (sym is) (subst (λ (k : Job). Does k u (nobody {X = C}) o w) is h, cert)
+pub alone_is : {R A B C O : Type 0} {j k : Job} {u : Use R} {tc : C → Option (List ℕ)} {to : O → Option (List ℕ)} {w : Written} → j ≡ k → Does {C = A} {O = B} j u nobody nobody w → Does k u (Gone tc) (Gone to) w
+alone_is {R} {A} {B} {C} {O} {j} {k} {u} {tc} {to} {w} is d = subst (λ (x : Job). Does x u (Gone tc) (Gone to) w) is
+    (record { units_read = d.units_read; cert_read = tt; told = d.told; front = d.front; unwritten = tt; unread = tt; cert_unread = tt })
 
-pub with_resume : {R C O : Type 0} (j : Job) (workers nodes : ℕ) (u : Use R) (c : Lent C) (o : Lent O) (w : Written) → j ≡ job.Resume workers nodes → Does j u c o w → DoesWith j u c o w
-with_resume j workers nodes u c o w is h = subst (λ (k : Job). DoesWith k u c o w) (sym is) (subst (λ (k : Job). Does k u c o w) is h)
+pub to_is : {R A C O : Type 0} {j k : Job} {u : Use R} {o : Use O} {tc : C → Option (List ℕ)} {w : Written} → j ≡ k → Does {C = A} j u nobody (here o) w → Does k u (Gone tc) (here o) w
+to_is {R} {A} {C} {O} {j} {k} {u} {o} {tc} {w} is d = subst (λ (x : Job). Does x u (Gone tc) (here o) w) is
+    (record { units_read = d.units_read; cert_read = tt; told = d.told; front = d.front; unwritten = d.unwritten; unread = d.unread; cert_unread = tt })
 
-pub with_capture : {R C O : Type 0} (j : Job) (u : Use R) (c : Lent C) (o : Lent O) (w : Written) → j ≡ job.Capture → Does j u c o w → DoesWith j u c o w
-with_capture j u c o w is h = subst (λ (k : Job). DoesWith k u c o w) (sym is) (subst (λ (k : Job). Does k u c o w) is h)
+pub both_is : {R B C O : Type 0} {j k : Job} {u : Use R} {c : Use C} {to : O → Option (List ℕ)} {w : Written} → j ≡ k → Does {O = B} j u (here c) nobody w → Does k u (here c) (Gone to) w
+both_is {R} {B} {C} {O} {j} {k} {u} {c} {to} {w} is d = subst (λ (x : Job). Does x u (here c) (Gone to) w) is
+    (record { units_read = d.units_read; cert_read = d.cert_read; told = d.told; front = d.front; unwritten = tt; unread = tt; cert_unread = tt })
 
-pub with_check : {R C O : Type 0} (j : Job) (u : Use R) (c : Lent C) (o : Lent O) (w : Written) → j ≡ job.Check → Does j u c (nobody {X = O}) w → IsLeft o → DoesWith j u c o w
-with_check {R} {C} {O} j u c o w is h out = subst (λ (k : Job). DoesWith k u c o w) (sym is) (subst (λ (k : Job). Does k u c (nobody {X = O}) w) is h, out)
+pub all_is : {R C O : Type 0} {j k : Job} {u : Use R} {c : Use C} {o : Use O} {w : Written} → j ≡ k → Does j u (here c) (here o) w → Does k u (here c) (here o) w
+all_is {R} {C} {O} {j} {k} {u} {c} {o} {w} is d = subst (λ (x : Job). Does x u (here c) (here o) w) is d
 
-pub with_frames : {R C O : Type 0} (j : Job) (u : Use R) (c : Lent C) (o : Lent O) (w : Written) → j ≡ job.Frames → Does j u c (nobody {X = O}) w → IsLeft o → DoesWith j u c o w
-with_frames {R} {C} {O} j u c o w is h out = subst (λ (k : Job). DoesWith k u c o w) (sym is) (subst (λ (k : Job). Does k u c (nobody {X = O}) w) is h, out)
+-- ---- a command line without a certificate
 
-pub with_plan_cost : {R C O : Type 0} (j : Job) (u : Use R) (c : Lent C) (o : Lent O) (w : Written) → j ≡ job.PlanCost → Does j u c (nobody {X = O}) w → IsLeft o → DoesWith j u c o w
-with_plan_cost {R} {C} {O} j u c o w is h out = subst (λ (k : Job). DoesWith k u c o w) (sym is) (subst (λ (k : Job). Does k u c (nobody {X = O}) w) is h, out)
+true_or_false : (b : Bool) → (b ≡ true) ⊎ (b ≡ false)
+true_or_false true = inl refl
+true_or_false false = inr refl
 
-pub with_play : {R C O : Type 0} (j : Job) (u : Use R) (c : Lent C) (o : Lent O) (w : Written) → j ≡ job.Play → Does j u c (nobody {X = O}) w → IsLeft o → DoesWith j u c o w
-with_play {R} {C} {O} j u c o w is h out = subst (λ (k : Job). DoesWith k u c o w) (sym is) (subst (λ (k : Job). Does k u c (nobody {X = O}) w) is h, out)
+alone_said : (j : Job) (left : Option (List ℕ)) (w : Written) → IfSome left (λ bytes. (file : Option (List ℕ)) × IsTold j bytes None w file × Unit {0}) → IfSome left (LineTold j None None w)
+alone_said j None w h = tt
+alone_said j (Some bytes) w h = (h.0, h.1)
+
+pub line_alone : {R A B : Type 0} (j : Job) (u : Use R) (w : Written) → Does {C = A} {O = B} j u nobody nobody w → DoesLine j None None u w
+line_alone j u w d = record { read = d.units_read; told = λ sound. alone_said j (before u) w (d.told sound tt tt) }
+
+written_said : {O : Type 0} (j : Job) (left : Option (List ℕ)) (path : String Global) (o : Use O) (w : Written) → (has_failed o.new ≡ true → Refuses refusal.Write w)
+    → (IsSound o → IfSome left (λ bytes. (file : Option (List ℕ)) × IsTold j bytes None w file × Gets o.tells o.old o.new file)) → IfSome left (LineTold j None (Some path) w)
+written_said j None path o w failed told = tt
+written_said j (Some bytes) path o w failed told = elim (true_or_false (has_failed o.new)) [
+  | inl broken ↦ inl (failed broken)
+  | inr whole ↦ let h = told whole in inr (h.0, h.1)
+]
+
+pub line_to : {R A O : Type 0} (j : Job) (path : String Global) (u : Use R) (o : Use O) (w : Written) → Does {C = A} j u nobody (here o) w → DoesLine j None (Some path) u w
+line_to j path u o w d = record { read = d.units_read; told = λ sound. written_said j (before u) path o w d.unwritten (λ whole. d.told sound tt whole) }
