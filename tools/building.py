@@ -25,15 +25,9 @@ PROVED = (b"logic=proved", b"rt: nothing has changed since the last proved build
 NOT_BUILT = "the program could not be built; what was said of it is in "
 # Memory that one prover may take, in KiB.
 PROVER_KIB = 2 << 20
-# Seconds of processor that each crate's proof takes, roughly, where it isn't 20; they only serve the guess of what is left.
-SECONDS = {
-    "ec_unit_text": 125, "ec_remarks": 245, "ec_placing": 40, "ec_picture": 40, "ec_loads": 95, "ec_bounds": 30,
-    "ec_cert": 35, "ec_cert_text": 150, "ec_symmetry": 30, "ec_checker": 35, "ec_book": 120, "ec_seats": 130,
-    "ec_branch": 80, "ec_tickets": 40, "ec_crew": 160, "ec_workers": 70, "ec_fmmu": 55, "ec_frames": 60,
-    "ec_slave": 135, "ec_passing": 60, "ec_player": 50, "ec_play": 105, "ec_play_threads": 130, "ec_replies": 120,
-    "ec_frame_lines": 50, "ec_play_lines": 60, "ec_lines": 90, "ec_answers": 110, "ec_jobs": 120, "ec_words": 90,
-    PROGRAM: 110,
-}
+# Where the seconds of processor stand that each crate's proof takes, roughly, and what serves where a crate isn't in it.
+# They only serve the guess of what is left.
+TABLE, USUAL = os.path.join(TOP, "bench", "gate-seconds.txt"), 30
 # Seconds of them that are done in a second, with one prover and for each further one, and how long a run goes on before
 # its own speed counts for as much as these.
 ALONE, FURTHER, SETTLING = 1.0, 0.4, 300
@@ -114,6 +108,19 @@ def provers():
     return max(1, min(2 * len(os.sched_getaffinity(0)), free // PROVER_KIB))
 
 
+def usual_seconds():
+    """The seconds that each crate's proof takes, by the table."""
+    found = {}
+    try:
+        with open(TABLE, encoding="ascii") as table:
+            for words in (line.split() for line in table if not line.startswith("#")):
+                if len(words) == 4 and words[1].isdigit():
+                    found[words[0]] = int(words[1])
+    except OSError:
+        pass
+    return found
+
+
 def minutes(seconds):
     return "less than a minute" if seconds < 60 else "about %d min" % round(seconds / 60)
 
@@ -122,7 +129,8 @@ class Progress:
     """What is told of a run while it goes on."""
 
     def __init__(self, crates, at_once):
-        self.left = {crate: SECONDS.get(crate, 20) for crate in crates}
+        usual = usual_seconds()
+        self.left = {crate: usual.get(crate, USUAL) for crate in crates}
         self.whole = sum(self.left.values())
         self.count, self.at_once, self.started, self.told = len(crates), at_once, time.monotonic(), 0.0
 
