@@ -1,4 +1,6 @@
 -- From units, a certificate and what the checker answers to the frames, or the play, that are written.
+-- What is told of a plan has its text as a parameter (`IsTextFor IsFramesText`). A new text of a plan is a relation
+-- between units, places and bytes that there is once, its lines of `IsUnitsOutput`, and lemmas that hand `text_for` on.
 use Rattle.std.proofs.Common.{◌≡◌, ℕ, List, Option, Some, None, Result, Ok, Err, refl, sym, ap, subst, inl, inr}
 use Rattle.std.specs.Prelude.{◌⊎◌, IfSome, IfOk, IfErr}
 use Rattle.ec_units.specs.declared.slave.Place.{Place}

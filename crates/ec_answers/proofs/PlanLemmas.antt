@@ -1,4 +1,7 @@
 -- From what comes of a search to what is written.
+-- A search, begun or resumed, is one relation with two parameters: what is found, and why nothing is (`IsSearchWritten
+-- is fault`). `answered`, `unanswered` and `fronted` serve a plan and a resume. Each has a `None` case for a reader
+-- that doesn't tell its bytes. A certificate is an option: without one `Gets` says that the writer is as it was.
 use Rattle.std.proofs.Common.{◌≡◌, ℕ, List, Option, Some, None, Result, Ok, Err, refl, ap, sym, subst, inl, inr, append-nil, arith}
 use Rattle.std.specs.Prelude.{◌⊎◌, IfSome, IfOk, IfErr}
 use Rattle.ec_units.specs.declared.units.Units.{Units}

@@ -1,4 +1,6 @@
 -- From units, a certificate and what the checker answers to the play, or the costs, that are written.
+-- A refusal doesn't ask which text it is (`refused_alike`, by the statuses alone), so `placed` and `certified` serve
+-- each.
 use Rattle.std.proofs.Common.{◌≡◌, ℕ, List, Option, Some, None, Result, Ok, Err, inl, inr, arith}
 use Rattle.std.specs.Prelude.{MatchOption, MatchResult, IfSome}
 use Rattle.ec_units.specs.declared.slave.Place.{Place}

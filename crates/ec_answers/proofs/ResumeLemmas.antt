@@ -1,4 +1,6 @@
 -- From what comes of going on with a certificate to what is answered.
+-- What a resume finds of a certificate that is a proof is that certificate's own outcome, so nothing after it asks how
+-- it came about.
 use Rattle.std.proofs.Common.{◌≡◌, ℕ, List, Option, Some, None, Result, Ok, Err, refl, sym, ap, subst, ◌∙◌, inl, inr}
 use Rattle.std.specs.Prelude.{◌⊎◌, IfSome, IfOk, IfErr}
 use Rattle.ec_units.specs.declared.slave.Place.{Place}

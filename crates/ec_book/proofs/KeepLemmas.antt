@@ -1,4 +1,8 @@
 -- What is true of each book stays so.
+-- The invariant is three records over plain fields (`Kept`): `IsFor`, `IsCounted`, `IsGrown`. Each call has one lemma
+-- for each of the last two, with an equation premise for every list; the answers only pass names. Room for `back` is
+-- `length log + taken ≤ vec_capacity log`: `take` reserves `taken + 2`, `better` `taken + 1`, and `report` and `back`,
+-- which end a taken piece, push with no reservation.
 use Rattle.std.proofs.Common.{◌≡◌, ◌≢◌, ℕ, zero, suc, ◌+◌, ◌-◌, ◌<◌, ◌≤◌, min, All, List, [], ◌∷◌, ◌++◌, length, set, drop, slice_get, replicate, Option, Some, None, refl, sym, ap, ◌∙◌, subst, arith, length-append}
 use Rattle.std.proofs.lemmas.List.{length-replicate}
 use Rattle.std.proofs.lemmas.Option.{get_or_from_slice_get, slice_get_within}

@@ -1,4 +1,6 @@
 -- The walk that collects the places of open leaves.
+-- `opened_first` gives the children of the path's prefix. A path that is pushed, walked and popped goes by `path_back`,
+-- with `c.pop.ensures.rest`, and `vec.ok.0` for the length.
 use Rattle.std.proofs.Common.{◌≡◌, ℕ, ◌+◌, ◌-◌, ◌<◌, ◌≤◌, List, [], ◌∷◌, ◌++◌, length, take, drop, get_or, Vec, Global, Option, refl, ap, sym, ◌∙◌, arith}
 use Rattle.std.proofs.lemmas.List.{drop_more, drop_all}
 use Rattle.ec_units.specs.declared.slave.Place.{Place}

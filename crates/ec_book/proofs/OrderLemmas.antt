@@ -1,4 +1,6 @@
 -- Orders of units, and the prefixes that places make along them.
+-- `LeadsTo loads order q ps rest` ties places in the order's sequence to a prefix and the units that are left;
+-- `leads-more` is one unit more, `reached-more` says that it is reached.
 use Rattle.std.proofs.Common.{◌≡◌, ℕ, ◌≤◌, List, [], ◌∷◌, ◌++◌, length, set, drop, Some, ap, sym, subst, ◌∙◌, arith}
 use Rattle.ec_units.specs.declared.slave.Place.{Place}
 use Rattle.ec_units.specs.declared.unit.Load.{Load}

@@ -1,4 +1,6 @@
 -- Plans looked at unit by unit, and places given and taken away one by one.
+-- The book's own loads are empty between calls: `plan_cost` places all units, asks and removes them. So `better` needs
+-- no units and no memory.
 use Rattle.std.proofs.Common.{◌≡◌, ℕ, zero, suc, ◌+◌, ◌<◌, ◌≤◌, ◌&&◌, nat_lt, Bool, true, false, List, [], ◌∷◌, ◌++◌, map, length, set, take, drop, get_or, Option, Some, None, refl, ap, sym, ◌∙◌, arith, add-one, take_all, rules, tests, not-suc-le-zero, le_of_suc-le-suc}
 use Rattle.std.specs.List.{list_all}
 use Rattle.ec_units.specs.declared.slave.Place.{Place}

@@ -1,4 +1,8 @@
 -- Laws of filling.
+-- `numbered k shape` numbers the open leaves of a reported subtree from k on, `plug p s t` puts it in its place,
+-- `grown` does so for all reports. All speak of `Shape`s, so each law is a short mutual induction. "The open leaves are
+-- the free and taken pieces" is said by `times`, by `gaps`, and by place (`StandsAt`), each with its own law under
+-- `plug`.
 use Rattle.std.proofs.Common.{◌≡◌, ◌≢◌, ℕ, ◌+◌, ◌*◌, ◌<◌, ◌==◌, if◌then◌else◌, refl, ap, arith}
 use Rattle.std.proofs.lemmas.Grind.{common_steps}
 use Rattle.ec_book.specs.Numbered.{Numbered, Numbereds, branch, closed, gap, last, next, fill, fills, plug, size, sizes, gaps, all_gaps, times, all_times}

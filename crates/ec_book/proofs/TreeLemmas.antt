@@ -1,4 +1,8 @@
 -- Laws of trees with numbers at their open leaves.
+-- What an open leaf has to be is the argument `is` of `NumberedTree`. `numbered-fill` carries it through every map,
+-- `numbered-report` through a report, `numbered-lower` to a smaller value, `numbered-plain` to `IsPartialTree`. For
+-- trees without numbers: `tree-lower`, `tree-weaker`, `tree-closed`, `length-leaves`, `reached-leaves`. `All P []`
+-- isn't `tt`: `All P xs` is a function of the index (`All-none`, `All-one`).
 use Rattle.std.proofs.Common.{◌≡◌, ℕ, zero, suc, ◌+◌, ◌==◌, if◌then◌else◌, Bool, true, false, eqb, All, List, [], ◌∷◌, ◌++◌, length, set, drop, Option, Some, slice_get, refl, sym, ap, ◌∙◌, subst, arith, length-append}
 use Rattle.std.proofs.lemmas.List.Elements.{All-append}
 use Rattle.ec_units.specs.declared.slave.Place.{Place}

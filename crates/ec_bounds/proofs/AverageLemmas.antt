@@ -1,4 +1,6 @@
 -- The average over a hyperperiod bounds every plan that extends a prefix.
+-- The sums over slots and ticks are swapped (`sum_bytes`, `sum_moved`), and what one unit sends is counted in whole
+-- periods (`sends-periods`). The average at a value b is said as `b * H < bytes + H`, which is right for 0 too.
 use Rattle.std.proofs.Common.{◌≡◌, ℕ, zero, suc, ◌+◌, ◌*◌, ◌/◌, ◌%◌, ◌<◌, ◌≤◌, ◌==◌, ◌&&◌, ◌||◌, true, false, cond, List, [], ◌∷◌, map, sum_by, All, Some, None, refl, sym, ap, ◌∙◌, subst, arith, inl, inr, ◌⊎◌, mul-zero, mul-suc, mod-eq_of_lt, mul_comm, add-zero, add-suc, suc-mul}
 use Prim.Native.Nat.{◌∣◌}
 use native.Mathlib.Nat.{mul-div_cancel'}

@@ -1,4 +1,7 @@
 -- A place that is given and taken away again, and what is left then.
+-- For a walk that gives a unit a place and takes it away again: the loads are as before (`restored`), what is left
+-- follows (`rest_follows`, `empty_rest`, `flags_count`), the unit is still one of them (`still_within`,
+-- `within_after`). The checker and the search use it.
 use Rattle.std.proofs.Common.{◌≡◌, ℕ, zero, suc, ◌<◌, Bool, true, is_none, List, [], ◌∷◌, map, length, set, slice_get, Option, Some, None, refl, sym, ap, ◌∙◌, subst, set-set}
 use Rattle.std.proofs.lemmas.List.{map-set, length-map, length-set}
 use Rattle.ec_units.specs.declared.slave.Place.{Place}

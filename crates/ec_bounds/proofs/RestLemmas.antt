@@ -1,4 +1,5 @@
 -- The running sum of what the units without a place send.
+-- `Rest` is two arrays and a count; its view is `take count` of both. A flag is set by `take-set-lt`.
 use Rattle.std.proofs.Common.{◌≡◌, ℕ, zero, suc, ◌+◌, ◌*◌, ◌/◌, ◌<◌, ◌≤◌, Bool, true, false, cond, List, [], ◌∷◌, ◌++◌, length, take, set, get_or, get_or-set_other, get_or-set_same, replicate, sym, ap, ◌∙◌, arith, inl, inr, not-suc-le-zero, le_of_suc-le-suc, mul-le-mul_left, length-take}
 use Rattle.std.proofs.Math.Nat.{div-le_self}
 use Rattle.std.proofs.lemmas.Bool.Decides.{eqb_tells}

@@ -1,4 +1,5 @@
 -- A plan that extends another costs at least as much in each tick.
+-- `Sub` (fewer items) goes from sets of groups to costs: `payload-Sub` by `different-subset`, and `tick_cost-Sub`.
 use Rattle.std.proofs.Common.{◌≡◌, ℕ, zero, suc, ◌<◌, ◌≤◌, ◌||◌, true, false, cond, List, [], ◌∷◌, map, sum_by, All, Option, Some, None, refl, subst, ap, arith, inl, inr}
 use Rattle.std.specs.List.{list_any}
 use Rattle.std.proofs.lemmas.Bool.{or_cases, or_right, cases_Bool, cond_both}

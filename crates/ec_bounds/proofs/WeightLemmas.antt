@@ -1,4 +1,6 @@
 -- Weighted sums over a hyperperiod, and what weights that hold show of the plans that extend a prefix.
+-- A loop that steps by a period keeps `turn : tick % period ≡ phase` and the sum below `tick`; `weight-none`,
+-- `weight-more` and `weight-end` are its three steps.
 use Rattle.std.proofs.Common.{◌≡◌, ℕ, zero, suc, ◌+◌, ◌-◌, ◌*◌, ◌%◌, ◌<◌, ◌≤◌, ◌==◌, cond, min, Bool, true, false, is_none, List, [], ◌∷◌, map, length, get_or, All, Option, Some, None, refl, sym, ap, ◌∙◌, subst, arith, inl, inr, mul_comm, mul-add, suc-mul, mul-zero, mul-le-mul_left, add-one, add-zero, drop, drop-cons, replicate, mod-eq_of_lt}
 use Rattle.std.specs.Prelude.{IsTrue, nat_lt, ◌↔◌}
 use Rattle.std.proofs.lemmas.Bool.{cases_eq, eq-eqb, ne_eqb}

@@ -1,4 +1,7 @@
 -- Unit by unit at the best child.
+-- A relation that runs forward over an order has its continuation as invariant: what holds from here on gives what
+-- holds from the start (`IsPlacing.placed`, `.stuck`), over `drop i order`; no append lemma is needed. `IsBestOf`: all
+-- before the best are dearer, none after is cheaper; `best_full`, `best_first`, `best_less`, `best_kept` are the steps.
 use Rattle.std.proofs.Common.{◌≡◌, ℕ, ◌+◌, ◌<◌, ◌≤◌, ◌++◌, inl, inr, All, List, [], ◌∷◌, length, drop, get_or, Option, Some, None, MatchOption, refl, ap, sym, subst, ◌∙◌, arith}
 use Rattle.std.proofs.lemmas.Bool.{cases_lt}
 use Rattle.std.proofs.lemmas.List.{drop_more, append_assoc}

@@ -1,4 +1,6 @@
 -- Leaves that close a prefix at a value, and at each value below it.
+-- `first_below` is the least tick of what repeats. `match_map` says an answer of `MatchOption` otherwise. `shape_of
+-- (TickLeaf t)` doesn't unfold: use `shape_of-TickLeaf` and its like, by `search (rules, the_lemmas)`.
 use Rattle.std.proofs.Common.{◌≡◌, ℕ, ◌%◌, ◌<◌, ◌≤◌, inl, inr, All, List, length, Option, Some, None, MatchOption, refl, sym, ◌∙◌, subst, arith, rules}
 use Rattle.std.proofs.lemmas.Bool.{cases_lt}
 use Rattle.std.proofs.lemmas.Nat.{mod_below}

@@ -1,4 +1,7 @@
 -- A prefix that the children reach is ready for the units after it.
+-- Readiness (`IsReadyFor`) comes from a count of the units without a place (`ready_from`, `free_count`), so no
+-- pigeonhole is needed: `order_ready` for an order that is a permutation, `reached_ready` for a prefix that the
+-- children reach.
 use Rattle.std.proofs.Common.{◌≡◌, ℕ, zero, suc, ◌+◌, ◌-◌, ◌<◌, ◌≤◌, ◌==◌, Bool, false, All, List, [], ◌∷◌, map, length, set, take, drop, get_or, slice_get, Option, Some, None, refl, ap, sym, subst, ◌∙◌, arith, take_all, length-drop, set-set}
 use Rattle.std.specs.List.{list_any}
 use Rattle.std.proofs.lemmas.List.{drop_more, length-map, length-set}

@@ -1,4 +1,9 @@
 -- A walk with a stack of its own: what each of its steps keeps.
+-- `IsStack` recurses over `reverse levels.items`, so push and pop are one `∷`; a level (`IsTop`) has its prefix, the
+-- state in which it was entered, readiness and `IsUnderWay`. A step's clause is "for every `Task`, `IsOn` before gives
+-- `IsOn` after", so the loop's invariant, start and step need no answer. `IsPaused` is `IsAmong` and what the stack
+-- adds. The measure is `left * 2^65`, `2 * children left + 1` for each level, and 1 for `Enter`. At an early exit a
+-- lemma by `subst` of the turn takes the later facts from the substituted record.
 use Rattle.std.proofs.Common.{rules, ◌≡◌, ℕ, zero, suc, ◌+◌, ◌-◌, ◌*◌, ◌<◌, ◌≤◌, ◌++◌, Box, Vec, Global, vec_capacity, ◌⊎◌, inl, inr, Bool, true, false, List, [], ◌∷◌, length, set, get_or, take, drop, reverse, replicate, Option, Some, None, refl, sym, ap, ◌∙◌, subst, arith, take_all, length-drop}
 use Rattle.std.proofs.lemmas.List.{append_assoc, append-nil, reverse-append, length-reverse, length-set, length-append}
 use Rattle.std.proofs.lemmas.Option.{slice_get_within}

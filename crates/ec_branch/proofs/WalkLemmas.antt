@@ -1,4 +1,8 @@
 -- The walk over the prefixes: a value that falls, nodes that are counted, leaves that hold.
+-- `IsWalked` says that the tree holds at every value up to the one in use, so a value that falls is one
+-- `IsAtMost-trans`, with no lemma over trees. It also keeps the count of nodes, why a leaf is open (`HasCause`), and
+-- the clause on the threshold (`IsFair`). Going over `Children`: `while let Some(place) = places.next()`, with the list
+-- done so far in the invariant (`kids_more`).
 use Rattle.std.proofs.Common.{◌≡◌, ◌⊎◌, ℕ, zero, suc, ◌+◌, ◌<◌, ◌≤◌, ◌++◌, min, inl, inr, Bool, true, List, [], ◌∷◌, map, length, set, get_or, Option, Some, None, refl, sym, ap, ◌∙◌, subst, arith, le_trans}
 use Rattle.std.proofs.lemmas.Bool.{cases_lt}
 use Rattle.std.proofs.lemmas.List.{append_assoc}

@@ -7,7 +7,7 @@ ghost use Rattle.ec_branch.specs.Stacks.{IsAsked, IsSpent, state_of};
 use crate::guide::Guide;
 use crate::value::{Search, lesser};
 
-/// Asks the guide before a node; no where no node is left or the guide stops, so that the node stays open.
+/// Asks the guide before a node; false where no node is left or the guide stops, so that the node stays open.
 pub(crate) fn ask<G: Guide>(guide: &mut G, search: &mut Search) -> bool
     ensures frame { G.frame guide.new ≡ G.frame guide.old }
     ensures stays { G.halted guide.new ≡ G.halted guide.old }

@@ -1,4 +1,5 @@
 -- A tree in memory, level by level.
+-- `SameLevels` is an equivalence that a loop keeps as its invariant.
 use Rattle.std.proofs.Common.{◌≡◌, ◌↔◌, IsTrue, true, false, ℕ, zero, suc, ◌+◌, ◌-◌, ◌<◌, ◌≤◌, List, [], ◌∷◌, ◌++◌, map, length, drop, take, get_or, Box, Vec, Global, refl, ap, sym, subst, ◌∙◌, arith, rules, not-suc-le-zero, le_of_suc-le-suc, add-one}
 use Rattle.std.proofs.lemmas.List.{drop_more, drop_all, map_more, take_all, map-append}
 use Rattle.ec_loads.specs.Search.{open_count, open_counts}

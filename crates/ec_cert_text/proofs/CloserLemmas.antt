@@ -1,4 +1,5 @@
 -- Readers of the rest of a text, to its end: what they answer of a text that was cut off, and of one with the same first lines.
+-- `IsCloser` is what `IsReader` is, for what reads to the end (`is_closed`, `is_ending`).
 use Rattle.std.proofs.Common.{◌≡◌, ℕ, ◌+◌, ◌<◌, ◌≤◌, Bool, true, false, ◌==◌, cond, List, [], ◌∷◌, ◌++◌, length, codes, Option, Some, None, Result, Ok, Err, refl, ap, sym, subst, ◌∙◌, arith, inl, inr, append-nil}
 use Rattle.std.specs.Str.{bytes_eq}
 use Rattle.std.proofs.lemmas.Bool.Decides.{nat_tests}

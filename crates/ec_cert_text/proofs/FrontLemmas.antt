@@ -1,4 +1,7 @@
 -- Readers of lines: what a reader answers of a text whose first lines are those of another.
+-- `IsReader`: a reader goes on, and reads two texts with one front alike. It is closed under `is_done`, `is_then`,
+-- `is_many` and `is_judged` (and `is_chosen` of `PartLaws`). A reader of another shape is first shown equal at each
+-- place and carried over by `fun_ext`.
 use Rattle.std.proofs.Common.{◌≡◌, ◌⊎◌, ℕ, zero, suc, ◌+◌, ◌<◌, ◌≤◌, Bool, true, false, ◌==◌, cond, List, [], ◌∷◌, ◌++◌, Option, Some, None, option_map, Result, Ok, Err, refl, ap, subst, ◌∙◌, arith, inl, inr}
 use Rattle.ec_cert_text.specs.declared.fault.CertFault.{CertFault}
 use Rattle.ec_cert_text.specs.declared.fault.CertFault.TheVariants as fault

@@ -1,4 +1,6 @@
 -- Several of a kind, one after the other.
+-- `many_found` and `many_again` are for lists of lines of one kind, as `one_line_found` and `one_line_again` for one
+-- line.
 use Rattle.std.proofs.Common.{◌≡◌, ℕ, zero, suc, ◌+◌, ◌<◌, List, [], ◌∷◌, ◌++◌, length, Result, Ok, refl, ap, sym, ◌∙◌, arith, append_assoc}
 use Rattle.std.specs.List.{flat_map, All, AllByRecursion}
 use Rattle.ec_cert_text.specs.declared.fault.CertFault.{CertFault}

@@ -1,4 +1,9 @@
 -- Reading one after the other, as a loop does.
+-- The loops keep `with_front (items so far) (many_from one (count - i) here) ≡ many_from one count start`; `goes_on`
+-- and `ends` are generic in what is read and in the state, and serve places, numbers of the order and trees.
+-- `units_go_on`, `units_end` and their like serve a loop that stops at the first other line. `fails_as` has a case for
+-- each fault. `rw` beneath `bind_ok` at an unfolded `with_front` builds an ill-typed motive: state a lemma over plain
+-- variables.
 use Rattle.std.proofs.Common.{◌≡◌, ℕ, suc, ◌-◌, ◌+◌, ◌≤◌, ◌<◌, Bool, true, false, List, [], ◌∷◌, ◌++◌, Some, Result, Ok, Err, refl, sym, ap, ◌∙◌, arith, append_assoc, append-nil}
 use Rattle.ec_cert_text.specs.declared.fault.CertFault.{CertFault}
 use Rattle.ec_cert_text.specs.declared.fault.CertFault.TheVariants as fault

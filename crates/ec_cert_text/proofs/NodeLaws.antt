@@ -1,4 +1,7 @@
 -- Trees: what is read is spelled so, and is read again.
+-- `node_spelled` serves the fast reader of a node's line: it turns `BeginsWithNode` into what `node_at` answers. What
+-- the fast reader doesn't answer goes to the judging one, so no fault is proved twice. A new node is a case of `Node`,
+-- `node_in`, `node_lines`, `below` and `HasLevels`, with its two laws.
 use Rattle.std.proofs.Common.{◌≡◌, ℕ, zero, suc, ◌+◌, ◌≤◌, ◌<◌, Bool, true, false, ◌&&◌, ◌==◌, cond, nat_eq, nat_le, List, [], ◌∷◌, ◌++◌, drop, codes, Result, Ok, Err, refl, ap, sym, ◌∙◌, arith, inl, inr, append_assoc}
 use Rattle.std.specs.List.{starts_with, flat_map, AllByRecursion}
 use Rattle.std.specs.Str.{bytes_eq}

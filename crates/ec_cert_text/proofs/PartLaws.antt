@@ -1,4 +1,6 @@
 -- The parts of a certificate's text, each a reader of lines, and the whole.
+-- In a `>>=` under a tuple, name the continuation by a typed `abbrev` (`with_rest`). A new line of the head is a reader
+-- between two of `parts_at`.
 use Rattle.std.proofs.Common.{◌≡◌, ℕ, zero, suc, ◌+◌, ◌-◌, ◌≤◌, Bool, true, false, ◌&&◌, ◌==◌, cond, nat_eq, nat_le, List, [], ◌∷◌, ◌++◌, length, drop, codes, Option, Some, None, Result, Ok, Err, refl, ap, sym, subst, ◌∙◌, arith, inl, inr}
 use Rattle.std.proofs.Math.Path.{fun_ext}
 use Rattle.std.specs.List.{starts_with}

@@ -1,4 +1,6 @@
 -- Whole texts: what is read is the text of it, and a text is read again.
+-- The law on equal texts goes by `body`, the reading without the test of length and bytes, so that it holds for texts
+-- of any length.
 use Rattle.std.proofs.Common.{◌≡◌, ◌⊎◌, ℕ, ◌+◌, ◌-◌, ◌<◌, ◌≤◌, ◌==◌, nat_eq, List, [], ◌∷◌, ◌++◌, length, drop, codes, Result, Ok, Err, refl, ap, sym, subst, ◌∙◌, arith, inl, inr}
 use Rattle.std.specs.List.{starts_with, flat_map, AllByRecursion}
 use Rattle.std.specs.Str.{bytes_eq}

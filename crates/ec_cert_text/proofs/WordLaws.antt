@@ -1,4 +1,5 @@
 -- Words, lines and numbers: what is read is spelled so, and is read again.
+-- For each line there are two laws: `X_found` (what is read is spelled so) and `X_again` (what is spelled so is read).
 use Rattle.std.proofs.Common.{◌≡◌, ◌⊎◌, ℕ, ◌+◌, ◌^◌, ◌<◌, ◌≤◌, Bool, true, false, not, ◌&&◌, ◌||◌, ◌==◌, cond, nat_eq, List, [], ◌∷◌, ◌++◌, length, take, drop, get_or, Option, Some, None, option_map, Result, Ok, Err, refl, ap, sym, ◌∙◌, arith, rules, inl, inr}
 use Rattle.std.specs.List.{starts_with}
 use Rattle.std.specs.Str.{all_ascii_digits, bytes_eq}

@@ -1,4 +1,7 @@
 -- What is written, and what still waits, after what was written and waited.
+-- `Gathers` (whole) and `GathersFront` (a front) tell what the writer holds and what waits. They are records, so that
+-- lemmas leave the states implicit. Writes by `?`: `more_as`, `then_as`, `all_then` take a text that is known by an
+-- equation, each exit one nested term. Loops keep `IsWritten line old waited new waits items i`, generic in the items.
 use Rattle.std.proofs.Common.{◌≡◌, ℕ, ◌+◌, ◌<◌, ◌≤◌, List, [], ◌++◌, length, take, drop, get_or, Option, Vec, Global, Result, Ok, Err, OnOk, refl, sym, ap, subst, ◌∙◌, arith, append_assoc, append-nil, length-append}
 use Rattle.std.proofs.lemmas.List.{take-append-le, take_all, drop_more, drop_all}
 use Rattle.std.proofs.Math.Seq.{take-append-add}

@@ -1,4 +1,6 @@
 -- Facts of each element of a list, and of each of the first seats.
+-- Several `Vec`s by value in step: `for` over one, `.next()` of the others, whose `ensures.items` is `old ≡ x ∷ new`;
+-- `tails_even` keeps the lengths.
 use Rattle.std.proofs.Common.{◌≡◌, ap, ℕ, zero, suc, ◌<◌, List, [], ◌∷◌, ◌++◌, length, All, arith}
 use Rattle.std.specs.List.{slice_index_or}
 use Rattle.ec_units.specs.declared.unit.Unit.{Unit as SyncUnit}

@@ -204,7 +204,7 @@ impl<'u, 'o, 'b, S: Search> Post<'u, 'o, 'b, S> {
         }
     }
 
-    /// Gives a piece back; no where the book or the receipts don't have it as the worker's.
+    /// Gives a piece back; false where the book or the receipts don't have it as the worker's.
     #[tactic(auto, using(crate::proofs::Leaving::back_leaves))]
     pub(crate) fn give_back<R: Wait>(&mut self, rt: &R, shared: &Shared<S>, piece: u64) -> bool
         ensures { result ≡ true → holds self.new.seat.receipts piece ≡ false }

@@ -48,7 +48,8 @@ pub(crate) fn worked_off<S: Search, R: Wait, G: Gate>(
 }
 
 /// Takes a piece and explores it, by the tickets before the lowest free one, and makes tickets of the pieces of the reports
-/// on it. None where the worker goes on; else why it ends. While nothing can be handed out it waits, ever longer.
+/// on it. None where the worker goes on; else why it ends. Where nothing can be handed out yet it waits a moment:
+/// longer each time for the first seven asks in a row, then as long as the system runs another thread. It never sleeps.
 fn worked<S: Search, R: Wait, G: Gate>(
     rt: &R,
     alloc: Global,
@@ -78,7 +79,7 @@ fn worked<S: Search, R: Wait, G: Gate>(
 
 /// Takes pieces until none can be handed out any more, memory is refused or the book refuses a call; says which. It goes
 /// by its tickets before it asks for the lowest free piece, and makes tickets of the pieces of its own reports. While
-/// nothing can be handed out yet it asks again, ever more slowly.
+/// nothing can be handed out yet it asks again: after seven waits that grow it only lets other threads run before each ask.
 pub(crate) fn work<S: Search, R: Wait, G: Gate>(
     rt: &R,
     alloc: Global,

@@ -46,7 +46,7 @@ impl Replay {
         }
     }
 
-    /// Ends a piece and adds free ones; no where that may not be.
+    /// Ends a piece and adds free ones; false where that may not be.
     fn report(
         &mut self,
         worker: usize,
@@ -69,7 +69,7 @@ impl Replay {
         Ok(true)
     }
 
-    /// Makes a step; no where it may not be.
+    /// Makes a step; false where it may not be.
     fn step(&mut self, step: Step) -> Result<bool, AllocError> {
         match step {
             Step::Took {

@@ -4,7 +4,7 @@ ghost use Rattle.std.specs.Prelude.{All, IfOk, string_bytes};
 ghost use Rattle.ec_explain.specs.Plain.{IsPlain};
 
 use crate::plain::plain_text;
-use ec_remarks::{Inputs, counsel, remarks};
+use ec_remarks::{Inputs, Written, counsel, remarks};
 use std::alloc::{AllocError, Global};
 
 /// What a line that refuses means, in a few sentences for a person, each a line: which unit, slave, key, value or line of
@@ -21,15 +21,16 @@ pub fn explain(alloc: Global, line: &str, inputs: &Inputs<'_>) -> Result<String,
     plain_text(alloc, text.as_str())
 }
 
-/// What to do after a search that ended without a proof, in a few sentences, each a line: what its plan is good for, what
-/// it has proved of every plan, what would help, and how it is gone on with.
+/// What to do after a search, in a few sentences, each a line. Of one that ended without a proof: what its plan is good
+/// for, what it has proved of every plan, what would help, and how it is gone on with. Of any: that its certificate, if
+/// one was written, has more than the 67,108,864 bytes that are read again.
 ///
-/// The text begins with its lines `unproved ..`, `cut ..` and `at least ..`, in wire bytes; of any other the answer is
-/// empty. The path is that to which its certificate was written, if it was. Whatever both hold, the answer has nothing
-/// but printable ASCII and line feeds, as `explain` says it. Only want of memory is an error (own profile).
-pub fn advice(alloc: Global, text: &str, out_path: Option<&str>) -> Result<String, AllocError>
+/// The text of a search without a proof begins with its lines `unproved ..`, `cut ..` and `at least ..`, in wire bytes.
+/// Whatever the text and the path hold, the answer has nothing but printable ASCII and line feeds, as `explain` says it.
+/// Only want of memory is an error (own profile).
+pub fn advice(alloc: Global, text: &str, written: Option<Written<'_>>) -> Result<String, AllocError>
     ensures { IfOk result (λ told. All IsPlain (string_bytes told)) }
 {
-    let sentences = counsel(alloc, text, out_path)?;
+    let sentences = counsel(alloc, text, written)?;
     plain_text(alloc, sentences.as_str())
 }

@@ -1,4 +1,6 @@
 -- Sums over lists, term by term, and counts over runs of numbers.
+-- `All` by index makes a pointwise lemma one line: `λ i d l. .. (get_or xs i d)`. Give a `cond` on numbers a name
+-- (`once`) or write `◌≡◌ {A = ℕ}`, else `omega` can't read the fact.
 use Rattle.std.proofs.Common.{◌≡◌, ℕ, zero, suc, ◌+◌, ◌<◌, ◌≤◌, nat_lt, ◌||◌, Bool, true, false, cond, List, [], ◌∷◌, ◌++◌, map, filter, get_or, sum_by, count_by, All, refl, sym, ap, ◌∙◌, inl, inr, arith}
 use Rattle.std.specs.List.{range_with_len, flat_map, list_any}
 use Rattle.std.proofs.lemmas.Bool.{false≢true, or_cases, cases_Bool, cases_lt, cond-true, cond-false, lt-ltb, le-ltb}

@@ -1,4 +1,7 @@
 -- Lines and records, one after the other.
+-- Lines of two lists side by side keep `text ++ lines (drop i xs) (drop i ys) ≡ initial ++ lines xs ys`. A lemma here
+-- names no term of the code: it leaves each number to a premise at its end, which `omega` proves (`record_parts`,
+-- `records_step`, `whole_text`), so that right bodies of another shape prove too.
 use Rattle.std.proofs.Common.{◌≡◌, ℕ, suc, ◌+◌, ◌-◌, ◌/◌, ◌%◌, ◌≤◌, ◌<◌, Bool, List, [], ◌∷◌, ◌++◌, length, map, filter, take, get_or, replicate, sum_by, All, refl, sym, ap, ◌∙◌, subst, arith, append_assoc, length-append}
 use Rattle.std.specs.List.{flat_map, range_with_len}
 use Rattle.std.proofs.lemmas.List.{flat_map_more, get_or-map, length-replicate, length-map, take_more}

@@ -108,7 +108,8 @@ fn push_ticks(
 
 /// The frames of each tick below the hyperperiod, with data zero, as a capture file (classic pcap, stamps in ns, numbers
 /// with their lowest byte first): a record for each frame, without its frame check sequence, stamped with the begin of its
-/// tick and the time that the frames before it in that tick take on the wire (80 ns a byte).
+/// tick and the time that the frames before it in that tick take on the wire (80 ns a byte). Of a plan that doesn't fit its
+/// tick, the stamps of one tick run into those of the next, so that the records aren't in order of time.
 ///
 /// # Errors
 ///

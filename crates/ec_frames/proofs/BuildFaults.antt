@@ -1,4 +1,5 @@
 -- The function `build_fault` and the conditions of the faults are one.
+-- An if-chain is taken apart by `chosen`: `cond b x y ≡ z` is `x ≡ z` where b is true, else `y ≡ z`.
 use Rattle.std.proofs.Common.{◌≡◌, ◌≢◌, ◌⊎◌, inl, inr, subst, ℕ, ◌<◌, ◌≤◌, Bool, true, false, ◌==◌, cond, List, [], ◌∷◌, length, get_or, Some, None, refl, arith, All}
 use Rattle.std.specs.Prelude.{nat_lt, Any}
 use Rattle.std.specs.List.{list_any}

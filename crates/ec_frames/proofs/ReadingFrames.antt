@@ -1,4 +1,7 @@
 -- Frames: what `frame_read` gives is what `ReadsAs` and `HasFault` say.
+-- The header tests are one `data` type with a constructor for each outcome; the laws go by its cases. `Ok {E = ..} x`
+-- isn't accepted: `same_ok`, whose proof is `cc`, takes `Ok ds ≡ Ok es` to `ds ≡ es`. `read_is` and `fault_is` are what
+-- `ec_slave` cites.
 use Rattle.std.proofs.Common.{◌≡◌, ◌≢◌, ◌⊎◌, ◌↔◌, inl, inr, subst, ℕ, suc, ◌+◌, Bool, true, false, not, ◌&&◌, ◌==◌, List, length, slice_index, Result, Ok, Err, refl, ap, sym, ◌∙◌, arith}
 use Rattle.std.specs.Prelude.{nat_lt}
 use Rattle.std.proofs.lemmas.Bool.Decides.{nat_tests}

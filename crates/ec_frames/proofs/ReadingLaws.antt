@@ -1,4 +1,8 @@
 -- The functions of `Parsing` are what the relations of `Reading` say, at the front of the bytes.
+-- Reading is said three times: by the relations of `Reading` (public clauses), by the functions of `Parsing` (private
+-- clauses), and by the code. The relations and the functions are compared over plain lists, both ways, for a reading
+-- and for a fault; the public clauses are two equivalences. A caller gets `ReadsAs` at `Ok` by `(c..ensures.ok _).0
+-- refl`.
 use Rattle.std.proofs.Common.{◌≡◌, ◌⊎◌, inl, inr, subst, ℕ, ◌+◌, ◌≤◌, Bool, true, false, not, ◌&&◌, ◌==◌, cond, List, length, drop, slice_index, Option, Some, None, Ok, Err, refl, ap, sym, ◌∙◌, arith, length-drop}
 use Rattle.std.specs.Prelude.{nat_lt}
 use Rattle.std.proofs.lemmas.Bool.Decides.{nat_tests}

@@ -1,4 +1,7 @@
 -- What is written is read again.
+-- The round trip is proved field by field of the relation, with no decoding: a lemma for each field, by
+-- `little_number-reads_back`, `take_at` and `drop_at`; then an induction over the datagrams, with the rest of the list
+-- as what follows. That nothing else is read follows from `one_reading`.
 use Rattle.std.proofs.Common.{◌≡◌, ◌≢◌, ℕ, suc, ◌+◌, ◌-◌, ◌/◌, ◌%◌, ◌^◌, ◌<◌, ◌≤◌, max, Bool, true, false, ◌==◌, List, [], ◌∷◌, ◌++◌, length, take, drop, replicate, slice_index, sum_by, Some, refl, ap, sym, ◌∙◌, arith, length-drop, length-append, append_assoc, All}
 use Rattle.std.proofs.lemmas.List.{take_at, drop_at, drop-drop, length-replicate, length-take-le}
 use Rattle.std.proofs.lemmas.List.Sums.{sum_by-cons}

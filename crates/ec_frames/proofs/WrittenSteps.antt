@@ -1,4 +1,5 @@
 -- One more datagram.
+-- These are the steps of the loop of `build`.
 use Rattle.std.proofs.Common.{◌≡◌, ℕ, ◌+◌, ◌<◌, Bool, true, false, List, [], ◌∷◌, ◌++◌, length, take, drop, get_or, sum_by, refl, ◌∙◌, arith, append_assoc, add-one, length-drop}
 use Rattle.std.specs.Prelude.{nat_lt, ◌||◌}
 use Rattle.std.specs.List.{list_any}

@@ -1,4 +1,6 @@
 -- From what the readers have to why there is nothing to check.
+-- What a check of a certificate begins with is one call, `inputs`: units, loads with no place, the text. Its `err`
+-- (`IsInputFault`) is taken to frames, a check and a resume by one lemma each.
 use Rattle.std.proofs.Common.{◌≡◌, ℕ, ◌<◌, ◌≤◌, ◌+◌, Bool, true, false, true≢false, List, [], ◌++◌, length, take, Option, Some, None, Result, Ok, Err, refl, sym, ap, subst, ◌∙◌, inl, inr, arith, length-append, append-nil}
 use Rattle.std.proofs.lemmas.List.{take-append-le}
 use Rattle.std.specs.Prelude.{◌⊎◌, IfSome, IfErr, IsErrAnd}

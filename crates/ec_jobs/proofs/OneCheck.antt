@@ -1,4 +1,7 @@
 -- Each certificate has one answer for units that are seen alike.
+-- Units with the same data are `Alike` (count, lines, loads), and each fact of the checker moves along it. A fault
+-- becomes `Staged` (units, order, plan, node), so two faults are 16 short cases and not 64. A new fault of the checker
+-- is a case of `staged` and, if it is judged at a place of its own, a stage.
 use Rattle.std.proofs.Common.{◌≡◌, ◌≢◌, ℕ, ◌<◌, List, [], ◌∷◌, length, map, Option, Some, None, Result, Err, refl, sym, ap, subst, ◌∙◌, inl, inr, arith}
 use Rattle.std.specs.Prelude.{◌⊎◌}
 use Rattle.std.proofs.lemmas.List.{length-map}

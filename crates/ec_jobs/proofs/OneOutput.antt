@@ -1,4 +1,5 @@
 -- The bytes that are read have one output.
+-- A new text of a plan has its line of `units_once` here.
 use Rattle.std.proofs.Common.{◌≡◌, ℕ, ◌≤◌, List, Option, Some, None, Result, Ok, Err, refl, sym, ap, ◌∙◌, subst, inl, inr, arith}
 use Rattle.std.specs.Prelude.{MatchOption, MatchResult}
 use Rattle.ec_units.specs.declared.slave.Place.{Place}

@@ -1,4 +1,8 @@
 -- What a run does, from what its job answers.
+-- `run` has one relation (`IsRun`): the record of a job says what is to be written as facts under premises, and `Tells`
+-- says for all jobs what becomes of that. A new job is a record, a line of `Does`, a lemma here from its answer to its
+-- record, a short file for its function, and one arm of `run` with one answer, `tells_more ..`. Never look at a goal's
+-- `Exit.see ..`: `lent` takes entry and exit raw, and `rw` by the arm's `.is`, round the small fact, computes it away.
 use Rattle.std.proofs.Common.{◌≡◌, ℕ, Bool, true, false, List, [], Option, Some, None, Result, Ok, Err, refl, ap, sym, ◌∙◌, inl, inr, subst, arith}
 use Rattle.std.specs.Prelude.{◌⊎◌, ◌≤◌, ◌+◌, IfSome}
 use Rattle.std.specs.Io.KnownBytes.{Appends}

@@ -1,4 +1,5 @@
 -- A check's yes is true.
+-- By the status alone: no refusal has status 0 or 1 (`code_above` of `ec_refusals`).
 use Rattle.std.proofs.Common.{◌≡◌, ℕ, ◌≤◌, List, Option, Some, None, Result, Ok, Err, refl, ap, subst, inl, inr, arith}
 use Rattle.std.specs.Prelude.{MatchResult}
 use Rattle.ec_unit_text.specs.declared.fault.UnitFault.{UnitFault}

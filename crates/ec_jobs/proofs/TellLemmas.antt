@@ -1,4 +1,5 @@
 -- From what was written to what the program tells.
+-- `said_by` carries an answer, or want of memory, to the writer.
 use Rattle.std.proofs.Common.{◌≡◌, ℕ, List, Option, Some, None, Result, Ok, Err, subst, sym, inl, inr, refl}
 use Rattle.std.specs.Prelude.{◌⊎◌}
 use Rattle.ec_refusals.specs.declared.refusal.Refusal.{Refusal}

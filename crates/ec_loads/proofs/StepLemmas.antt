@@ -1,4 +1,5 @@
 -- A cell is written: what a read of the table gives, by plain numbers.
+-- The change of a tick is said without subtraction: `column_step`.
 use Rattle.std.proofs.Common.{◌≡◌, ◌≢◌, ℕ, zero, suc, ◌⊎◌, ◌+◌, ◌*◌, ◌<◌, ◌≤◌, List, length, set, get_or, inl, inr, sym, subst, ap, ◌∙◌, arith}
 use Rattle.std.proofs.Common.{get_or-set_other, get_or-set_same}
 use Rattle.std.proofs.lemmas.Bool.Decides.{eqb_tells}

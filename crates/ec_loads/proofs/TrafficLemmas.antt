@@ -1,4 +1,6 @@
 -- A table of items stays one where one item more is counted in, or out.
+-- The table's contract speaks of any items (`IsOneMore xs ys → HoldsItems xs old → HoldsItems ys new`) and knows
+-- nothing of `Loads`; all laws on one item more or less go over `IsOneMore`.
 use Rattle.std.proofs.Common.{◌⊎◌, mul-suc, ◌≡◌, ◌≢◌, ℕ, zero, suc, ◌+◌, ◌-◌, ◌*◌, ◌%◌, ◌<◌, ◌≤◌, ◌==◌, ◌&&◌, ◌||◌, Bool, true, false, cond, List, [], ◌∷◌, ◌++◌, take, drop, take_all, append-nil, drop_of_length-le, replicate, length, set, get_or, get_or-set_other, get_or-set_same, sum_by, inl, inr, refl, sym, subst, ap, ◌∙◌, arith}
 use Rattle.std.specs.List.{list_any, count_by}
 use Rattle.std.proofs.lemmas.Bool.{eqb-true, eq-eqb, cases_Bool, and_parts, and_from, true≢false}

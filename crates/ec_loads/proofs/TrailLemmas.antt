@@ -1,4 +1,7 @@
 -- Marks of what was before a unit got its place.
+-- The two numbers that no payload and no cost is above needn't be reached: `place` takes the greater, `remove` gets
+-- them back from the last mark (`kept-push`, `kept-pop`) or measures anew. Marks stay right when any unit loses its
+-- place (`kept-less`).
 use Rattle.std.proofs.Common.{◌≡◌, ◌⊎◌, ℕ, zero, suc, ◌+◌, ◌*◌, ◌<◌, ◌≤◌, min, List, [], ◌∷◌, length, set, get_or, Option, Some, None, inl, inr, refl, sym, subst, ap, ◌∙◌, arith}
 use Rattle.std.proofs.lemmas.List.{set-get_or}
 use Rattle.ec_units.specs.declared.slave.Place.{Place}

@@ -57,7 +57,8 @@ const AFTER_HELP: &str =
 The text goes to standard output, and what a refusal means to standard error.\n\n\
 Exit statuses: 0 optimal, least or done; 1 no plan; 2 unproved or at least; 3 refused input;\n\
 4 reading, writing, memory, a ring or a thread failed; 5 words that are no command, or this help.\n\n\
-docs/FORMATS.md describes the unit text, what each command writes, and each refusal.\n";
+FORMATS.md describes the unit text, what each command writes, and each refusal. It is in docs/ of\n\
+the sources, and in share/doc/ecplan/ of an installation.\n";
 
 /// How a command is called, and what the help says of it.
 fn name_of<'a>(verb: Verb) -> (&'a str, &'a str) {
@@ -205,7 +206,7 @@ fn command_of<'a>(alloc: Global, verb: Verb) -> Result<Command<'a>, AllocError> 
 fn program<'a>(alloc: Global) -> Result<Command<'a>, AllocError> {
     Command::new(alloc, "ecplan")
         .about("Plans the cyclic frames of an EtherCAT line")
-        .version("0.1.0")
+        .version("0.3.0")
         .after_help(AFTER_HELP)
         .no_binary_name(true)
         .subcommand_required(true)

@@ -1,4 +1,6 @@
 -- Bytes that are put into a datagram in the midst of a frame.
+-- A frame is a list of datagrams (`framed`). Each write of a slave's step is `put` in the midst of `front ++ (bytes ++
+-- rest)`: `put-mid` serves position, data and counter, and no offset is counted twice.
 use Rattle.std.proofs.Common.{◌≡◌, ℕ, ◌+◌, ◌*◌, ◌/◌, ◌%◌, ◌<◌, ◌==◌, Bool, true, false, cond, List, [], ◌∷◌, ◌++◌, length, take, drop, Option, Some, None, unwrap_or, refl, ap, sym, ◌∙◌, arith, length-append, append_assoc}
 use Rattle.std.proofs.lemmas.List.{take_at, drop_at}
 use Rattle.byteorder.specs.Endian.{little_bytes}

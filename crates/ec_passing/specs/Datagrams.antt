@@ -34,7 +34,7 @@ headers n = ethernet_header ++ little_bytes 2 (n + 4096)
 unfoldable pub framed : List Entry → List ℕ
 framed ds = headers (extent ds) ++ (entries_bytes ds ++ replicate (44 - extent ds) 0)
 
--- a datagram that a frame can hold, with no circulating and no event bit
+-- a datagram that a frame can hold, but for the size of its index and its bytes, with no circulating and no event bit
 pub record IsWhole (d : Entry) : Type 0 where
   pub address : d.address < 2 ^ 32
   pub still : d.circulating ≡ false
@@ -42,7 +42,7 @@ pub record IsWhole (d : Entry) : Type 0 where
   pub counter : d.counter < 65536
   pub short : length d.bytes ≤ 1486
 
--- datagrams that a frame can hold
+-- datagrams that a frame can hold, but for the size of their indices and bytes
 pub record AreWhole (ds : List Entry) : Type 0 where
   pub some_datagram : ds ≢ []
   pub each : All IsWhole ds

@@ -1,4 +1,6 @@
 -- One tick more.
+-- A loop over ticks keeps all of a run as functions of the first slaves and the ticks so far (`right-more`, `row-more`,
+-- `bytes-more`, `fault-more`); the call above needs only `append` lemmas.
 use Rattle.std.proofs.Common.{◌≡◌, ◌⊎◌, ℕ, zero, suc, ◌+◌, ◌-◌, ◌<◌, List, [], ◌∷◌, ◌++◌, Option, Some, None, length, length-append, map, filter, sum_by, unwrap_or, inl, inr, refl, sym, ap, ◌∙◌, subst, arith, append-nil, append_assoc}
 use Rattle.std.specs.List.{flat_map, range_with_len}
 use Rattle.std.proofs.lemmas.List.{map-append}

@@ -1,4 +1,6 @@
 -- From what a play answers to its text.
+-- The law of modelled slaves is called where it is needed (`play_is_right();`); its clause is a premise of `new_right`.
+-- That no frame is faulty then leaves of `IsAnswer` what was wanting (`only_lacks`).
 use Rattle.std.proofs.Common.{◌≡◌, ℕ, zero, suc, ◌<◌, List, length, map, replicate, All, None, Some, Result, Ok, Err, sym, ap, ◌∙◌, subst, inl, inr}
 use Rattle.std.specs.Prelude.{IfErr}
 use Rattle.std.specs.List.{range_with_len}

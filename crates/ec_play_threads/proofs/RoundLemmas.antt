@@ -1,4 +1,6 @@
 -- One tick more through a line of threads.
+-- A step whose frames are known to exist promises a record with them as a field (`IsRound`, `IsStopped`). "Both lists
+-- grow alike" is a clause for every base: `(base : ..) → old ≡ base ++ .. → new ≡ base ++ ..`.
 use Rattle.std.specs.Prelude.{nat_lt, if◌then◌else◌}
 use Rattle.std.proofs.Common.{◌≡◌, ℕ, ◌+◌, ◌<◌, Bool, true, false, List, [], ◌∷◌, ◌++◌, Some, None, length, length-append, map, get_or, unwrap_or, refl, sym, ap, ◌∙◌, subst, arith, append_assoc, append-nil}
 use Rattle.std.proofs.lemmas.List.{map-append}

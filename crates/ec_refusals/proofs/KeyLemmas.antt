@@ -1,4 +1,6 @@
 -- How long the texts of a key and of a number are, and parts that are joined.
+-- `key_fits` is the one bound that isn't found by itself. More than three pushes in one function leave a goal that
+-- `simp append_assoc` closes (`behind_six`).
 use Rattle.std.proofs.Common.{◌≡◌, ℕ, ◌≤◌, ◌<◌, ◌^◌, List, ◌++◌, append_assoc, length, true, false, ◌∙◌, arith}
 use Rattle.std.specs.Fmt.{decimal}
 use Rattle.std.proofs.lemmas.Fmt.{length-decimal-le}

@@ -1,8 +1,25 @@
-//! What would help where a search ended without a proof, and what it has proved.
+//! What would help where a search ended without a proof, what it has proved, and whether its certificate can be read again.
 
 use crate::quoted::add_quoted;
 use ec_drafts::Draft;
 use std::alloc::{AllocError, Global};
+
+/// The most bytes of a certificate that are read.
+const MOST_READ: u64 = 67_108_864;
+
+/// A certificate that was written: its path, and how many bytes it has.
+#[derive(Clone, Copy)]
+pub struct Written<'a> {
+    pub path: &'a str,
+    pub bytes: u64,
+}
+
+impl<'a> Written<'a> {
+    /// Whether it has so many bytes that no command reads it.
+    fn is_too_large(self) -> bool {
+        self.bytes > MOST_READ
+    }
+}
 
 /// What the first lines of a search without a proof say: the value of its plan or `none`, why it was cut short, and the
 /// level that it has proved, if that is told.
@@ -101,12 +118,12 @@ fn help_for(found: Unproved<'_>) -> &'static str {
     }
 }
 
-/// Adds how the search is gone on with, by the path of its certificate.
-fn add_resume(out: &mut Draft, out_path: Option<&str>) {
-    match out_path {
-        Some(path) => {
+/// Adds how the search is gone on with, by its certificate.
+fn add_resume(out: &mut Draft, written: Option<Written<'_>>) {
+    match written {
+        Some(cert) => {
             out.add("The command resume --cert ");
-            add_quoted(out, path.as_bytes());
+            add_quoted(out, cert.path.as_bytes());
             out.add(" goes on with this search, and counts new nodes alone.\n");
         }
         None => out.add(
@@ -115,22 +132,44 @@ fn add_resume(out: &mut Draft, out_path: Option<&str>) {
     }
 }
 
-/// What to do after a search whose text begins so, `unproved ..`, a cut and a level: what the plan is good for, what is
-/// proved of every plan, what would help, and how the search is gone on with, in sentences that are lines each. The
-/// path is that to which its certificate was written. Of any other text nothing. Only want of memory is an error (own
-/// profile).
-pub fn counsel(alloc: Global, text: &str, out_path: Option<&str>) -> Result<String, AllocError> {
-    let mut out = Draft::new(alloc);
-    let Some(found) = what_ended(text) else {
-        return out.finish();
-    };
+/// Adds that a certificate can't be read again.
+fn add_size(out: &mut Draft, cert: Written<'_>) {
+    out.add("The certificate in ");
+    add_quoted(out, cert.path.as_bytes());
+    let bytes = cert.bytes;
+    out.add(format_args!(
+        " has {bytes} bytes. At most {MOST_READ} are read: check and resume refuse it.\n"
+    ));
+    out.add("A smaller --nodes gives a smaller one.\n");
+}
+
+/// Adds what a search without a proof is good for, and what would help it.
+fn add_unproved(out: &mut Draft, found: Unproved<'_>) {
     if !found.has_no_plan() {
         out.add("The plan is legal and can be used as it stands.\n");
     }
-    add_level(&mut out, found);
+    add_level(out, found);
     out.add(help_for(found));
-    if found.level.is_some() {
-        add_resume(&mut out, out_path);
+}
+
+/// What to do after a search. Of one whose text begins with `unproved ..`, a cut and a level: what the plan is good for,
+/// what is proved of every plan, what would help, and how the search is gone on with. Of any search: that its certificate,
+/// if one was written, has more bytes than are read again. In sentences that are lines each. Only want of memory is an
+/// error (own profile).
+pub fn counsel(
+    alloc: Global,
+    text: &str,
+    written: Option<Written<'_>>,
+) -> Result<String, AllocError> {
+    let mut out = Draft::new(alloc);
+    let ended = what_ended(text);
+    if let Some(found) = ended {
+        add_unproved(&mut out, found);
+    }
+    match (ended, written) {
+        (_, Some(cert)) if cert.is_too_large() => add_size(&mut out, cert),
+        (Some(found), _) if found.level.is_some() => add_resume(&mut out, written),
+        _ => {}
     }
     out.finish()
 }

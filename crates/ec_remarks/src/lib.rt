@@ -25,6 +25,6 @@ mod syntax;
 mod telling;
 mod units;
 
-pub use advising::counsel;
+pub use advising::{Written, counsel};
 pub use inputs::Inputs;
 pub use telling::remarks;

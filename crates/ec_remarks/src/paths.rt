@@ -34,7 +34,7 @@ pub(crate) fn tell_write(out: &mut Draft, inputs: &Inputs<'_>) {
         add_quoted(out, path.as_bytes());
     }
     add_reason(out, inputs);
-    out.add("All else was done; give a path in a folder that is there and can be written.\n");
+    out.add("Give a path in a folder that is there and can be written.\n");
 }
 
 /// What is told of a code alone.

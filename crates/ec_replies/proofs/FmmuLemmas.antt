@@ -1,4 +1,7 @@
 -- The FMMUs that the memory of a slave holds once it was started.
+-- A slave's two FMMUs are known by what a map through them can be (`IsChannel`): `place-none`, `place-some`,
+-- `source-none`, `source-some` are all that data, memory and counters ask. A slave that was started keeps that
+-- (`IsReady`): it is written in its area of outputs alone, from 4096 on.
 use Rattle.std.proofs.Common.{◌≡◌, ◌⊎◌, inl, inr, ℕ, ◌+◌, ◌*◌, ◌/◌, ◌%◌, ◌^◌, ◌<◌, ◌≤◌, ◌==◌, ◌&&◌, true, false, cond, List, [], ◌∷◌, ◌++◌, length, drop, get_or, replicate, Option, Some, None, refl, ap, sym, ◌∙◌, arith}
 use Rattle.std.proofs.lemmas.Bool.{false≢true, cases_eq, eq-eqb, ne_eqb}
 use Rattle.std.proofs.lemmas.List.{get_or-drop, get_or-append-add}

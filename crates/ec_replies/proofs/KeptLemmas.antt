@@ -1,4 +1,6 @@
 -- A frame that passes modelled slaves keeps each byte that no slave may change, so it is a reply.
+-- Byte by byte: each `put` keeps byte k if it stands apart (`put-apart`). Which bytes may change depends on commands
+-- and lengths alone, which no slave changes.
 use Rattle.std.proofs.Common.{◌≡◌, ◌⊎◌, inl, inr, ℕ, ◌+◌, ◌-◌, ◌%◌, ◌<◌, ◌≤◌, ◌==◌, ◌&&◌, ◌||◌, Bool, true, false, cond, List, [], ◌∷◌, ◌++◌, length, take, drop, get_or, Option, Some, None, unwrap_or, refl, ap, sym, ◌∙◌, subst, arith, length-append, length-drop}
 use Rattle.std.specs.Prelude.{nat_lt, nat_le}
 use Rattle.std.proofs.lemmas.Bool.{true≢false, cases_lt, and_from, lt-ltb}

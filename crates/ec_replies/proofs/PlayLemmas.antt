@@ -1,4 +1,6 @@
 -- The frames of ticks come back with the counters of their groups.
+-- `GroupsPass` and `Passes` are one record for each kind of run: counters, readiness, and for every property of the
+-- slaves so far (`went`) who holds its outputs now.
 use Rattle.std.proofs.Common.{◌≡◌, ◌≢◌, ℕ, suc, ◌+◌, ◌-◌, ◌^◌, ◌<◌, ◌≤◌, ◌||◌, Bool, true, false, cond, List, [], ◌∷◌, ◌++◌, length, map, take, drop, filter, get_or, sum_by, refl, ap, sym, ◌∙◌, subst, arith, length-drop, All, Some, None, unwrap_or, append-nil}
 use Rattle.std.specs.Prelude.{nat_lt}
 use Rattle.std.specs.List.{flat_map, range_with_len, list_any}

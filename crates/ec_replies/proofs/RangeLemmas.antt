@@ -1,4 +1,6 @@
 -- The process bytes of a slave lie within its group, and apart from every other group.
+-- The end of a group is an address: of the numbers slot, period and phase + 1 (`group-end`). So a slave's bytes lie
+-- within its group, before it or behind it, by the order of lists alone (`side-lies`, with `address-grows`).
 use Rattle.std.proofs.Common.{◌≡◌, ◌⊎◌, inl, inr, ℕ, suc, ◌+◌, ◌<◌, ◌≤◌, ◌==◌, ◌&&◌, ◌||◌, nat_lt, Bool, true, false, cond, List, [], ◌∷◌, length, get_or, sum_by, All, refl, sym, ap, ◌∙◌, subst, arith}
 use Rattle.std.proofs.lemmas.Bool.{true≢false, false≢true, cases_Bool, cases_lt, cond-true, cond-false, or_cases, and_parts, ltb-true, eqb-true}
 use Rattle.std.proofs.lemmas.List.{get_or_default}

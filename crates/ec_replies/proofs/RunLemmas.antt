@@ -1,4 +1,6 @@
 -- Frames that all come back right, and the slaves that they leave.
+-- `Runs` says of frames that they are right at any number, and what is left; `runs-first` and `runs-append` put runs
+-- together.
 use Rattle.std.proofs.Common.{◌≡◌, ℕ, ◌+◌, ◌^◌, ◌<◌, ◌≤◌, List, [], ◌∷◌, ◌++◌, length, take, map, sum_by, refl, ap, sym, ◌∙◌, subst, arith, take_all}
 use Rattle.std.proofs.lemmas.List.Sums.{sum_by-cons}
 use Rattle.std.proofs.lemmas.List.Elements.{All-cons, All-nil}

@@ -1,4 +1,5 @@
 -- The start frames come back with the counters that are wanted, and leave each slave its station and its records.
+-- All is said of `done ++ m :: rest`: the slaves before, the one that is meant, and those behind.
 use Rattle.std.proofs.Common.{◌≡◌, ◌≢◌, inl, ℕ, suc, ◌+◌, ◌/◌, ◌<◌, ◌≤◌, ◌==◌, ◌||◌, Bool, true, false, List, [], ◌∷◌, ◌++◌, length, map, take, drop, refl, ap, sym, ◌∙◌, subst, arith, length-append, append_assoc, All}
 use Rattle.std.specs.List.{list_any, flat_map}
 use Rattle.std.proofs.lemmas.Bool.{true≢false, eq-eqb}

@@ -1,4 +1,8 @@
 -- The shared book may be reached from several threads.
+-- That a closure may go to a thread is searched for through all fields of what it reaches, and that search gives up
+-- where these are many. Each lemma here is one step (`report_send`, `book_send`, `locked_send`, `shared_sync`), by
+-- `search (sendable, crosses, ..)` with the `TheSendSync` of the structs inside and a depth; the answer of the spawn in
+-- `ec_crew` then names few rules. A new field that owns memory wants its rule here.
 use denote.RattleType.{RattleType}
 use denote.Param.Send.{IsSend, IsSync, sendable}
 use Rattle.std.proofs.Crossing.{crosses}

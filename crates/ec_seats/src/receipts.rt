@@ -49,7 +49,7 @@ impl Receipts {
         self.held.contains(&piece)
     }
 
-    /// Makes room for one more step, and for the end of the piece that it may take; no where memory is refused.
+    /// Makes room for one more step, and for the end of the piece that it may take; false where memory is refused.
     pub(crate) fn make_room(&mut self) -> bool
         ensures same { (self.new.steps.items ≡ self.old.steps.items) × (self.new.held.items ≡ self.old.held.items) }
         ensures room { result ≡ true → (length self.new.steps.items + length self.new.held.items + 2 ≤ vec_capacity self.new.steps) × (length self.new.held.items + 1 ≤ vec_capacity self.new.held) }

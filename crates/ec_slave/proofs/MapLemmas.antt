@@ -1,4 +1,6 @@
 -- The byte to which a record maps a logical byte, and the logical byte that it maps to a byte, are those of its mapped bytes.
+-- A write through an FMMU is coded by source and said by target: `place_found`, `place_again`, `source_found`,
+-- `source_again` join the two.
 use Rattle.std.proofs.Common.{◌≡◌, ℕ, ◌+◌, ◌-◌, ◌<◌, ◌≤◌, Bool, true, false, ◌&&◌, cond, Some, None, refl, ap, arith}
 use Rattle.std.specs.Prelude.{nat_lt, nat_le}
 use Rattle.std.proofs.lemmas.Bool.Decides.{nat_tests}

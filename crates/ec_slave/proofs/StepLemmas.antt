@@ -1,4 +1,6 @@
 -- The bytes that the datagrams of a frame take, and what the slave does with a frame that is read.
+-- The slave walks over `datagrams` of a copy of the frame and changes the frame itself at a running offset, so no walk
+-- over bytes is proved again. `extent_fits` gives the bounds from `ReadsAs`.
 use Rattle.std.proofs.Common.{◌≡◌, ℕ, ◌+◌, ◌≤◌, Bool, true, false, List, [], ◌∷◌, length, take, drop, refl, ap, ◌∙◌, arith, length-take, length-drop, ◌++◌, drop_of_length-le, append-nil, take_all}
 use Rattle.std.proofs.lemmas.List.Sums.{sum_by-cons}
 use Rattle.ec_frames.specs.declared.reading.FrameFault.{FrameFault}

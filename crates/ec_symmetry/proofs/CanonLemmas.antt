@@ -1,4 +1,8 @@
 -- Each plan has one that the children reach, of equal cost in every tick.
+-- A crate above cites `canon-all`: a plan within its ranges has a `Canon` from the empty prefix, its renamed self.
+-- `canon` is the same from any prefix without a gap; `canon-legal` keeps a plan legal. A tree law recurses on the field
+-- `canonical`: at a split its `.0` is `In` of the unit's place among the children (`InLemmas.In-cases`), its `.1` the
+-- rest at the longer prefix. `Extends-none` starts an extension, `Extends-set` keeps it, `step_next` keeps `NoGap`.
 use Rattle.std.proofs.Common.{◌≡◌, ℕ, zero, suc, ◌<◌, ◌≤◌, ◌==◌, ◌⊎◌, true, List, [], ◌∷◌, map, length, set, get_or, slice_get, All, Some, None, refl, sym, ap, ◌∙◌, subst, arith, inl, inr}
 use Rattle.std.proofs.lemmas.Bool.{cases_lt, eq-eqb, or_left, or_right, cond-true, cond-false, lt-ltb, le-ltb}
 use Rattle.std.proofs.lemmas.List.{length-map, get_or-map, map-id}

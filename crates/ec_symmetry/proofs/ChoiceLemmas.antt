@@ -1,4 +1,5 @@
 -- One place of a unit after the other.
+-- `count_all`: a unit has `min (used + 1) slots * period` children.
 use Rattle.std.proofs.Common.{◌≡◌, ℕ, zero, suc, ◌+◌, ◌-◌, ◌*◌, ◌<◌, min, [], ◌∷◌, ◌++◌, length, refl, ap, ◌∙◌, sym, arith, length-append, mul-zero, mul-suc}
 use Rattle.std.specs.List.{flat_map, range_with_len}
 use Rattle.std.proofs.lemmas.List.FromFn.{length-map-range_with_len}

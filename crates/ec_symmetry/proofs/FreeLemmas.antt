@@ -1,4 +1,6 @@
 -- Units of which none has a place.
+-- `AreFree` holds at first, and after another unit got its place. What makes an order ready, and what ties a path to
+-- its prefix, rests on it in the checker, the search and the book.
 use Rattle.std.proofs.Common.{◌≡◌, ℕ, zero, suc, ◌<◌, ◌==◌, false, All, List, [], ◌∷◌, length, set, slice_get, Option, Some, None, refl, ap, ◌∙◌, arith}
 use Rattle.std.specs.List.{list_any}
 use Rattle.std.proofs.lemmas.List.Elements.{All-head, All-tail}

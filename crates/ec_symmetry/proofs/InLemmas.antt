@@ -1,4 +1,6 @@
 -- Which places are children.
+-- `In-children` and `children-In` go both ways; `In-cases` takes one apart. A rule that changes only how many phases
+-- are tried goes into `phases_by`, of which the children ask `phases_by-most` and `phases_by-least` alone.
 use Rattle.std.proofs.Common.{◌≡◌, ℕ, zero, suc, ◌+◌, ◌<◌, ◌≤◌, ◌⊎◌, min, true, false, if◌then◌else◌, List, [], ◌∷◌, ◌++◌, map, get_or, refl, sym, ap, subst, arith, inl, inr}
 use Rattle.std.specs.List.{flat_map, range_with_len}
 use Rattle.std.proofs.lemmas.Bool.{cases_eq}

@@ -1,4 +1,5 @@
 -- Prefixes that places make along an order, and their children.
+-- `children-after`: by slots alone, the places after those of a path are the children of its prefix.
 use Rattle.std.proofs.Common.{◌≡◌, ℕ, ◌≤◌, ◌==◌, ◌&&◌, Bool, false, if◌then◌else◌, List, [], ◌∷◌, ◌++◌, length, set, get_or, Some, refl, ap, sym, subst, arith}
 use Rattle.std.specs.List.{list_any}
 use Rattle.std.proofs.lemmas.Bool.{or_parts}

@@ -1,4 +1,6 @@
 -- Prefixes that the children reach, and places that are kept in the order in which units got them.
+-- A walk that keeps the places of its units in the order in which they got them, and calls `used_slots` on these, keeps
+-- `SameSlots` (`SameSlots-none`, `SameSlots-more`) and gets `used prefix` by `used-same`.
 use Rattle.std.proofs.Common.{◌≡◌, ℕ, ◌<◌, ◌==◌, ◌||◌, List, [], ◌∷◌, ◌++◌, map, length, set, get_or, slice_get, All, Some, None, refl, sym, ap, ◌∙◌, arith}
 use Rattle.std.proofs.lemmas.List.Elements.{All-head, All-tail}
 use Rattle.ec_units.specs.declared.slave.Place.{Place}

@@ -1,4 +1,5 @@
 -- The loops that rename slots.
+-- A call that is lent `v.as_mut_slice()` leaves `take len (new ++ drop (length new) items)`: `written` turns that back.
 use Rattle.std.proofs.Common.{◌≡◌, ℕ, zero, suc, ◌+◌, ◌<◌, ◌≤◌, List, [], ◌∷◌, ◌++◌, length, set, take, drop, get_or, sym, ap, ◌∙◌, subst, arith, add-one, take_all, append-nil, drop-cons, drop_of_length-le, not-suc-le-zero, le_of_suc-le-suc}
 use Rattle.ec_units.specs.declared.slave.Place.{Place}
 use Rattle.ec_loads.specs.Search.{nowhere}

@@ -1,4 +1,5 @@
 -- How many different numbers a list has hangs on the set of its numbers alone.
+-- `different-subset`: fewer numbers have fewer different ones; `different-alike`: the same set has as many.
 use Rattle.std.proofs.Common.{◌≡◌, ℕ, ◌+◌, ◌≤◌, ◌==◌, ◌||◌, true, false, not, cond, List, [], ◌∷◌, filter, refl, sym, ap, ◌∙◌, arith, inl, inr}
 use Rattle.std.proofs.lemmas.Bool.{true≢false, false≢true, eq-eqb, eqb-true, or_right, cases_Bool, cond-true, cond-false, false_from_ne_true}
 use Rattle.ec_loads.specs.Search.{different_numbers}

@@ -1,4 +1,7 @@
 -- Different slots, one place after the other, and the slots that a prefix uses.
+-- `unit_none` and `unit_some` are the steps of a loop over the units of a prefix, `number_new` and `number_same` those
+-- of a loop that counts different numbers. `places-enough`: it is enough for the children to count slots up to the
+-- line's limit.
 use Rattle.std.proofs.Common.{◌≡◌, ◌≢◌, get_or-set_same, get_or-set_other, inl, inr, ℕ, zero, suc, ◌+◌, ◌<◌, ◌==◌, ◌||◌, Bool, true, false, List, [], ◌∷◌, ◌++◌, map, length, set, get_or, Option, Some, None, refl, ap, sym, ◌∙◌, add-one, append-nil, not-suc-le-zero, le_of_suc-le-suc, take, drop, arith, ◌≤◌, ◌&&◌, if◌then◌else◌, min, max, flat_map}
 use Rattle.std.specs.List.{range_with_len}
 use Rattle.std.proofs.lemmas.List.{map-append, append_assoc}

@@ -1,4 +1,5 @@
 -- A step that does not raise the word, and lowers it to no number that no seat lowered to, keeps the rule.
+-- The rule has two sides: the word is at most what each seat knows, and at least the least that one of them put there.
 use Rattle.std.proofs.Common.{◌≡◌, ◌≢◌, ℕ, zero, suc, ◌≤◌, List, [], ◌∷◌, set, slice_index, refl, subst, ⊎_elim, le_refl, le_trans, zero-le, sym, ◌∙◌, min, arith}
 use Rattle.std.specs.Prelude.{slice_set}
 use mathlib.Core.Option.{some, some-ne-none, some-injective}

@@ -146,7 +146,7 @@ impl Deques {
         Ok(all)
     }
 
-    /// The number joins the thread's own deque; no where it has no room.
+    /// The number joins the thread's own deque; false where it has no room.
     pub(crate) fn push(&mut self, piece: u64) -> bool
         ensures pushed { IsTrue result → worker_view self.new.own ≡ hand ((worker_view self.old.own).pushed ++ piece ∷ []) (worker_view self.old.own).taken }
         ensures refused { IsFalse result → worker_view self.new.own ≡ worker_view self.old.own }

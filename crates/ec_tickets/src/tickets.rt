@@ -39,7 +39,7 @@ impl Tickets {
         Ok(all)
     }
 
-    /// Pushes a number to the worker's own deque; no where memory for it was refused.
+    /// Pushes a number to the worker's own deque; false where memory for it was refused.
     pub fn push(&mut self, piece: u64) -> bool
         ensures pushed { IsTrue result → self.new ≡ with_pushed self.old piece }
         ensures refused { IsFalse result → self.new ≡ self.old }

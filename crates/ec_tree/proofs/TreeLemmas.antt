@@ -1,4 +1,6 @@
 -- A tree that holds at a prefix bounds every legal plan that the children reach from it.
+-- One mutual induction over `Shape` and `Shapes`; each leaf is one line, by the law of that leaf. A new leaf is a case
+-- here.
 use Rattle.std.proofs.Common.{ℕ, ◌≤◌, arith, length, None, List, [], ◌∷◌, map, set, get_or, Option, Some, sym, subst, inl, inr}
 use Rattle.ec_units.specs.declared.slave.Place.{Place}
 use Rattle.ec_units.specs.declared.unit.Load.{Load}

@@ -1,4 +1,6 @@
 -- In a document without a fault no two units have one name, and no two slaves one station.
+-- `has_same` of a list follows from "none repeats one before it" (`Apart`), of tables first and of views after that
+-- (`Tabled`).
 use Rattle.std.proofs.Common.{◌≡◌, ◌==◌, ℕ, suc, pos, Bool, false, ◌||◌, List, [], ◌∷◌, ◌++◌, append_assoc, map, Option, Some, None, refl, ap, sym, ◌∙◌, arith}
 use Rattle.std.specs.List.{flat_map, list_any}
 use Rattle.std.specs.Ordering.{int_eq}

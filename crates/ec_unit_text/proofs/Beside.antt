@@ -1,4 +1,7 @@
 -- Members and items beside what the code walks.
+-- A loop over slaves, units or rules promises `result ≡ first (..)` of a list. `first_step` is the first of two lists;
+-- `slave_passed`, `unit_passed` and `passed` are a loop's step, `slave_found`, `unit_found` and `found` a return inside
+-- it. `sum_by` doesn't compute at a cons: `sum_by-cons`.
 use Rattle.std.proofs.Common.{◌≡◌, ◌<◌, ◌≤◌, ℕ, suc, ◌+◌, add-one, length, drop, take, set, map, All, get_or, Bool, true, false, not, ◌||◌, nat_lt, List, [], ◌∷◌, ◌++◌, append_assoc, Option, Some, None, String, Global, string_bytes, refl, ap, sym, ◌∙◌}
 use Rattle.std.specs.Map.{keys_of}
 use Rattle.std.specs.List.{flat_map}

@@ -1,4 +1,7 @@
 -- What holds of a document without a fault.
+-- `first (unit_faults ms) ≡ None` says of every rule at once that it finds nothing (`rule_none`). The records
+-- `UnitFits` and `SlaveNumbersFit` follow by one induction. Numbers in such a record are natural ones (`IsWithin`); one
+-- small function casts each, so that the ghost fields of the struct close by themselves.
 use Rattle.std.proofs.Common.{◌≡◌, ◌≤◌, ◌<◌, ◌==◌, ℕ, zero, suc, pos, arith, length, get_or, Bool, true, false, not, nat_lt, List, [], ◌∷◌, ◌++◌, option_and_then, unwrap_or, is_some, Option, Some, None, refl}
 use Rattle.std.specs.List.{flat_map}
 use Rattle.std.proofs.lemmas.Bool.{and_parts, not-false, ltb-false, false≢true, true≢false}

@@ -1,4 +1,5 @@
 -- Units beside their views.
+-- What units keep together is proved of their views: their names, stations and periods are those of the tables.
 use Rattle.std.proofs.Common.{◌≡◌, ℕ, ◌+◌, List, [], ◌∷◌, map, refl, ap, sym, ◌∙◌}
 use Rattle.std.specs.List.{flat_map}
 use Rattle.std.proofs.lemmas.List.Sums.{sum_by-cons}

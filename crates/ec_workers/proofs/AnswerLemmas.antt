@@ -1,4 +1,6 @@
 -- What a finished search says.
+-- `without`, `optimal` and `uncopied` have an equation premise for each part, so that the answers only pass names. All
+-- that an outcome says comes from `Book::finish`.
 use Rattle.std.proofs.Common.{◌≡◌, ℕ, List, length, Option, Some, None, Result, Ok, Err, IfOk, refl, sym, subst, arith, ◌∙◌}
 use Rattle.ec_units.specs.declared.slave.Place.{Place}
 use Rattle.ec_units.specs.declared.unit.Unit.{Unit as SyncUnit}

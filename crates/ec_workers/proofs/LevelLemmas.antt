@@ -1,4 +1,5 @@
 -- A tree for units within their limits has a text, and what its text says of it.
+-- `tree-levels`: 1 to 480 children, at most 48 splits, short ticks, slots below 8.
 use Rattle.std.proofs.Common.{◌≡◌, ℕ, zero, suc, ◌<◌, ◌≤◌, All, List, [], ◌∷◌, length, set, Option, Some, refl, ap, sym, subst, arith}
 use Rattle.std.proofs.lemmas.List.Elements.{All-head, All-tail}
 use Rattle.ec_units.specs.declared.slave.Place.{Place}

@@ -28,7 +28,7 @@ use ec_units::Units;
 use std::alloc::Global;
 use std::sync::Wait;
 
-/// Offers the greedy plan, if there is one; no where memory was refused.
+/// Offers the greedy plan, if there is one; false where memory was refused.
 fn offered_greedy(alloc: Global, units: &Units, book: &mut Book) -> bool
     ensures { IsSameSearch book.old book.new }
 {

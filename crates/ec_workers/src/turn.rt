@@ -35,7 +35,7 @@ pub(crate) enum Turn {
     Stopped(Ended),
 }
 
-/// Offers a plan that was kept; no where memory was refused to it.
+/// Offers a plan that was kept; false where memory was refused to it.
 pub(crate) fn offer(book: &mut Book, kept: Option<Plan>) -> bool
     ensures { IsSameSearch book.old book.new }
 {

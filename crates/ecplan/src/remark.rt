@@ -3,7 +3,7 @@
 use crate::again::cert_at;
 use crate::telling::tell_reason;
 use ec_command::Line;
-use ec_explain::{Inputs, advice, explain};
+use ec_explain::{Inputs, Written, advice, explain};
 use std::alloc::{AllocError, Global};
 use std::io::{ErrorKind, Read};
 use std::path::Path;
@@ -153,8 +153,18 @@ fn tells_units<R: AllocGlobal + Eprint>(
     true
 }
 
-/// Tells on standard error what a refusal of the units at a path, or on standard input, means, or what would help a search
-/// that ended without a proof. Where that can't be written or made, nothing is told.
+/// The certificate that a search wrote to the path of its line.
+fn written_to<'x, R: Files>(files: &R, line: &'x Line) -> Option<Written<'x>> {
+    let path = path_of(&line.out)?;
+    let bytes = match fs::metadata(files, path) {
+        Ok(found) => found.len(),
+        Err(_) => 0,
+    };
+    Some(Written { path, bytes })
+}
+
+/// Tells on standard error what a refusal of the units at a path, or on standard input, means, what would help a search
+/// that ended without a proof, or that its certificate is too large to be read. Where that can't be written or made, nothing is told.
 pub(crate) fn remark<'x, R: Files + AllocGlobal + Eprint>(
     rt: &R,
     line: &'x Line,
@@ -166,7 +176,7 @@ pub(crate) fn remark<'x, R: Files + AllocGlobal + Eprint>(
     };
     let first = text.lines().next().unwrap_or("");
     if !first.starts_with("refused ") {
-        if let Ok(told) = advice(rt.alloc(), text, path_of(&line.out)) {
+        if let Ok(told) = advice(rt.alloc(), text, written_to(rt, line)) {
             let _ = rt.eprint(told.as_str());
         }
         return;

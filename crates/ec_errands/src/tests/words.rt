@@ -248,11 +248,12 @@ const HELP: &str = "--help : Usage: ecplan <COMMAND>|\
     -h : Usage: ecplan <COMMAND>|\
     help : Usage: ecplan <COMMAND>|\
     --help : Finds a plan whose busiest tick is least|\
-    --version : <ecplan 0.1.0\n>|\
-    -V : <ecplan 0.1.0\n>|\
+    --version : <ecplan 0.3.0\n>|\
+    -V : <ecplan 0.3.0\n>|\
     --help : The units are read from FILE, or from standard input|\
     --help : 3 refused input|\
-    --help : docs/FORMATS.md|\
+    --help : FORMATS.md describes|\
+    --help : share/doc/ecplan/ of an installation|\
     cost --help : Usage: ecplan cost [OPTIONS] [FILE]|\
     cost --help : The certificate whose plan is told|\
     plan --help : Where to write the unit text again, with the places of the plan|\
