@@ -18,7 +18,7 @@ from sources import PARTS, PROGRAM, TOP, lines_of_crates, sources, stands_on, su
 from symbols import without_symbols
 
 # The crates at the top, of which each waits for the one before it or has only that one beside it.
-LAST = ("ec_crew", "ec_workers", "ec_refusals", "ec_inputs", "ec_lines", "ec_answers", "ec_jobs", PROGRAM)
+LAST = ("ec_crew", "ec_workers", "ec_answers", "ec_jobs", PROGRAM)
 # How the line begins that says that the program is proved, now or by an earlier run over the same sources.
 PROVED = (b"logic=proved", b"rt: nothing has changed since the last proved build")
 # What is said before the path of what the provers said.

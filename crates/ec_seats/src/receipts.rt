@@ -67,7 +67,7 @@ impl Receipts {
         true
     }
 
-    /// Makes room for the step that ends a piece; that of a piece that is held is there. No where memory is refused.
+    /// Makes room for the step that ends a piece; that of a piece that is held is there. False where memory is refused.
     #[tactic(auto, using(crate::proofs::Holding::fewer))]
     pub(crate) fn room_to_end(&mut self, piece: u64) -> bool
         ensures same { self.new.steps.items ≡ self.old.steps.items }
