@@ -1,0 +1,78 @@
+"""Where the programs stand that the tests and measures run.
+
+`program(told)` is the planner: the one that a script was told, else the one that `tools/build --ready` names, which is
+there for the sources of this tree, released, kept or built. `scripts_program(told)` is the program of `crates/ec_scripts`,
+whose scripts of calls `tests/refused_calls` gives to it. Nothing is proved or built here. Where there is no planner, one
+line on standard error says what to do, and the status is 4.
+"""
+import os
+import subprocess
+import sys
+
+TOP = os.path.dirname(os.path.dirname(os.path.abspath(__file__)))
+EXAMPLES = os.path.join(TOP, "examples")
+REFERENCE = os.path.join(TOP, "bench", "reference")
+# What a script ends with that has nothing to run.
+NO_PROGRAM = 4
+SCRIPTS_CRATE = "ec_scripts"
+NO_SCRIPTS = "there is no built ec_scripts of these sources: `rt run` in crates/ec_scripts proves and builds it"
+
+
+def stop(why):
+    """Ends the script with one line."""
+    print(f"{os.path.basename(sys.argv[0])}: {why}", file=sys.stderr)
+    sys.exit(NO_PROGRAM)
+
+
+def named(told):
+    """The whole path of a program that was told, which has to be there."""
+    path = os.path.abspath(told)
+    if not (os.path.isfile(path) and os.access(path, os.X_OK)):
+        stop(f"{told} is no program that can be run")
+    return path
+
+
+def program(told=None):
+    """The path of the planner."""
+    if told is not None:
+        return named(told)
+    asked = subprocess.run([os.path.join(TOP, "tools", "build"), "--ready"], stdout=subprocess.PIPE,
+                           stderr=subprocess.PIPE, text=True, check=False)
+    path = asked.stdout.strip()
+    if asked.returncode == 0 and os.access(path, os.X_OK):
+        return path
+    why = asked.stderr.strip().split("\n")[-1].removeprefix("ecplan: ")
+    return stop(why or "no program is there for these sources: ./ecplan builds it, or name one")
+
+
+def stands_on(crate):
+    """A crate and those of this tree that it stands on, by crates.txt."""
+    below = {}
+    with open(os.path.join(TOP, "crates.txt"), encoding="utf-8") as text:
+        for line in text:
+            name, _, rest = line.partition(":")
+            below[name.strip()] = rest.split()
+    needed = [crate]
+    for name in needed:
+        needed += [it for it in below.get(name, ()) if it in below and it not in needed]
+    return needed
+
+
+def is_newer(path, crates):
+    """Whether a file is newer than each source of the crates."""
+    made = os.path.getmtime(path)
+    for crate in crates:
+        for part in ("src", "specs", "proofs"):
+            for folder, _, names in os.walk(os.path.join(TOP, "crates", crate, part)):
+                if any(made < os.path.getmtime(os.path.join(folder, name)) for name in names):
+                    return False
+    return True
+
+
+def scripts_program(told=None):
+    """The path of the program of scripts; none where it isn't there, or older than what it is built of."""
+    if told is not None:
+        return named(told)
+    path = os.path.join(TOP, "crates", SCRIPTS_CRATE, "out", SCRIPTS_CRATE)
+    is_there = os.access(path, os.X_OK) and is_newer(path, stands_on(SCRIPTS_CRATE))
+    return path if is_there else None

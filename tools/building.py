@@ -1,0 +1,309 @@
+"""Proving and building the program, and where it is kept.
+
+Only the crates that the program stands on are proved, in a folder of the user's cache: as many side by side as processors
+and memory allow, and then those at the top, which wait for each other, one at a time with several jobs each. An
+interrupted run goes on there.
+"""
+import fcntl
+import os
+import shutil
+import signal
+import subprocess
+import sys
+import tempfile
+import time
+
+import released
+from sources import PARTS, PROGRAM, TOP, lines_of_crates, sources, stands_on, sum_of
+from symbols import without_symbols
+
+# The crates at the top, of which each waits for the one before it or has only that one beside it.
+LAST = ("ec_crew", "ec_workers", "ec_answers", "ec_jobs", PROGRAM)
+# How the line begins that says that the program is proved, now or by an earlier run over the same sources.
+PROVED = (b"logic=proved", b"rt: nothing has changed since the last proved build")
+# What is said before the path of what the provers said.
+NOT_BUILT = "the program could not be built; what was said of it is in "
+# Memory that one prover may take, in KiB.
+PROVER_KIB = 2 << 20
+# Where the seconds of processor stand that each crate's proof takes, roughly, and what serves where a crate isn't in it.
+# They only serve the guess of what is left.
+TABLE, USUAL = os.path.join(TOP, "bench", "gate-seconds.txt"), 30
+# Seconds of them that are done in a second, with one prover and for each further one, and how long a run goes on before
+# its own speed counts for as much as these.
+ALONE, FURTHER, SETTLING = 1.0, 0.4, 300
+
+
+def stop(why):
+    """Ends with one line that says what to do."""
+    print("ecplan: " + why, file=sys.stderr)
+    sys.exit(4)
+
+
+def say(what):
+    print("ecplan: " + what, file=sys.stderr, flush=True)
+
+
+def cache_folder():
+    """The user's cache folder for this program, or out/ of the tree where there is none that can be written."""
+    home = os.environ.get("XDG_CACHE_HOME") or os.path.join(os.environ.get("HOME") or "/nonexistent", ".cache")
+    for folder in (os.path.join(home, PROGRAM), os.path.join(TOP, "out")):
+        try:
+            os.makedirs(folder, exist_ok=True)
+        except OSError:
+            continue
+        if os.access(folder, os.W_OK):
+            return folder
+    return stop("neither %s nor %s can be written; set XDG_CACHE_HOME to a folder of yours" % (home, TOP))
+
+
+def write_whole(path, content):
+    """Writes a program's bytes at a path, or leaves the file that was there."""
+    os.makedirs(os.path.dirname(path), exist_ok=True)
+    with tempfile.NamedTemporaryFile(dir=os.path.dirname(path), delete=False) as new:
+        new.write(content)
+    os.chmod(new.name, 0o755)
+    os.replace(new.name, path)
+    return path
+
+
+def bytes_at(path):
+    with open(path, "rb") as file:
+        return file.read()
+
+
+def put_here(content, elsewhere):
+    """A copy of a program in out/ of this tree, or at the other path where that can't be written."""
+    try:
+        return write_whole(os.path.join(TOP, "out", PROGRAM), content)
+    except OSError:
+        return write_whole(elsewhere, content)
+
+
+def make_same(folder, found):
+    """Lets the folder have these files and no other sources; a file that is the same is left alone."""
+    for path, content in found.items():
+        place = os.path.join(folder, path)
+        os.makedirs(os.path.dirname(place), exist_ok=True)
+        if not os.path.exists(place) or open(place, "rb").read() != content:
+            with open(place, "wb") as text:
+                text.write(content)
+    crates = os.path.join(folder, "crates")
+    for crate in os.listdir(crates) if os.path.isdir(crates) else ():
+        for part in PARTS:
+            for inner, _, names in os.walk(os.path.join(crates, crate, part)):
+                for name in names:
+                    path = os.path.join(inner, name)
+                    if os.path.relpath(path, folder) not in found:
+                        os.remove(path)
+
+
+def provers():
+    """How many crates may be handed to provers at once: two for each processor, since some wait for others, as far as
+    memory allows."""
+    free = PROVER_KIB
+    with open("/proc/meminfo", encoding="ascii") as told:
+        for line in told:
+            if line.startswith("MemAvailable:"):
+                free = int(line.split()[1])
+    return max(1, min(2 * len(os.sched_getaffinity(0)), free // PROVER_KIB))
+
+
+def usual_seconds():
+    """The seconds that each crate's proof takes, by the table."""
+    found = {}
+    try:
+        with open(TABLE, encoding="ascii") as table:
+            for words in (line.split() for line in table if not line.startswith("#")):
+                if len(words) == 4 and words[1].isdigit():
+                    found[words[0]] = int(words[1])
+    except OSError:
+        pass
+    return found
+
+
+def minutes(seconds):
+    return "less than a minute" if seconds < 60 else "about %d min" % round(seconds / 60)
+
+
+class Progress:
+    """What is told of a run while it goes on."""
+
+    def __init__(self, crates, at_once):
+        usual = usual_seconds()
+        self.left = {crate: usual.get(crate, USUAL) for crate in crates}
+        self.whole = sum(self.left.values())
+        self.count, self.at_once, self.started, self.told = len(crates), at_once, time.monotonic(), 0.0
+
+    def tell(self):
+        took = time.monotonic() - self.started
+        left = sum(self.left.values())
+        usual = ALONE + FURTHER * (self.at_once - 1)
+        guess = left * (took + SETTLING) / (self.whole - left + usual * SETTLING)
+        done = self.count - len(self.left)
+        say("%d of %d crates proved after %d s, %s left" % (done, self.count, took, minutes(guess)))
+        self.told = time.monotonic()
+
+    def ended(self, crate):
+        if self.left.pop(crate, None) is not None:
+            self.tell()
+
+    def waited(self):
+        if time.monotonic() - self.told > 60:
+            self.tell()
+
+
+def follow(words, folder, log, progress):
+    """Runs a command in the folder, with what it prints in the log, and tells what has ended; its status."""
+    child = subprocess.Popen(words, cwd=folder, stdin=subprocess.DEVNULL, stdout=log, stderr=log, start_new_session=True)
+
+    def give_up(*_):
+        os.killpg(child.pid, signal.SIGTERM)
+        say("stopped; started again, it goes on from here")
+        os._exit(4)
+
+    old = [(it, signal.signal(it, give_up)) for it in (signal.SIGINT, signal.SIGTERM, signal.SIGHUP)]
+    with open(log.name, encoding="utf-8", errors="replace") as told:
+        while True:
+            ended = child.poll() is not None
+            for line in told:
+                if line.startswith("== "):
+                    progress.ended(line[3:].strip())
+            if ended:
+                break
+            progress.waited()
+            time.sleep(0.5)
+    for it, before in old:
+        signal.signal(it, before)
+    return child.returncode
+
+
+def need_kit():
+    if shutil.which("rt") is None:
+        stop("the program isn't built yet, and the Rattle kit that proves and builds it (command rt) isn't here. "
+             "Install the kit, or bring a program that another machine built: ./ecplan --install DIR")
+
+
+def build_here(kept):
+    """Builds the program in this tree, where it was built before: only what changed is proved again. It is kept."""
+    need_kit()
+    home = os.path.join(TOP, "crates", PROGRAM)
+    say("proving what changed, in this tree")
+    with tempfile.NamedTemporaryFile(prefix="ecplan-", suffix=".log", delete=False) as log:
+        progress = Progress([PROGRAM], 1)
+        follow(["rt", "run"], home, log, progress)
+    built = built_in(home, log.name, progress)
+    # Newer than the sources, also where these were only touched.
+    os.utime(built)
+    write_whole(kept, without_symbols(bytes_at(built)))
+
+
+def built_in(home, log, progress):
+    """The program that a run built, or the end where it wasn't proved."""
+    built = os.path.join(home, "out", PROGRAM)
+    with open(log, "rb") as told:
+        proved = any(line.startswith(PROVED) for line in told)
+    if not proved or not os.access(built, os.X_OK):
+        stop(NOT_BUILT + log)
+    say("proved and built in %d s" % (time.monotonic() - progress.started))
+    return built
+
+
+def without_last(found):
+    """These sources without those of the last crates."""
+    lower = {path: content for path, content in found.items() if path.split("/")[:2][-1] not in LAST}
+    listed = found["crates.txt"].decode().splitlines(keepends=True)
+    lower["crates.txt"] = "".join(it for it in listed if it.partition(":")[0] not in LAST).encode()
+    return lower
+
+
+def move_out(crate, at, to):
+    """Moves what is kept of a crate's proof from one folder of crates to another, where it is there."""
+    source, place = os.path.join(at, crate, "out"), os.path.join(to, crate, "out")
+    if os.path.isdir(source):
+        shutil.rmtree(place, ignore_errors=True)
+        os.makedirs(os.path.dirname(place), exist_ok=True)
+        os.rename(source, place)
+
+
+def drop(*folders):
+    """Removes folders, of a hundred thousand files, without letting anybody wait for it; and what an earlier run left of
+    such ones."""
+    for folder in folders:
+        if os.path.isdir(folder):
+            os.rename(folder, "%s-gone-%d" % (folder, os.getpid()))
+    at = os.path.dirname(folders[0])
+    gone = [os.path.join(at, it) for it in os.listdir(at) if "-gone-" in it]
+    nowhere = {"stdin": subprocess.DEVNULL, "stdout": subprocess.DEVNULL, "stderr": subprocess.DEVNULL}
+    subprocess.Popen(["rm", "-rf", *gone], start_new_session=True, **nowhere)
+
+
+def build(folder, crates, found, kept):
+    """Proves the crates in the folder, builds the program and keeps it."""
+    need_kit()
+    at_once = provers()
+    progress = Progress(crates, min(at_once, len(os.sched_getaffinity(0))))
+    say("proving the %d crates that the program stands on; this is done once" % len(crates))
+    progress.tell()
+    inside, aside = os.path.join(folder, "crates"), folder + "-aside"
+    home = {crate: os.path.join(inside, crate) for crate in LAST}
+    for crate in LAST:
+        # What an interrupted run kept of them; no check goes by a file of a crate that crates.txt doesn't name.
+        move_out(crate, inside, aside)
+    make_same(folder, without_last(found))
+    with open(os.path.join(folder, "log"), "wb") as log:
+        is_proved = follow(["rt", "all", "check", "--jobs", str(at_once)], folder, log, progress) == 0
+        make_same(folder, found)
+        for crate in LAST:
+            move_out(crate, aside, inside)
+        for crate in LAST[:-1]:
+            is_proved = is_proved and follow(["rt", "lib"], home[crate], log, progress) == 0
+            if is_proved:
+                progress.ended(crate)
+    if not is_proved:
+        stop(NOT_BUILT + log.name)
+    with open(os.path.join(folder, "log-of-the-program"), "wb") as log:
+        # With no words the program only names the words that it knows, so this run builds it and does no job.
+        follow(["rt", "run"], home[PROGRAM], log, progress)
+    write_whole(kept, without_symbols(bytes_at(built_in(home[PROGRAM], log.name, progress))))
+
+
+class Tree:
+    """The sources of this tree, their hash, and where a program that is built of them is kept."""
+
+    def __init__(self):
+        lines = lines_of_crates()
+        self.crates = stands_on(lines)
+        self.found = sources(self.crates, lines)
+        self.hash = sum_of(self.found)
+        self.cache = cache_folder()
+        self.kept = os.path.join(self.cache, self.hash, PROGRAM)
+
+    def is_kept(self):
+        return os.access(self.kept, os.X_OK)
+
+    def release(self):
+        """The path of the released program, ready to be started."""
+        beside = os.path.join(self.cache, self.hash, "released", PROGRAM)
+        return released.take(self.hash, lambda path: put_here(bytes_at(path), beside))
+
+    def need_built(self):
+        """Proves and builds the program, unless it is kept."""
+        if self.is_kept():
+            return
+        if os.path.isdir(os.path.join(TOP, "crates", PROGRAM, "out")):
+            build_here(self.kept)
+            return
+        with open(os.path.join(self.cache, "lock"), "w", encoding="ascii") as lock:
+            try:
+                fcntl.flock(lock, fcntl.LOCK_EX | fcntl.LOCK_NB)
+            except OSError:
+                say("waiting for another run that builds a program")
+                fcntl.flock(lock, fcntl.LOCK_EX)
+            if not self.is_kept():
+                folder = os.path.join(self.cache, "build")
+                build(folder, self.crates, self.found, self.kept)
+                drop(folder, folder + "-aside")
+
+    def built(self):
+        """The path of the program that was built, ready to be started."""
+        return put_here(bytes_at(self.kept), self.kept)
