@@ -76,8 +76,8 @@ pub(crate) fn plain_alone<R: Read>(
     ensures read { ReadsUpTo (used R.remaining units.old units.new) most_of_units (result ≡ Err Refusal.Read) }
     ensures text { IsWritable result }
 {
-    let inputs = read_alone(alloc, units)?;
-    answer_plain(&Alone, alloc, job, inputs)
+    let read = read_alone(alloc, units)?;
+    answer_plain(&Alone, alloc, job, read)
 }
 
 /// What a job that searches for nothing tells of the units and the certificate that the readers have.
@@ -96,6 +96,6 @@ pub(crate) fn plain_both<R: Read, C: Read>(
     ensures read { ReadsBoth (used R.remaining units.old units.new) (used C.remaining cert.old cert.new) (result ≡ Err Refusal.Read) }
     ensures text { IsWritable result }
 {
-    let inputs = read_both(alloc, units, cert)?;
-    answer_plain(&Alone, alloc, job, inputs)
+    let read = read_both(alloc, units, cert)?;
+    answer_plain(&Alone, alloc, job, read)
 }
