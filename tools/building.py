@@ -45,15 +45,17 @@ def say(what):
 
 def cache_folder():
     """The user's cache folder for this program, or out/ of the tree where there is none that can be written."""
-    home = os.environ.get("XDG_CACHE_HOME") or os.path.join(os.environ.get("HOME") or "/nonexistent", ".cache")
-    for folder in (os.path.join(home, PROGRAM), os.path.join(TOP, "out")):
+    home = os.environ.get("HOME", "")
+    caches = [os.environ.get("XDG_CACHE_HOME", ""), os.path.join(home, ".cache") if home else ""]
+    folders = [os.path.join(cache, PROGRAM) for cache in caches if os.path.isabs(cache)]
+    for folder in (*folders[:1], os.path.join(TOP, "out")):
         try:
             os.makedirs(folder, exist_ok=True)
         except OSError:
             continue
         if os.access(folder, os.W_OK):
             return folder
-    return stop("neither %s nor %s can be written; set XDG_CACHE_HOME to a folder of yours" % (home, TOP))
+    return stop("neither a cache folder nor %s can be written; set XDG_CACHE_HOME to a folder of yours" % TOP)
 
 
 def write_whole(path, content):

@@ -47,8 +47,8 @@ def need_right(tree):
     except OSError as error:
         raise Unusable("release/%s can't be read: %s" % (PROGRAM, error.strerror)) from error
     if found != told["sha256"]:
-        raise Unusable("release/%s isn't the released program: its SHA-256 is %s, and its text says %s"
-                       % (PROGRAM, found, told["sha256"]))
+        raise Unusable("release/%s isn't the released program: its SHA-256 is %s, and its text says %s; `git checkout release` "
+                       "brings it back" % (PROGRAM, found, told["sha256"]))
     return told
 
 
