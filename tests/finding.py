@@ -10,6 +10,10 @@ import subprocess
 import sys
 
 TOP = os.path.dirname(os.path.dirname(os.path.abspath(__file__)))
+sys.dont_write_bytecode = True
+sys.path.insert(0, os.path.join(TOP, "tools"))
+import sources  # noqa: E402
+
 EXAMPLES = os.path.join(TOP, "examples")
 REFERENCE = os.path.join(TOP, "bench", "reference")
 # What a script ends with that has nothing to run.
@@ -45,28 +49,11 @@ def program(told=None):
     return stop(why or "no program is there for these sources: ./ecplan builds it, or name one")
 
 
-def stands_on(crate):
-    """A crate and those of this tree that it stands on, by crates.txt."""
-    below = {}
-    with open(os.path.join(TOP, "crates.txt"), encoding="utf-8") as text:
-        for line in text:
-            name, _, rest = line.partition(":")
-            below[name.strip()] = rest.split()
-    needed = [crate]
-    for name in needed:
-        needed += [it for it in below.get(name, ()) if it in below and it not in needed]
-    return needed
-
-
-def is_newer(path, crates):
-    """Whether a file is newer than each source of the crates."""
+def is_newer(path, crate):
+    """Whether a file is newer than each source of a crate and of those that it stands on."""
     made = os.path.getmtime(path)
-    for crate in crates:
-        for part in ("src", "specs", "proofs"):
-            for folder, _, names in os.walk(os.path.join(TOP, "crates", crate, part)):
-                if any(made < os.path.getmtime(os.path.join(folder, name)) for name in names):
-                    return False
-    return True
+    crates = sources.stands_on(sources.lines_of_crates(), crate)
+    return all(os.path.getmtime(os.path.join(TOP, it)) <= made for name in crates for it in sources.files_of(name))
 
 
 def scripts_program(told=None):
@@ -74,5 +61,5 @@ def scripts_program(told=None):
     if told is not None:
         return named(told)
     path = os.path.join(TOP, "crates", SCRIPTS_CRATE, "out", SCRIPTS_CRATE)
-    is_there = os.access(path, os.X_OK) and is_newer(path, stands_on(SCRIPTS_CRATE))
+    is_there = os.access(path, os.X_OK) and is_newer(path, SCRIPTS_CRATE)
     return path if is_there else None

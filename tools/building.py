@@ -14,7 +14,8 @@ import tempfile
 import time
 
 import released
-from sources import PARTS, PROGRAM, TOP, lines_of_crates, sources, stands_on, sum_of
+from placing import bytes_at, write_whole
+from sources import PARTS, PROGRAM, TOP, hash_of_tree, is_source, lines_of_crates, sources, stands_on, sum_of
 from symbols import without_symbols
 
 # The crates at the top, of which each waits for the one before it or has only that one beside it.
@@ -44,41 +45,18 @@ def say(what):
 
 
 def cache_folder():
-    """The user's cache folder for this program, or out/ of the tree where there is none that can be written."""
+    """The user's cache folder for this program, or out/ of the tree where the environment names none."""
     home = os.environ.get("HOME", "")
     caches = [os.environ.get("XDG_CACHE_HOME", ""), os.path.join(home, ".cache") if home else ""]
     folders = [os.path.join(cache, PROGRAM) for cache in caches if os.path.isabs(cache)]
-    for folder in (*folders[:1], os.path.join(TOP, "out")):
-        try:
-            os.makedirs(folder, exist_ok=True)
-        except OSError:
-            continue
-        if os.access(folder, os.W_OK):
-            return folder
-    return stop("neither a cache folder nor %s can be written; set XDG_CACHE_HOME to a folder of yours" % TOP)
+    return folders[0] if folders else os.path.join(TOP, "out")
 
 
-def write_whole(path, content):
-    """Writes a program's bytes at a path, or leaves the file that was there."""
-    os.makedirs(os.path.dirname(path), exist_ok=True)
-    with tempfile.NamedTemporaryFile(dir=os.path.dirname(path), delete=False) as new:
-        new.write(content)
-    os.chmod(new.name, 0o755)
-    os.replace(new.name, path)
-    return path
-
-
-def bytes_at(path):
-    with open(path, "rb") as file:
-        return file.read()
-
-
-def put_here(content, elsewhere):
-    """A copy of a program in out/ of this tree, or at the other path where that can't be written."""
-    try:
-        return write_whole(os.path.join(TOP, "out", PROGRAM), content)
-    except OSError:
-        return write_whole(elsewhere, content)
+def kit_line():
+    """The line of the kit that is here, or none."""
+    if shutil.which("rt") is None:
+        return None
+    return subprocess.run(["rt", "version"], capture_output=True, text=True, check=False).stdout.strip() or None
 
 
 def make_same(folder, found):
@@ -93,7 +71,7 @@ def make_same(folder, found):
     for crate in os.listdir(crates) if os.path.isdir(crates) else ():
         for part in PARTS:
             for inner, _, names in os.walk(os.path.join(crates, crate, part)):
-                for name in names:
+                for name in filter(is_source, names):
                     path = os.path.join(inner, name)
                     if os.path.relpath(path, folder) not in found:
                         os.remove(path)
@@ -185,18 +163,14 @@ def need_kit():
              "Install the kit, or bring a program that another machine built: ./ecplan --install DIR")
 
 
-def build_here(kept):
-    """Builds the program in this tree, where it was built before: only what changed is proved again. It is kept."""
-    need_kit()
+def build_here():
+    """Builds the program in this tree, where it was built before: only what changed is proved again. Its bytes."""
     home = os.path.join(TOP, "crates", PROGRAM)
     say("proving what changed, in this tree")
     with tempfile.NamedTemporaryFile(prefix="ecplan-", suffix=".log", delete=False) as log:
         progress = Progress([PROGRAM], 1)
         follow(["rt", "run"], home, log, progress)
-    built = built_in(home, log.name, progress)
-    # Newer than the sources, also where these were only touched.
-    os.utime(built)
-    write_whole(kept, without_symbols(bytes_at(built)))
+    return bytes_at(built_in(home, log.name, progress))
 
 
 def built_in(home, log, progress):
@@ -239,9 +213,8 @@ def drop(*folders):
     subprocess.Popen(["rm", "-rf", *gone], start_new_session=True, **nowhere)
 
 
-def build(folder, crates, found, kept):
-    """Proves the crates in the folder, builds the program and keeps it."""
-    need_kit()
+def build(folder, crates, found):
+    """Proves the crates in the folder, and builds the program. Its bytes."""
     at_once = provers()
     progress = Progress(crates, min(at_once, len(os.sched_getaffinity(0))))
     say("proving the %d crates that the program stands on; this is done once" % len(crates))
@@ -266,46 +239,83 @@ def build(folder, crates, found, kept):
     with open(os.path.join(folder, "log-of-the-program"), "wb") as log:
         # With no words the program only names the words that it knows, so this run builds it and does no job.
         follow(["rt", "run"], home[PROGRAM], log, progress)
-    write_whole(kept, without_symbols(bytes_at(built_in(home[PROGRAM], log.name, progress))))
+    return bytes_at(built_in(home[PROGRAM], log.name, progress))
 
 
 class Tree:
-    """The sources of this tree, their hash, and where a program that is built of them is kept."""
+    """The sources of this tree, their hash, and where a program that is built of them is kept, with the line of the kit that
+    proved it."""
 
     def __init__(self):
         lines = lines_of_crates()
         self.crates = stands_on(lines)
         self.found = sources(self.crates, lines)
         self.hash = sum_of(self.found)
+        self.began = time.time()
         self.cache = cache_folder()
-        self.kept = os.path.join(self.cache, self.hash, PROGRAM)
+        self.folder = os.path.join(self.cache, self.hash)
+        self.kept, self.kit = os.path.join(self.folder, PROGRAM), os.path.join(self.folder, "kit")
+        self.here = os.path.join(TOP, "out", PROGRAM)
 
-    def is_kept(self):
-        return os.access(self.kept, os.X_OK)
+    def kept_kit(self):
+        """The line of the kit that proved and built the program that is kept, or none where none is."""
+        if not os.access(self.kept, os.X_OK) or not os.path.isfile(self.kit):
+            return None
+        return bytes_at(self.kit).decode("ascii", "replace").strip()
 
     def release(self):
         """The path of the released program, ready to be started."""
-        beside = os.path.join(self.cache, self.hash, "released", PROGRAM)
-        return released.take(self.hash, lambda path: put_here(bytes_at(path), beside))
+        return released.take(self.hash, (self.here, os.path.join(self.folder, "released", PROGRAM)))
 
-    def need_built(self):
-        """Proves and builds the program, unless it is kept."""
-        if self.is_kept():
-            return
+    def keep(self, content):
+        """Keeps a program that was built of these sources, unless they changed meanwhile."""
+        if hash_of_tree() != self.hash:
+            stop("the sources changed while they were proved; started again, it goes on from here")
+        write_whole(self.kept, without_symbols(content))
+        write_whole(self.kit, kit_line().encode("ascii", "replace"))
+
+    def build(self):
+        """Proves and builds the program, and keeps it."""
+        need_kit()
         if os.path.isdir(os.path.join(TOP, "crates", PROGRAM, "out")):
-            build_here(self.kept)
+            self.keep(build_here())
+            # As new as the sources that it was built of, also where these were only touched.
+            os.utime(os.path.join(TOP, "crates", PROGRAM, "out", PROGRAM), (self.began, self.began))
             return
-        with open(os.path.join(self.cache, "lock"), "w", encoding="ascii") as lock:
+        folder = os.path.join(self.cache, "build")
+        self.keep(build(folder, self.crates, self.found))
+        drop(folder, folder + "-aside")
+
+    def need_built(self, kit=None):
+        """Proves and builds the program, unless one is kept; where a kit's line is given, one that this kit proved."""
+        if self.kept_kit() is not None and kit in (None, self.kept_kit()):
+            return
+        need_kit()
+        try:
+            os.makedirs(self.cache, exist_ok=True)
+            lock = open(os.path.join(self.cache, "lock"), "w", encoding="ascii")
+        except OSError as error:
+            stop("%s can't be written (%s); set XDG_CACHE_HOME to a folder of yours" % (self.cache, error.strerror))
+        with lock:
             try:
                 fcntl.flock(lock, fcntl.LOCK_EX | fcntl.LOCK_NB)
             except OSError:
                 say("waiting for another run that builds a program")
                 fcntl.flock(lock, fcntl.LOCK_EX)
-            if not self.is_kept():
-                folder = os.path.join(self.cache, "build")
-                build(folder, self.crates, self.found, self.kept)
-                drop(folder, folder + "-aside")
+            if self.kept_kit() is None or kit not in (None, self.kept_kit()):
+                self.build()
 
     def built(self):
-        """The path of the program that was built, ready to be started."""
-        return put_here(bytes_at(self.kept), self.kept)
+        """The path of the program that is kept, ready to be started."""
+        try:
+            return write_whole(self.here, bytes_at(self.kept))
+        except OSError:
+            return self.kept
+
+    def run_here(self):
+        """The path of the program that `rt run` built in this tree, where no source is newer; else none."""
+        program = os.path.join(TOP, "crates", PROGRAM, "out", PROGRAM)
+        if not os.access(program, os.X_OK):
+            return None
+        newest = max(os.path.getmtime(os.path.join(TOP, path)) for path in self.found)
+        return program if newest <= os.path.getmtime(program) else None

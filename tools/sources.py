@@ -5,6 +5,8 @@ import os
 TOP = os.path.dirname(os.path.dirname(os.path.abspath(__file__)))
 PROGRAM = "ecplan"
 PARTS = ("src", "specs", "proofs")
+# How the names of source files end; what an editor leaves beside them begins with a dot or ends otherwise.
+ENDS = (".rt", ".antt")
 
 
 def lines_of_crates():
@@ -18,9 +20,9 @@ def lines_of_crates():
     return found
 
 
-def stands_on(lines):
-    """The program's crates, each after those that it stands on."""
-    needed = [PROGRAM]
+def stands_on(lines, crate=PROGRAM):
+    """A crate and those of this tree that it stands on, each after those below it."""
+    needed = [crate]
     for name in needed:
         for below in lines[name].partition(":")[2].split():
             if below in lines and below not in needed:
@@ -28,12 +30,17 @@ def stands_on(lines):
     return [name for name in lines if name in needed]
 
 
+def is_source(name):
+    """Whether a file of this name is a source."""
+    return name.endswith(ENDS) and not name.startswith(".")
+
+
 def files_of(crate):
     """The paths of a crate's sources, from the top."""
     found = []
     for part in PARTS:
         for folder, _, names in os.walk(os.path.join(TOP, "crates", crate, part)):
-            found += [os.path.relpath(os.path.join(folder, name), TOP) for name in names]
+            found += [os.path.relpath(os.path.join(folder, name), TOP) for name in filter(is_source, names)]
     return sorted(found)
 
 

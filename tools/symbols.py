@@ -25,8 +25,14 @@ def name_at(program, names, row):
 def without_symbols(program):
     """The bytes of a program for 64-bit Linux with the sections that are loaded alone, and a table of them with their
     names. What isn't such a program is left as it is."""
-    if program[:6] != b"\x7fELF\x02\x01":
+    try:
+        return rebuilt(program) if program[:6] == b"\x7fELF\x02\x01" else program
+    except (struct.error, ValueError, IndexError):
         return program
+
+
+def rebuilt(program):
+    """The same of an ELF file for 64 bits; an exception where its table of sections isn't whole."""
     rows = sections_of(program)
     (at,) = struct.unpack_from("<H", program, COUNT_AT + 2)
     kept = [row for row in rows[1:] if row[2] & LOADED]
