@@ -1,8 +1,8 @@
 -- From what the readers have to why there is nothing to check.
 -- What a check of a certificate begins with is one call, `inputs`: units, loads with no place, the text. Its `err`
 -- (`IsInputFault`) is taken to frames, a check and a resume by one lemma each.
-use Rattle.std.proofs.Common.{◌≡◌, ℕ, ◌<◌, ◌≤◌, ◌+◌, Bool, true, false, true≢false, List, [], ◌++◌, length, take, Option, Some, None, Result, Ok, Err, refl, sym, ap, subst, ◌∙◌, inl, inr, arith, length-append, append-nil}
-use Rattle.std.proofs.lemmas.List.{take-append-le}
+use Rattle.std.proofs.Common.{◌≡◌, ℕ, ◌<◌, ◌≤◌, ◌+◌, Bool, true, false, true≢false, List, [], ◌++◌, length, replicate, suc, take, Option, Some, None, Result, Ok, Err, refl, sym, ap, subst, ◌∙◌, inl, inr, arith, length-append, append-nil}
+use Rattle.std.proofs.lemmas.List.{length-replicate, take-append-le}
 use Rattle.std.specs.Prelude.{◌⊎◌, IfSome, IfErr, IsErrAnd}
 use Rattle.std.specs.Io.KnownBytes.{Consumes, IsAtEnd}
 use Rattle.std.proofs.KnownBytes.{Consumes-trans, Consumes-whole}
@@ -15,7 +15,8 @@ use Rattle.ec_cert_text.specs.declared.fault.CertFault.TheVariants as cert
 use Rattle.ec_refusals.specs.declared.refusal.Refusal.{Refusal}
 use Rattle.ec_refusals.specs.declared.refusal.Refusal.TheVariants as refusal
 use Rattle.ec_refusals.specs.Refusals.{IsReadFault, out_of_memory, level_memory}
-use Rattle.ec_inputs.specs.Input.{ReadsAll, AreUnits, AnswersUnits, IsInputFault, ReadsTooMany}
+use Rattle.ec_inputs.specs.Input.{ReadsAll, AreRead, AreUnits, AnswersUnits, IsInputFault, ReadsTooMany, text_given}
+use Rattle.ec_inputs.specs.declared.input.Inputs.{Inputs}
 
 -- the front of a buffer is added to what was read
 pub read_piece : (old new buf rest : List ℕ) (n : ℕ) → (n ≤ length buf) × (n ≡ length (take n buf)) → new ≡ old ++ take n (buf ++ rest) → (new ≡ old ++ take n buf) × (length new ≡ length old + n)
@@ -109,3 +110,44 @@ no_text (Some bytes) (Some t) us r read (inr large) = inr (inr (us, read, large.
 pub unread_text : {A : Type 0} (left text : Option (List ℕ)) (us : Units) (r : Refusal) (answer : Result A Refusal) → answer ≡ Err r → IfSome left (AnswersUnits (Ok us))
     → ((r ≡ out_of_memory) ⊎ ((r ≡ refusal.Cert cert.TooLarge) × ReadsTooMany text 67108864)) → IfErr answer (λ e. IfSome left (λ bytes. IfSome text (λ t. IsInputFault bytes t e)))
 unread_text left text us r answer is read why = rw is (no_text left text us r read why)
+
+-- ---- for some text, where the bytes of the certificate aren't known
+
+abbrev SomeFault : Option (List ℕ) → Refusal → Type 0
+SomeFault left r = IfSome left (λ bytes. (r ≡ refusal.Read) ⊎ ((text : List ℕ) × IsInputFault bytes text r))
+
+longer : (n : ℕ) → (text : List ℕ) × (n < length text)
+longer n = (replicate (suc n) 0, omega (arith, length-replicate {A = ℕ} (suc n) 0))
+
+some_units : (left : Option (List ℕ)) (r : Refusal) → IfSome left (AnswersUnits (Err r)) → SomeFault left r
+some_units None r h = tt
+some_units (Some bytes) r (inl memory) = inr ([], inl (inl memory))
+some_units (Some bytes) r (inr fault) = inr ([], inr (inl fault))
+
+pub some_unread : {A : Type 0} (left : Option (List ℕ)) (r : Refusal) (answer : Result A Refusal) → answer ≡ Err r → IfSome left (AnswersUnits (Err r)) → IfErr answer (SomeFault left)
+some_unread left r answer is h = rw is (some_units left r h)
+
+some_text : (left : Option (List ℕ)) (us : Units) (r : Refusal) → IfSome left (AnswersUnits (Ok us)) → ((r ≡ refusal.Read) ⊎ ((r ≡ out_of_memory) ⊎ (r ≡ refusal.Cert cert.TooLarge))) → SomeFault left r
+some_text None us r read why = tt
+some_text (Some bytes) us r read (inl unread) = inl unread
+some_text (Some bytes) us r read (inr (inl memory)) = inr ([], inl (inl memory))
+some_text (Some bytes) us r read (inr (inr large)) = let long = longer 67108864 in inr (long.0, inr (inr (us, read, large, long.1)))
+
+text_kind : {A : Type 0} (failed : Bool) (r : Refusal) (text : Option (List ℕ)) → (failed ≡ false → (r ≡ out_of_memory) ⊎ ((r ≡ refusal.Cert cert.TooLarge) × ReadsTooMany text 67108864)) → (failed ≡ true → ◌≡◌ {A = Result A Refusal} (Err r) (Err refusal.Read))
+    → (r ≡ refusal.Read) ⊎ ((r ≡ out_of_memory) ⊎ (r ≡ refusal.Cert cert.TooLarge))
+text_kind true r text err read = let e = read refl in inl cc
+text_kind false r text err read = elim (err refl) [ inl memory ↦ inr (inl memory) | inr large ↦ inr (inr large.0) ]
+
+pub some_text_unread : {A B : Type 0} (left text : Option (List ℕ)) (us : Units) (failed : Bool) (r : Refusal) (answer : Result A Refusal) → answer ≡ Err r → IfSome left (AnswersUnits (Ok us))
+    → (failed ≡ false → (r ≡ out_of_memory) ⊎ ((r ≡ refusal.Cert cert.TooLarge) × ReadsTooMany text 67108864)) → (failed ≡ true → ◌≡◌ {A = Result B Refusal} (Err r) (Err refusal.Read)) → IfErr answer (SomeFault left)
+some_text_unread {A} {B} left text us failed r answer is units err read = rw is (some_text left us r units (text_kind {A = B} failed r text err read))
+
+-- the same of what is read
+pub some_read : (left : Option (List ℕ)) (r : Refusal) (answer : Result Inputs Refusal) → answer ≡ Err r → SomeFault left r → IfSome left (λ bytes. (answer ≡ Err refusal.Read) ⊎ ((text : List ℕ) × AreRead bytes (Some text) answer))
+some_read None r answer is h = tt
+some_read (Some bytes) r answer is (inl unread) = inl (is ∙ ap (λ e. Err e) unread)
+some_read (Some bytes) r answer is (inr h) = inr (h.0, rw is h.1)
+
+pub some_inputs : (left : Option (List ℕ)) (i : Inputs) (text : List ℕ) → IfSome left (AnswersUnits (Ok i.units)) → text_given i ≡ Some text → IfSome left (λ bytes. (◌≡◌ {A = Result Inputs Refusal} (Ok i) (Err refusal.Read)) ⊎ ((t : List ℕ) × AreRead bytes (Some t) (Ok i)))
+some_inputs None i text units given = tt
+some_inputs (Some bytes) i text units given = inr (text, (units, given))

@@ -1,6 +1,6 @@
 //! Reading the inputs of a job, each whole and up to a limit.
 
-ghost use Rattle.std.specs.Prelude.{◌≡◌, ◌≢◌, ℕ, ◌+◌, ◌-◌, ◌<◌, ◌^◌, ◌≤◌, min, true, false, length, IfOk, IfErr, IfSome, IsErrOf, IsSome, IsTrue, ◌↔◌, ◌⊎◌, Ok as OkOf};
+ghost use Rattle.std.specs.Prelude.{◌≡◌, ◌≢◌, ℕ, ◌+◌, ◌-◌, ◌<◌, ◌^◌, ◌≤◌, min, true, false, length, IfOk, IfErr, IfSome, IsErrOf, IsSome, IsTrue, ◌↔◌, ◌⊎◌, Ok as OkOf, List};
 ghost use Rattle.ec_wire.specs.Stream.{stream, has_failed, taken};
 ghost use Rattle.ec_inputs.specs.Input.{ReadsAll, ReadsTooMany, ConsumesAtMost, AreUnits, AnswersUnits, IsInputFault, AreRead, HasRoom, ReadsUpTo, ReadsBoth, most_of_units, most_of_cert};
 ghost use Rattle.ec_inputs.specs.Use.{used};
@@ -8,7 +8,7 @@ ghost use Rattle.ec_units.specs.Load.{loads_of};
 ghost use Rattle.ec_loads.specs.Held.{no_places};
 ghost use Rattle.ec_refusals.specs.Refusals.{IsReadFault, out_of_memory};
 ghost use Rattle.ec_cert_text.specs.declared.fault.CertFault.TheVariants.{TooLarge};
-ghost use Rattle.ec_refusals.specs.declared.refusal.Refusal.TheVariants.{Cert};
+ghost use Rattle.ec_refusals.specs.declared.refusal.Refusal.TheVariants.{Cert, Read as ReadRefusal};
 
 use ec_cert_text::{CertFault, MOST_BYTES};
 use ec_checker::CheckFault;
@@ -106,6 +106,7 @@ fn parts<R: Read, C: Read>(
     ensures text { IfOk result (λ found. IfSome (C.remaining (stream cert.old)) (λ all. found.2.items ≡ all)) }
     ensures err { has_failed units.new ≡ false → has_failed cert.new ≡ false → IfErr result (λ r. IfSome (R.remaining (stream units.old)) (λ bytes.
         IfSome (C.remaining (stream cert.old)) (λ text. IsInputFault bytes text r))) }
+    ensures some { has_failed units.new ≡ false → IfErr result (λ r. IfSome (R.remaining (stream units.old)) (λ bytes. (r ≡ ReadRefusal) ⊎ ((text : List ℕ) × IsInputFault bytes text r))) }
     ensures read { has_failed units.new ≡ true → result ≡ Err Refusal.Read }
     ensures cert_read { has_failed cert.new ≡ true → result ≡ Err Refusal.Read }
     ensures kept { has_failed units.new ≡ true → cert.new ≡ cert.old }
@@ -145,6 +146,7 @@ pub fn read_both<R: Read, C: Read>(
     requires cert { has_failed cert.old ≡ false }
     ensures told { has_failed units.new ≡ false → has_failed cert.new ≡ false → IfSome (R.remaining (stream units.old)) (λ bytes.
         IfSome (C.remaining (stream cert.old)) (λ text. AreRead bytes (Some text) result)) }
+    ensures some { has_failed units.new ≡ false → IfSome (R.remaining (stream units.old)) (λ bytes. (result ≡ Err Refusal.Read) ⊎ ((text : List ℕ) × AreRead bytes (Some text) result)) }
     ensures read { ReadsBoth (used R.remaining units.old units.new) (used C.remaining cert.old cert.new) (result ≡ Err Refusal.Read) }
     ensures given { IfOk result (λ i. IsSome i.given) }
     ensures room { IfOk result HasRoom }

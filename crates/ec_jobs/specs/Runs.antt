@@ -58,7 +58,8 @@ HasNotFailed s = IfLent s (Unit {0}) IsSound
 abbrev pub Given : {C : Type 0} → Lent C → (Option (List ℕ) → Type 0) → Type 0
 Given cert P = IfLent cert (P None) (λ c. IfSome (before c) (λ text. P (Some text)))
 
--- the job's units are read, and its certificate where it reads one; what is told of them goes to the writers
+-- the job's units are read, and its certificate where it reads one; what is told of them goes to the writers. Of a certificate whose bytes aren't known it is what is
+-- told for some text (`some`)
 pub record Does {R C O : Type 0} (j : Job) (units : Use R) (cert : Lent C) (out : Lent O) (w : Written) : Type 0 where
   pub units_read : ReadsUpTo units most_of_units (Refuses refusal.Read w)
   pub cert_read : IfLent cert (Unit {0}) (λ c. ReadsBoth units c (Refuses refusal.Read w))
@@ -66,6 +67,7 @@ pub record Does {R C O : Type 0} (j : Job) (units : Use R) (cert : Lent C) (out 
       (file : Option (List ℕ)) × IsTold j bytes text w file × IfLent out (Unit {0}) (λ o. Gets o.tells o.old o.new file)))
   pub front : IsSound units → HasNotFailed cert → IfSome (before units) (λ bytes. Given cert (λ text.
       IfLent out (Unit {0}) (λ o. (v : Written) × (file : Option (List ℕ)) × IsTold j bytes text v file × GetsFront o.tells o.old o.new file)))
+  pub some : IsSound units → IfLent cert (Unit {0}) (λ c. IfSome (before units) (λ bytes. (Refuses refusal.Read w ⊎ Refuses refusal.Write w) ⊎ ((text : List ℕ) × (file : Option (List ℕ)) × IsTold j bytes (Some text) w file)))
   pub unwritten : IfLent out (Unit {0}) (λ o. HasFailed o → Refuses refusal.Write w)
   pub unread : IfLent out (Unit {0}) (λ o. HasFailed units → IsKept o)
   pub cert_unread : IfLent cert (Unit {0}) (λ c. IfLent out (Unit {0}) (λ o. HasFailed c → IsKept o))
@@ -87,11 +89,12 @@ IsRun j units cert text out code = Tells (DoesWith j units cert out) text code
 
 -- ---- a command line, of whose files nothing is known
 
--- what is told where the job, the path of a certificate to read and that of a file to write are these
+-- what is told where the job, the path of a certificate to read and that of a file to write are these: of a certificate whose file isn't known, what is told for
+-- some text, unless a read or a write failed
 abbrev pub LineTold : Job → Option (String Global) → Option (String Global) → Written → List ℕ → Type 0
 LineTold j None None w bytes = (file : Option (List ℕ)) × IsTold j bytes None w file
 LineTold j None (Some to) w bytes = Refuses refusal.Write w ⊎ ((file : Option (List ℕ)) × IsTold j bytes None w file)
-LineTold j (Some from) to w bytes = Unit {0}
+LineTold j (Some from) to w bytes = (Refuses refusal.Read w ⊎ Refuses refusal.Write w) ⊎ ((text : List ℕ) × (file : Option (List ℕ)) × IsTold j bytes (Some text) w file)
 
 pub record DoesLine {R : Type 0} (j : Job) (cert out : Option (String Global)) (units : Use R) (w : Written) : Type 0 where
   pub read : ReadsUpTo units most_of_units (Refuses refusal.Read w)

@@ -1,6 +1,6 @@
 //! The first two steps of a run: what it reads, and what is told of that.
 
-ghost use Rattle.std.specs.Prelude.{◌≡◌, Bool, false, None, Some, IfSome};
+ghost use Rattle.std.specs.Prelude.{◌≡◌, ◌⊎◌, ℕ, Bool, List, false, None, Some, IfSome};
 ghost use Rattle.ec_wire.specs.Stream.{stream, has_failed};
 ghost use Rattle.ec_command.specs.Words.{IsPlain, JobFits};
 ghost use Rattle.ec_inputs.specs.Input.{ReadsBoth, ReadsUpTo, most_of_units};
@@ -56,6 +56,7 @@ pub(crate) fn answer_both<R: Read, C: Read, T: Threads + Wait + Sync, G: Gate + 
     requires cert { has_failed cert.old ≡ false }
     ensures told { has_failed units.new ≡ false → has_failed cert.new ≡ false → IfSome (R.remaining (stream units.old)) (λ bytes.
         IfSome (C.remaining (stream cert.old)) (λ text. TellsFor is_wanted job.now bytes (Some text) result)) }
+    ensures some { has_failed units.new ≡ false → IfSome (R.remaining (stream units.old)) (λ bytes. (result ≡ Err Refusal.Read) ⊎ ((text : List ℕ) × TellsFor is_wanted job.now bytes (Some text) result)) }
     ensures read { ReadsBoth (used R.remaining units.old units.new) (used C.remaining cert.old cert.new) (result ≡ Err Refusal.Read) }
     ensures text { IsWritable result }
 {
@@ -93,6 +94,7 @@ pub(crate) fn plain_both<R: Read, C: Read>(
     requires cert { has_failed cert.old ≡ false }
     ensures told { has_failed units.new ≡ false → has_failed cert.new ≡ false → (wanted : Bool) → IfSome (R.remaining (stream units.old)) (λ bytes.
         IfSome (C.remaining (stream cert.old)) (λ text. TellsFor wanted job.now bytes (Some text) result)) }
+    ensures some { has_failed units.new ≡ false → (wanted : Bool) → IfSome (R.remaining (stream units.old)) (λ bytes. (result ≡ Err Refusal.Read) ⊎ ((text : List ℕ) × TellsFor wanted job.now bytes (Some text) result)) }
     ensures read { ReadsBoth (used R.remaining units.old units.new) (used C.remaining cert.old cert.new) (result ≡ Err Refusal.Read) }
     ensures text { IsWritable result }
 {

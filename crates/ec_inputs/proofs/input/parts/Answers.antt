@@ -1,7 +1,7 @@
 use Rattle.std.proofs.Common.{Err, [], ap, ◌∙◌, arith}
 use Rattle.std.proofs.KnownBytes.{Consumes-nil}
 use Rattle.std.proofs.lemmas.Result.{err_from_is_err_and}
-use Rattle.ec_inputs.proofs.InputLemmas.{read_refused, cert_unread, cert_after, unread_units, no_room, unread_text}
+use Rattle.ec_inputs.proofs.InputLemmas.{read_refused, cert_unread, cert_after, unread_units, no_room, unread_text, some_unread, some_text_unread}
 use Rattle.ec_inputs.proofs.input.parts.Goals as goal
 
 pub returns-in_err-line-clause-err : goal.returns-in_err-line-clause-err
@@ -44,3 +44,13 @@ returns-in_err-text-clause-first g c = cert_after _ _ _ c.in_ok-line.ensures.val
 
 pub returns-clause-first : goal.returns-clause-first
 returns-clause-first g c = cert_after _ _ _ c.in_ok-line.ensures.valid
+
+pub returns-in_err-line-clause-some : goal.returns-in_err-line-clause-some
+returns-in_err-line-clause-some g c = λ read.
+    let p = err_from_is_err_and c.from_residual.result c.from_residual.ensures.1 in
+    some_unread _ c.in_err-line.field-0.0 c.from_residual.result (p.1 ∙ ap (λ e. Err e) p.2) (c.in_err-line.ensures.told read)
+
+pub returns-in_err-text-clause-some : goal.returns-in_err-text-clause-some
+returns-in_err-text-clause-some g c = λ read.
+    let p = err_from_is_err_and c.from_residual-in_err-text.result c.from_residual-in_err-text.ensures.1 in
+    some_text_unread _ _ c.in_ok-line.line _ c.in_err-text.field-0.0 c.from_residual-in_err-text.result (p.1 ∙ ap (λ e. Err e) p.2) (c.in_ok-line.ensures.told read) c.in_err-text.ensures.err c.in_err-text.ensures.read
