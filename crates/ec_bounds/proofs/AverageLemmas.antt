@@ -32,7 +32,7 @@ sum_below-none f zero h = refl
 sum_below-none f (suc n) h = let rest = sum_below-none f n (λ k l. h k (omega arith)) in let last = h n (omega arith) in omega arith
 
 -- a sum with one term
-sum_below-one : (f : ℕ → ℕ) (n a : ℕ) → a < n → ((k : ℕ) → (k ≡ a → ⊥) → f k ≡ 0) → sum_below f n ≡ f a
+pub sum_below-one : (f : ℕ → ℕ) (n a : ℕ) → a < n → ((k : ℕ) → (k ≡ a → ⊥) → f k ≡ 0) → sum_below f n ≡ f a
 sum_below-one f zero a h e = absurd (omega arith)
 sum_below-one f (suc n) a h e =
     elim (cases_eq n a) [
@@ -75,10 +75,10 @@ sends-periods b p f (suc k) h =
 abbrev bytes : List Item → ℕ → ℕ → ℕ
 bytes xs t s = sum_by (λ x. x.bytes) (carried xs t s)
 
-abbrev head : List Item → ℕ → ℕ → ℕ
+abbrev pub head : List Item → ℕ → ℕ → ℕ
 head xs t s = cond (list_any (is_sent t s) xs) (40 + 12 * different (map group (carried xs t s))) 0
 
-idle-carried : (xs : List Item) (t s : ℕ) → list_any (is_sent t s) xs ≡ false → carried xs t s ≡ []
+pub idle-carried : (xs : List Item) (t s : ℕ) → list_any (is_sent t s) xs ≡ false → carried xs t s ≡ []
 idle-carried [] t s h = refl
 idle-carried (x ∷ xs) t s h =
     elim (cases_Bool (is_sent t s x)) [
@@ -98,7 +98,7 @@ slot_raw-parts xs t s =
           rw idle (omega arith)
     ]
 
-head-Sub : (xs ys : List Item) (t s : ℕ) → Sub xs ys → head xs t s ≤ head ys t s
+pub head-Sub : (xs ys : List Item) (t s : ℕ) → Sub xs ys → head xs t s ≤ head ys t s
 head-Sub xs ys t s r =
     let c = Sub-carried t s r in
     let groups : different (map group (carried xs t s)) ≤ different (map group (carried ys t s)) = different-subset _ _ (λ g h. Sub-groups g c h) in
@@ -138,7 +138,7 @@ sum_bytes (x ∷ xs) n t h =
     ∙ sum_below-add (λ s. cond (is_sent t s x) x.bytes 0) (bytes xs t) n
     ∙ (λ i. one_slot n t x (All-head (λ y. y.slot < n) x xs h) i + sum_bytes xs n t (All-tail (λ y. y.slot < n) x xs h) i)
 
-pub heads : List Item → ℕ → ℕ → ℕ
+unfoldable pub heads : List Item → ℕ → ℕ → ℕ
 heads xs n t = sum_below (head xs t) n
 
 pub raw_cost-parts : (xs : List Item) (n t : ℕ) → All (λ x. x.slot < n) xs → raw_cost xs n t ≡ heads xs n t + moved xs t
@@ -153,7 +153,7 @@ unfolding heads
 heads-Sub xs ys n t r = sum_below-le (head xs t) (head ys t) n (λ s _. head-Sub xs ys t s r)
 
 -- the bytes that travel in h ticks
-abbrev weight : List Item → ℕ → ℕ
+abbrev pub weight : List Item → ℕ → ℕ
 weight [] h = 0
 weight (x ∷ xs) h = x.bytes * (h / x.period) + weight xs h
 
@@ -168,13 +168,13 @@ sum_moved (x ∷ xs) n h all =
     sum_below-add (sends x.bytes x.period x.phase) (moved xs) h
     ∙ (λ i. (ap (sum_below (sends x.bytes x.period x.phase)) (sym (mul-div_cancel' x.period own.2)) ∙ sends-periods x.bytes x.period x.phase (h / x.period) own.1) i + sum_moved xs n h later i)
 
-sum_raw : (xs : List Item) (n h : ℕ) → AreWhole n h xs → sum_below (raw_cost xs n) h ≡ sum_below (heads xs n) h + weight xs h
+pub sum_raw : (xs : List Item) (n h : ℕ) → AreWhole n h xs → sum_below (raw_cost xs n) h ≡ sum_below (heads xs n) h + weight xs h
 sum_raw xs n h all =
     sum_below-agree (raw_cost xs n) (λ t. heads xs n t + moved xs t) h (λ t _. raw_cost-parts xs n t (λ k d l. (all k d l).0))
     ∙ sum_below-add (heads xs n) (moved xs) h
     ∙ ap (λ w. sum_below (heads xs n) h + w) (sum_moved xs n h all)
 
-weight-extends : (ls : List Load) (places : Prefix) (plan : List Place) (h : ℕ) → Extends places (map Some plan) → weight (plan_items ls plan) h ≡ weight (items ls places) h + demand ls places h
+pub weight-extends : (ls : List Load) (places : Prefix) (plan : List Place) (h : ℕ) → Extends places (map Some plan) → weight (plan_items ls plan) h ≡ weight (items ls places) h + demand ls places h
 weight-extends [] places plan h e = refl
 weight-extends (l ∷ ls) [] [] h e = refl
 weight-extends (l ∷ ls) [] (q ∷ qs) h e = elim e [ ]
