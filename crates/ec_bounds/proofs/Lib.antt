@@ -10,3 +10,4 @@ pub mod RoomLemmas
 pub mod CountLemmas
 pub mod GroupLemmas
 pub mod FallLemmas
+pub mod StepLemmas

@@ -20,7 +20,7 @@ use Rattle.ec_loads.specs.Legal.{IsLegal}
 use Rattle.ec_loads.specs.Rooms.{is_of_class, is_open, greatest_below, top, room}
 use Rattle.ec_loads.specs.Search.{Prefix, Extends, free, same}
 use Rattle.ec_loads.proofs.ItemLemmas.{positive_loads}
-use Rattle.ec_bounds.specs.RoomLaws.{items_beyond, class_bytes}
+use Rattle.ec_bounds.specs.RoomLaws.{items_beyond, class_bytes, RoomsBound}
 use Rattle.ec_bounds.proofs.SetLemmas.{Group, mem, same_group-is, different-subset}
 use Rattle.ec_bounds.proofs.SubLemmas.{Sub, Sub-items, Sub-carried, Sub-groups, All-Sub, sum_below-le}
 use Rattle.ec_bounds.proofs.AverageLemmas.{sends, head, heads, head-Sub, heads-Sub, moved, raw_cost-parts, raw_cost-le}
@@ -296,3 +296,6 @@ room-holds loads n v ps plan within e legal low p f =
           ]) in
           left-below b (top xs n h p f) d u (omega (arith, here.0, cheap)) most
     ]
+
+pub rooms-bound : RoomsBound
+rooms-bound loads n v ps plan within e legal below p f = room-holds loads n v ps plan within e legal (λ t _. let low = below t in omega (arith, low)) p f
