@@ -203,7 +203,7 @@ above_or_all f (suc h) w =
       ]
     ]
 
-sum_below-bound : (f : ℕ → ℕ) (h w : ℕ) → ((t : ℕ) → t < h → f t ≤ w) → sum_below f h ≤ w * h
+pub sum_below-bound : (f : ℕ → ℕ) (h w : ℕ) → ((t : ℕ) → t < h → f t ≤ w) → sum_below f h ≤ w * h
 sum_below-bound f zero w all = omega arith
 sum_below-bound f (suc h) w all =
     let rest = sum_below-bound f h w (λ t l. all t (omega arith)) in

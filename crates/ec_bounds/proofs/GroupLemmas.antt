@@ -94,14 +94,14 @@ many-groups t test gs there [] apart fs sub absent = let all = different-subset 
 many-groups t test gs there (p ∷ qs) apart fs sub absent =
     let counted = sum_by-cons (λ q. cond (test q) 1 0) p qs in
     elim (cases_Bool (test p)) [
-      | inl yes ↦
+      | inl passing ↦
           let g : Group = (p, t % p) in
-          let none : mem g fs ≡ false = absent p (ap (λ b. b || list_any (λ q. p == q) qs) (eq-eqb p p refl)) yes in
-          let one : cond (mem g fs) 0 1 ≡ 1 = cond-false (mem g fs) 0 1 none in
-          let here : cond (test p) 1 0 ≡ 1 = cond-true (test p) 1 0 yes in
+          let none : mem g fs ≡ false = absent p (ap (λ b. b || list_any (λ q. p == q) qs) (eq-eqb p p refl)) passing in
+          let one : ◌≡◌ {A = ℕ} (cond (mem g fs) 0 1) 1 = cond-false (mem g fs) 0 1 none in
+          let here : ◌≡◌ {A = ℕ} (cond (test p) 1 0) 1 = cond-true (test p) 1 0 passing in
           let rest : count_by test qs + different (g ∷ fs) ≤ different gs = many-groups t test gs there qs apart.1 (g ∷ fs)
           (λ a m. elim (or_cases (same_group a g) (mem a fs) m) [
-            | inl is ↦ ap (λ w. mem w gs) (same_group-is a g is) ∙ there p yes
+            | inl is ↦ ap (λ w. mem w gs) (same_group-is a g is) ∙ there p passing
             | inr old ↦ sub a old
           ])
           (λ q m pass. false_from_ne_true (mem (q, t % q) (g ∷ fs)) (λ again. elim (or_cases (same_group (q, t % q) g) (mem (q, t % q) fs) again) [
@@ -112,7 +112,7 @@ many-groups t test gs there (p ∷ qs) apart fs sub absent =
           ])) in
           omega (arith, counted, one, here, rest)
       | inr fails ↦
-          let here : cond (test p) 1 0 ≡ 0 = cond-false (test p) 1 0 fails in
+          let here : ◌≡◌ {A = ℕ} (cond (test p) 1 0) 0 = cond-false (test p) 1 0 fails in
           let rest = many-groups t test gs there qs apart.1 fs sub (λ q m pass. absent q (or_right (q == p) (list_any (λ y. q == y) qs) m) pass) in
           omega (arith, counted, here, rest)
     ]
@@ -124,10 +124,10 @@ is_added xs ys t s p = not (is_open xs p (t % p)) && mem (p, t % p) (groups ys t
 slot-many : (xs ys : List Item) (t s : ℕ) (qs : List ℕ) → AreApart qs → Sub xs ys → count_by (is_added xs ys t s) qs + different (groups xs t s) ≤ different (groups ys t s)
 slot-many xs ys t s qs apart r =
     let c = Sub-carried t s r in
-    many-groups t (is_added xs ys t s) (groups ys t s) (λ p yes. (and_parts (not (is_open xs p (t % p))) (mem (p, t % p) (groups ys t s)) yes).1) qs apart (groups xs t s)
+    many-groups t (is_added xs ys t s) (groups ys t s) (λ p passing. (and_parts (not (is_open xs p (t % p))) (mem (p, t % p) (groups ys t s)) passing).1) qs apart (groups xs t s)
     (λ g m. Sub-groups g c m)
-    (λ p _ yes. false_from_ne_true (mem (p, t % p) (groups xs t s)) (λ m.
-    false≢true (sym (not-true (is_open xs p (t % p)) (and_parts (not (is_open xs p (t % p))) (mem (p, t % p) (groups ys t s)) yes).0) ∙ slot-open xs p (t % p) t s m)))
+    (λ p _ passing. false_from_ne_true (mem (p, t % p) (groups xs t s)) (λ m.
+    false≢true (sym (not-true (is_open xs p (t % p)) (and_parts (not (is_open xs p (t % p))) (mem (p, t % p) (groups ys t s)) passing).0) ∙ slot-open xs p (t % p) t s m)))
 
 head-many : (xs ys : List Item) (t s : ℕ) (qs : List ℕ) → AreApart qs → Sub xs ys → head xs t s + 12 * count_by (is_added xs ys t s) qs ≤ head ys t s
 head-many xs ys t s qs apart r =
@@ -154,12 +154,12 @@ begins-slot xs ys zs n t p slots beyond =
           elim (cases_Bool (is_open zs p (t % p))) [
             | inl used ↦
                 let at = open-slot ys n p (t % p) t slots (beyond used) refl in
-                let here : cond (is_added xs ys t at.0 p) 1 0 ≡ 1 = cond-true (is_added xs ys t at.0 p) 1 0 (and_from (not (is_open xs p (t % p))) (mem (p, t % p) (groups ys t at.0)) (not_from_false (is_open xs p (t % p)) closed) at.2) in
-                let one : cond (is_open zs p (t % p)) 1 0 ≡ 1 = cond-true (is_open zs p (t % p)) 1 0 used in
+                let here : ◌≡◌ {A = ℕ} (cond (is_added xs ys t at.0 p) 1 0) 1 = cond-true (is_added xs ys t at.0 p) 1 0 (and_from (not (is_open xs p (t % p))) (mem (p, t % p) (groups ys t at.0)) (not_from_false (is_open xs p (t % p)) closed) at.2) in
+                let one : ◌≡◌ {A = ℕ} (cond (is_open zs p (t % p)) 1 0) 1 = cond-true (is_open zs p (t % p)) 1 0 used in
                 let term = sum_below-term (λ s. cond (is_added xs ys t s p) 1 0) n at.0 at.1 in
                 omega (arith, left, here, one, term)
             | inr unused ↦
-                let none : cond (is_open zs p (t % p)) 1 0 ≡ 0 = cond-false (is_open zs p (t % p)) 1 0 unused in
+                let none : ◌≡◌ {A = ℕ} (cond (is_open zs p (t % p)) 1 0) 0 = cond-false (is_open zs p (t % p)) 1 0 unused in
                 omega (arith, left, none)
           ]
     ]
@@ -228,9 +228,9 @@ from-range : (test : ℕ → Bool) (q a n : ℕ) → list_any (λ w. q == w) (fi
 from-range test q a zero h = absurd (false≢true h)
 from-range test q a (suc n) h =
     elim (cases_Bool (test a)) [
-      | inl yes ↦
+      | inl passing ↦
           let there : ((q == a) || list_any (λ w. q == w) (filter test (range_with_len (a + 1) n))) ≡ true =
-          sym (ap (λ b. list_any (λ w. q == w) (cond b (a ∷ filter test (range_with_len (a + 1) n)) (filter test (range_with_len (a + 1) n)))) yes) ∙ h in
+          sym (ap (λ b. list_any (λ w. q == w) (cond b (a ∷ filter test (range_with_len (a + 1) n)) (filter test (range_with_len (a + 1) n)))) passing) ∙ h in
           elim (or_cases (q == a) (list_any (λ w. q == w) (filter test (range_with_len (a + 1) n))) there) [
             | inl is ↦ let at = eqb-true q a is in omega (arith, at)
             | inr later ↦ let low = from-range test q (a + 1) n later in omega (arith, low)

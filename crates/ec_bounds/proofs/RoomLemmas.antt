@@ -139,7 +139,7 @@ different-more g fs gs new there sub =
       | inl is ↦ ap (λ w. mem w gs) (same_group-is a g is) ∙ there
       | inr old ↦ sub a old
     ]) in
-    let counted : cond (mem g fs) 0 1 ≡ 1 = cond-false (mem g fs) 0 1 new in
+    let counted : ◌≡◌ {A = ℕ} (cond (mem g fs) 0 1) 1 = cond-false (mem g fs) 0 1 new in
     omega (arith, all, counted)
 
 -- a slot with a group of a closed class has 12 bytes more

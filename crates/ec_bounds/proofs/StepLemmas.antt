@@ -80,10 +80,10 @@ open_none ls ps p f i past kept = sym (ap (λ w. is_open (items w (drop i ps)) p
 
 -- the room of an open and of a closed class
 pub room_open : (u t k : ℕ) (b : Bool) → b ≡ true → k ≡ t → u - k ≡ u - (t + cond b 0 12)
-room_open u t k b opened is = let none : cond b 0 12 ≡ 0 = cond-true b 0 12 opened in omega (arith, none, is)
+room_open u t k b opened is = let none : ◌≡◌ {A = ℕ} (cond b 0 12) 0 = cond-true b 0 12 opened in omega (arith, none, is)
 
 pub room_closed : (u t k : ℕ) (b : Bool) → b ≡ false → k ≡ t + 12 → u - k ≡ u - (t + cond b 0 12)
-room_closed u t k b closed is = let twelve : cond b 0 12 ≡ 12 = cond-false b 0 12 closed in omega (arith, twelve, is)
+room_closed u t k b closed is = let twelve : ◌≡◌ {A = ℕ} (cond b 0 12) 12 = cond-false b 0 12 closed in omega (arith, twelve, is)
 
 -- the loop that copies the units without a place
 left-at : (ls : List Load) (bs : List Bool) (i : ℕ) (d : Load) (e : Bool) → i < length ls → i < length bs →
@@ -196,3 +196,33 @@ group_end h ps xs i t past so_far =
 -- the test of one pair
 pub needed-none : (xs : List Item) (n h v : ℕ) (ls : List Load) (p : ℕ) (pair : Pair) → pair.count ≡ 0 → IsNeeded xs n h v ls p pair
 needed-none xs n h v ls p pair none = λ some. absurd (omega (arith, none, some))
+
+-- the test of the groups
+pub groups-iff : (loads : List Load) (n : ℕ) (val : Option ℕ) (ps : Prefix) (pairs : List Pair) (left : List Load) (b h x y z : ℕ) → val ≡ Some b → h ≡ lcm_of (periods_of loads) → left ≡ unplaced loads ps → 0 < length left →
+    AllZip (IsNeeded (items loads ps) n h b left) (periods_in left) pairs → x ≡ b - 1 → y ≡ h →
+    z ≡ sum_below (raw_cost (items loads ps) n) h + sent_bytes h left + group_bytes h (periods_in left) pairs → (IsTrue (nat_lt (x * y) z) ↔ GroupsHold loads n val ps pairs)
+groups-iff loads n val ps pairs left b h x y z is hyper units some needed one ticks whole =
+    let product : x * y ≡ (b - 1) * h = λ i. one i * ticks i in
+    let all : List Load → ℕ → Type 0 = λ ls k. (0 < length ls) × AllZip (IsNeeded (items loads ps) n k b ls) (periods_in ls) pairs × ((b - 1) * k < sum_below (raw_cost (items loads ps) n) k + sent_bytes k ls + group_bytes k (periods_in ls) pairs) in (
+      λ yes.
+          let low = below_from (x * y) z yes in
+          let below : (b - 1) * h < sum_below (raw_cost (items loads ps) n) h + sent_bytes h left + group_bytes h (periods_in left) pairs = omega (arith, low, product, whole) in
+          let here : all left h = (some, needed, below) in
+          let there : all (unplaced loads ps) (lcm_of (periods_of loads)) = subst (λ w. w) (λ i. all (units i) (hyper i)) here in
+          (b, is, record { some = there.0; needed = there.1; above = there.2 }),
+      λ (holds : GroupsHold loads n val ps pairs).
+          let same : holds.0 ≡ b = some_same (sym holds.1 ∙ is) in
+          let above = holds.2.above in
+          let at : (b - 1) * lcm_of (periods_of loads) < sum_below (raw_cost (items loads ps) n) (lcm_of (periods_of loads)) + sent_bytes (lcm_of (periods_of loads)) (unplaced loads ps) + group_bytes (lcm_of (periods_of loads)) (periods_in (unplaced loads ps)) pairs =
+          subst (λ a. (a - 1) * lcm_of (periods_of loads) < sum_below (raw_cost (items loads ps) n) (lcm_of (periods_of loads)) + sent_bytes (lcm_of (periods_of loads)) (unplaced loads ps) + group_bytes (lcm_of (periods_of loads)) (periods_in (unplaced loads ps)) pairs) same above in
+          let here : (b - 1) * h < sum_below (raw_cost (items loads ps) n) h + sent_bytes h left + group_bytes h (periods_in left) pairs =
+          subst (λ w. w) (sym (λ i. (b - 1) * hyper i < sum_below (raw_cost (items loads ps) n) (hyper i) + sent_bytes (hyper i) (units i) + group_bytes (hyper i) (periods_in (units i)) pairs)) at in
+          below_to (x * y) z (omega (arith, here, product, whole)),
+    )
+
+-- what the groups need at a value that holds
+pub groups-need : (loads : List Load) (n : ℕ) (val : Option ℕ) (ps : Prefix) (pairs : List Pair) (left : List Load) (b : ℕ) → val ≡ Some b → left ≡ unplaced loads ps → GroupsHold loads n val ps pairs →
+    (0 < length left) × AllZip (IsNeeded (items loads ps) n (lcm_of (periods_of loads)) b left) (periods_in left) pairs
+groups-need loads n val ps pairs left b is units holds =
+    let same : holds.0 ≡ b = some_same (sym holds.1 ∙ is) in
+    subst (λ w. w) (λ i. (0 < length (sym units i)) × AllZip (IsNeeded (items loads ps) n (lcm_of (periods_of loads)) (same i) (sym units i)) (periods_in (sym units i)) pairs) (holds.2.some, holds.2.needed)

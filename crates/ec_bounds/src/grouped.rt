@@ -113,7 +113,7 @@ fn group_bytes(ticks: u32, periods: &[u16], pairs: &[Pair]) -> u64
     ensures bound { result ≤ 48317644800 }
 {
     let mut total = 0u64;
-    for i in 0..periods.len() {
+    for i in 0..pairs.len() {
         total += header_bytes(ticks, periods[i], pairs[i].count);
     }
     total
