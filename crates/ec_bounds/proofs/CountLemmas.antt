@@ -13,7 +13,7 @@ use Rattle.ec_loads.specs.declared.item.Item.{Item}
 use Rattle.ec_loads.specs.Cost.{item, items, plan_items, sum_below, tick_cost}
 use Rattle.ec_loads.specs.Held.{AreLoads}
 use Rattle.ec_loads.specs.Legal.{IsLegal}
-use Rattle.ec_loads.specs.Rooms.{is_of_class, room, unplaced, is_large, room_count, CountHolds}
+use Rattle.ec_loads.specs.Rooms.{is_of_class, room, unplaced, is_large, room_count}
 use Rattle.ec_loads.specs.Search.{Prefix, Extends, free, same, HasTick}
 use Rattle.ec_bounds.specs.RoomLaws.{items_beyond, class_bytes, CountsBound}
 use Rattle.ec_bounds.proofs.SubLemmas.{sum_below-le}

@@ -1,5 +1,5 @@
 -- What a merge, units that are counted or new groups show at a value, they show at each smaller one.
-use Rattle.std.proofs.Common.{ℕ, ◌+◌, ◌-◌, ◌*◌, ◌<◌, ◌≤◌, Bool, true, false, cond, List, [], ◌∷◌, arith, le_trans, mul-le-mul_right}
+use Rattle.std.proofs.Common.{ℕ, ◌-◌, ◌*◌, ◌≤◌, Bool, true, false, cond, List, [], ◌∷◌, arith, le_trans, mul-le-mul_right}
 use Rattle.std.specs.List.{AllZip}
 use Rattle.ec_hyper.specs.Lcm.{lcm_of}
 use Rattle.ec_units.specs.declared.unit.Load.{Load}
@@ -49,8 +49,7 @@ groups-fall loads n v w ps pairs low h =
     let xs = items loads ps in
     let ls = unplaced loads ps in
     let times : (a - 1) * k ≤ (h.0 - 1) * k = mul-le-mul_right k (let under : a - 1 ≤ h.0 - 1 = omega (arith, less) in under) in
-    let above = h.2.above in
-    (
+    let above = h.2.above in (
       a,
       is,
       record {

@@ -1,11 +1,11 @@
 -- So many new groups, each of which costs 12 bytes in its ticks, bound every plan that extends the prefix.
 -- A period whose bytes don't fit into fewer of its closed classes begins at least so many (`needed-begun`). In each tick the new groups of all
 -- periods come to 12 bytes each (`heads-many`), since they differ; over a hyperperiod each class counts once in each of its periods (`sum-periods`).
-use Rattle.std.proofs.Common.{◌≡◌, ℕ, zero, suc, ◌+◌, ◌-◌, ◌*◌, ◌/◌, ◌%◌, ◌<◌, ◌≤◌, ◌==◌, ◌&&◌, ◌||◌, not, Bool, true, false, cond, List, [], ◌∷◌, map, filter, sum_by, count_by, All, Option, Some, None, refl, sym, ap, ◌∙◌, subst, arith, inl, inr, eqb-true, le_trans, mul_comm, mul_assoc, mul-zero, mul-suc, suc-mul, mul-le-mul_left, mul-le-mul_right, lt_of_mul-lt-mul_right, mod-eq_of_lt}
+use Rattle.std.proofs.Common.{◌≡◌, ℕ, zero, suc, ◌+◌, ◌-◌, ◌*◌, ◌/◌, ◌%◌, ◌<◌, ◌≤◌, ◌==◌, ◌&&◌, ◌||◌, not, Bool, true, false, cond, List, [], ◌∷◌, map, filter, sum_by, count_by, All, Option, Some, None, refl, sym, ap, ◌∙◌, subst, arith, inl, inr, eqb-true, mul_comm, mul_assoc, mul-zero, mul-suc, suc-mul, mul-le-mul_left, lt_of_mul-lt-mul_right}
 use Prim.Native.Nat.{◌∣◌}
 use native.Mathlib.Nat.{mul-div_cancel'}
 use Rattle.std.specs.List.{AllZip, list_any, range_with_len}
-use Rattle.std.proofs.lemmas.Bool.{false≢true, true≢false, and_parts, and_from, or_cases, or_parts, or_right, cases_Bool, cond-true, cond-false, cond_both, eq-eqb, false_from_ne_true, not-true, not_from_false}
+use Rattle.std.proofs.lemmas.Bool.{false≢true, and_parts, and_from, or_cases, or_right, cases_Bool, cond-true, cond-false, cond_both, eq-eqb, false_from_ne_true, not-true, not_from_false}
 use Rattle.std.proofs.lemmas.List.Sums.{sum_by-cons}
 use Rattle.std.proofs.lemmas.List.Elements.{All-head, All-tail, All-weaker, filter_passes}
 use Rattle.std.proofs.lemmas.Nat.{mod-mul-add}
@@ -19,17 +19,17 @@ use Rattle.ec_loads.specs.declared.pair.Pair.{Pair}
 use Rattle.ec_loads.specs.Cost.{items, plan_items, is_sent, same_group, groups, different, sum_below, tick_cost, raw_cost}
 use Rattle.ec_loads.specs.Held.{AreLoads}
 use Rattle.ec_loads.specs.Legal.{IsLegal}
-use Rattle.ec_loads.specs.Rooms.{is_open, room, unplaced, has_period, periods_in, bytes_at, room_beside, room_below, IsNeeded, group_bytes, sent_bytes, AreGroups}
+use Rattle.ec_loads.specs.Rooms.{is_open, room, unplaced, has_period, periods_in, bytes_at, room_beside, IsNeeded, group_bytes, sent_bytes, AreGroups}
 use Rattle.ec_loads.specs.Search.{Prefix, Extends, demand, HasTick}
 use Rattle.ec_loads.proofs.ItemLemmas.{positive_loads}
 use Rattle.ec_bounds.specs.RoomLaws.{items_beyond, class_bytes, GroupsBound}
 use Rattle.ec_bounds.proofs.SetLemmas.{Group, mem, same_group-is, different-subset}
 use Rattle.ec_bounds.proofs.SubLemmas.{Sub, Sub-items, Sub-carried, Sub-groups, Sub-busy, All-Sub, sum_below-le}
-use Rattle.ec_bounds.proofs.AverageLemmas.{sum_below-add, sum_below-agree, sum_below-none, sum_below-split, idle-carried, head, heads, weight, AreWhole, sum_raw, weight-extends, raw_cost-le, above_or_all, sum_below-bound}
+use Rattle.ec_bounds.proofs.AverageLemmas.{sum_below-add, sum_below-agree, sum_below-none, sum_below-split, idle-carried, head, heads, sum_raw, weight-extends, raw_cost-le, above_or_all, sum_below-bound}
 use Rattle.ec_bounds.proofs.WeightLemmas.{sum_below-times, sum_below-scaled}
 use Rattle.ec_bounds.proofs.LeafLemmas.{AreWhole-legal}
-use Rattle.ec_bounds.proofs.RoomLemmas.{found, sum_below-term, open-slot, slot-open, busy-mem, open-beyond, class-none, All-beyond, room-holds}
-use Rattle.ec_bounds.proofs.CountLemmas.{class_sum, classes-sum, beyond-sum}
+use Rattle.ec_bounds.proofs.RoomLemmas.{sum_below-term, open-slot, slot-open, open-beyond, class-none, All-beyond, room-holds}
+use Rattle.ec_bounds.proofs.CountLemmas.{classes-sum, beyond-sum}
 
 -- whether a class is closed for the items xs, and zs have one of it
 abbrev begins : List Item → List Item → ℕ → ℕ → ℕ

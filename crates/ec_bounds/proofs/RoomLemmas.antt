@@ -1,7 +1,7 @@
 -- What a plan puts into a class beyond a prefix has room there.
 -- In a tick of the class its bytes come to what the prefix costs there, and 12 bytes where the class is closed; an idle tick costs 40 at
 -- least (`tick-more`). The top of the class is the greatest of these (`greatest-most`), so the bytes have its room (`room-holds`).
-use Rattle.std.proofs.Common.{◌≡◌, ℕ, zero, suc, ◌+◌, ◌-◌, ◌%◌, ◌<◌, ◌≤◌, ◌==◌, ◌||◌, Bool, true, false, cond, List, [], ◌∷◌, map, sum_by, All, Some, None, refl, sym, ap, ◌∙◌, subst, arith, inl, inr, le_trans, mod-eq_of_lt, eqb-true}
+use Rattle.std.proofs.Common.{◌≡◌, ℕ, zero, suc, ◌+◌, ◌-◌, ◌%◌, ◌<◌, ◌≤◌, ◌==◌, ◌||◌, Bool, true, false, cond, List, [], ◌∷◌, map, All, Some, None, refl, sym, ap, ◌∙◌, subst, arith, inl, inr, le_trans, mod-eq_of_lt, eqb-true}
 use Prim.Native.Nat.{◌∣◌}
 use native.Mathlib.Nat.{le_of_dvd}
 use Rattle.std.specs.List.{list_any}

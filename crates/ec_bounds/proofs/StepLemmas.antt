@@ -1,10 +1,10 @@
 -- Steps of the loops over classes, units and periods that are left, and what their results say.
-use Rattle.std.proofs.Common.{◌≡◌, ℕ, zero, suc, ◌+◌, ◌-◌, ◌*◌, ◌/◌, ◌%◌, ◌<◌, ◌≤◌, ◌==◌, ◌||◌, max, Bool, true, false, cond, is_none, List, [], ◌∷◌, ◌++◌, length, map, take, drop, set, get_or, filter, count_by, All, Option, Some, None, refl, sym, ap, ◌∙◌, subst, arith, inl, inr, add-one, drop-cons, drop_of_length-le, append_assoc, append-nil, mod-eq_of_lt, le_antisymm}
+use Rattle.std.proofs.Common.{◌≡◌, ℕ, zero, suc, ◌+◌, ◌-◌, ◌*◌, ◌/◌, ◌%◌, ◌<◌, ◌≤◌, ◌==◌, ◌||◌, max, Bool, true, false, cond, is_none, List, [], ◌∷◌, ◌++◌, length, map, take, drop, set, get_or, filter, count_by, All, Option, Some, None, refl, sym, ap, ◌∙◌, subst, arith, inl, inr, add-one, drop-cons, drop_of_length-le, append_assoc, append-nil, mod-eq_of_lt}
 use Rattle.std.specs.Prelude.{IsTrue, nat_lt, ◌↔◌}
 use Rattle.std.specs.List.{AllZip, list_any, range_with_len}
 use Rattle.std.proofs.lemmas.Bool.{cases_eq, cond-true, cond-false, eq-eqb, ne_eqb}
 use Rattle.std.proofs.lemmas.List.{take_more_set}
-use Rattle.std.proofs.lemmas.List.Elements.{All-nil, All-cons, All-filter, All-weaker, length_all_zip}
+use Rattle.std.proofs.lemmas.List.Elements.{All-nil, All-cons, All-filter}
 use Rattle.ec_hyper.specs.Lcm.{lcm_of}
 use Rattle.ec_units.specs.declared.slave.Place.{Place}
 use Rattle.ec_units.specs.declared.unit.Load.{Load}
@@ -13,7 +13,7 @@ use Rattle.ec_loads.specs.declared.item.Item.{Item}
 use Rattle.ec_loads.specs.declared.pair.Pair.{Pair}
 use Rattle.ec_loads.specs.Cost.{items, raw_cost, sum_below}
 use Rattle.ec_loads.specs.Held.{Held}
-use Rattle.ec_loads.specs.Rooms.{is_open, top, unplaced, is_large, room_count, CountHolds, has_period, periods_in, IsNeeded, group_bytes, sent_bytes, AreGroups, GroupsHold}
+use Rattle.ec_loads.specs.Rooms.{is_open, top, unplaced, is_above_slot_0, MergeHolds, is_large, room_count, CountHolds, has_period, periods_in, IsNeeded, group_bytes, sent_bytes, GroupsHold}
 use Rattle.ec_loads.specs.Search.{Prefix}
 use Rattle.ec_loads.proofs.ExcessLemmas.{next_tick}
 use Rattle.ec_bounds.specs.Left.{Left, IsRestOf, left_loads, is_placed_in}
@@ -30,20 +30,20 @@ none-before p f i less low on =
 pub top_first : (xs : List Item) (n h p f k : ℕ) → f < p → k ≡ f → (i : ℕ) → i < h → i < k → i % p ≡ f → raw_cost xs n i ≤ 40
 top_first xs n h p f k less is i within below on = absurd (none-before p f i less (omega (arith, is, below)) on)
 
-pub top_next : (xs : List Item) (n h p f k m r : ℕ) → k % p ≡ f → r ≡ raw_cost xs n k → ((i : ℕ) → i < h → i < k → i % p ≡ f → raw_cost xs n i ≤ m) →
-    (i : ℕ) → i < h → i < k + p → i % p ≡ f → raw_cost xs n i ≤ max m r
-top_next xs n h p f k m r turn is before =
-    next_tick (λ i. raw_cost xs n i ≤ max m r) p f k h turn (λ i within below on. let low = before i within below on in omega (arith, low)) (omega (arith, is))
+pub top_next : (xs : List Item) (n h p f k m r q top : ℕ) → k % p ≡ f → r ≡ raw_cost xs n k → q ≡ p → top ≡ max m r → ((i : ℕ) → i < h → i < k → i % p ≡ f → raw_cost xs n i ≤ m) →
+    (i : ℕ) → i < h → i < k + q → i % p ≡ f → raw_cost xs n i ≤ top
+top_next xs n h p f k m r q top turn is step most before i within below on =
+    next_tick (λ j. raw_cost xs n j ≤ top) p f k h turn (λ j inside less at. let low = before j inside less at in omega (arith, low, most)) (omega (arith, is, most)) i within (omega (arith, below, step)) on
 
 -- and that it isn't above the top
 pub top_met : (xs : List Item) (n h p f : ℕ) → 40 ≤ top xs n h p f
 top_met xs n h p f = greatest-first 40 (λ t. cond (t % p == f) (raw_cost xs n t) 0) h
 
-pub top_stays : (xs : List Item) (n h p f k m r : ℕ) → k < h → k % p ≡ f → r ≡ raw_cost xs n k → m ≤ top xs n h p f → max m r ≤ top xs n h p f
-top_stays xs n h p f k m r within turn is low =
+pub top_stays : (xs : List Item) (n h p f k m r g : ℕ) → k < h → k % p ≡ f → r ≡ raw_cost xs n k → g ≡ max m r → m ≤ top xs n h p f → g ≤ top xs n h p f
+top_stays xs n h p f k m r g within turn is most low =
     let term = greatest-each 40 (λ t. cond (t % p == f) (raw_cost xs n t) 0) h k within in
     let at : cond (k % p == f) (raw_cost xs n k) 0 ≡ raw_cost xs n k = cond-true (k % p == f) (raw_cost xs n k) 0 (eq-eqb (k % p) f turn) in
-    omega (arith, term, at, is, low)
+    omega (arith, term, at, is, most, low)
 
 pub top_end : (xs : List Item) (n h p f k m : ℕ) → h ≤ k → 40 ≤ m → ((i : ℕ) → i < h → i < k → i % p ≡ f → raw_cost xs n i ≤ m) → m ≤ top xs n h p f → m ≡ top xs n h p f
 top_end xs n h p f k m whole low each met =
@@ -226,3 +226,14 @@ pub groups-need : (loads : List Load) (n : ℕ) (val : Option ℕ) (ps : Prefix)
 groups-need loads n val ps pairs left b is units holds =
     let same : holds.0 ≡ b = some_same (sym holds.1 ∙ is) in
     subst (λ w. w) (λ i. (0 < length (sym units i)) × AllZip (IsNeeded (items loads ps) n (lcm_of (periods_of loads)) (same i) (sym units i)) (periods_in (sym units i)) pairs) (holds.2.some, holds.2.needed)
+
+-- the test of the merge
+pub merge-iff : (val : Option ℕ) (ps : Prefix) (v : ℕ) (r : Bool) → val ≡ Some v → v ≤ 1579 → r ≡ list_any is_above_slot_0 ps → (IsTrue r ↔ MergeHolds val ps)
+merge-iff val ps v r is low all = (λ holds. (v, is, low, sym all ∙ holds), λ holds. all ∙ holds.3)
+
+-- lists side by side are as long
+pub zip_length : {A B : Type 0} (R : A → B → Type 0) (xs : List A) (ys : List B) → AllZip R xs ys → length xs ≡ length ys
+zip_length R [] [] all = refl
+zip_length R [] (y ∷ ys) all = absurd all
+zip_length R (x ∷ xs) [] all = absurd all
+zip_length R (x ∷ xs) (y ∷ ys) all = ap suc (zip_length R xs ys all.1)

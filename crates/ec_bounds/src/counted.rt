@@ -72,13 +72,7 @@ fn left_over(loads: &Loads, period: u16, bytes: u16, value: u64, count: u64) -> 
 /// Whether the units without a place of this period, in ticks, and with at least so many bytes are more than the classes
 /// of the period have room for, each class as many times so many bytes as its room holds; false where there is no value,
 /// and for 0 bytes. For each phase the ticks of its class are looked at once. Takes no memory.
-pub fn count_bound(
-    loads: &Loads,
-    rest: &Rest,
-    period: u16,
-    bytes: u16,
-    value: Option<u64>,
-) -> bool
+pub fn count_bound(loads: &Loads, rest: &Rest, period: u16, bytes: u16, value: Option<u64>) -> bool
     ensures { IsRestOf rest.now loads.now → (IsTrue result ↔ CountHolds loads.now.loads loads.now.slots value loads.now.places period bytes) }
 {
     let Some(value) = value else {

@@ -1,6 +1,7 @@
 //! The bound by merging slots.
 
 ghost use Rattle.std.specs.Prelude.{◌≡◌, ◌↔◌, IsTrue};
+ghost use Rattle.std.specs.List.{list_any};
 ghost use Rattle.ec_loads.specs.Rooms.{is_above_slot_0 as is_above, MergeHolds};
 
 use ec_loads::Loads;
@@ -20,6 +21,13 @@ fn is_above_slot_0(place: &Option<Place>) -> bool
     }
 }
 
+/// Whether one of these is a place in a slot above 0.
+fn has_later_slot(places: &[Option<Place>]) -> bool
+    ensures { result ≡ list_any is_above places.now }
+{
+    places.iter().any(|place| is_above_slot_0(place))
+}
+
 /// Whether some unit has a place in a slot above 0, at a value of at most 1579 bytes; false where there is no value.
 /// Takes no memory.
 pub fn merge_bound(loads: &Loads, value: Option<u64>) -> bool
@@ -31,5 +39,5 @@ pub fn merge_bound(loads: &Loads, value: Option<u64>) -> bool
     if value > MOST_MERGED {
         return false;
     }
-    loads.places().iter().any(|place| is_above_slot_0(place))
+    has_later_slot(loads.places())
 }

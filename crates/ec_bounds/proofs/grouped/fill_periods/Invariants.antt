@@ -1,4 +1,4 @@
-use Rattle.std.proofs.Common.{◌≡◌, ◌+◌, ◌-◌, ◌<◌, ◌++◌, take, filter, length}
+use Rattle.std.proofs.Common.{◌≡◌, ◌-◌, ◌<◌, ◌++◌, take, filter, length}
 use Rattle.std.specs.List.{list_any, range_with_len}
 use Rattle.ec_loads.specs.Rooms.{has_period, periods_in}
 use Rattle.ec_bounds.proofs.grouped.fill_periods.Given as goal

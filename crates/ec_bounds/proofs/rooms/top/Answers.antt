@@ -1,4 +1,4 @@
-use Rattle.std.proofs.Common.{◌%◌, ap, ◌∙◌, arith, mod-eq_of_lt}
+use Rattle.std.proofs.Common.{◌+◌, ◌%◌, ap, ◌∙◌, arith, mod-eq_of_lt}
 use Rattle.std.proofs.Math.Nat.{add-mod_right}
 use Rattle.ec_loads.specs.Cost.{items}
 use Rattle.ec_loads.specs.Rooms.{top}
@@ -30,12 +30,14 @@ loop-tick-preserved c =
     let k = c.loop-tick.tick in
     let inv = c.loop-tick.invariant in
     let raw = c.raw.ensures in
+    let step = c.from-tick-in-loop-tick.ensures in
+    let most = c.max-most.ensures in
     record {
-      turn = add-mod_right k p ∙ inv.turn;
-      low = omega (arith, inv.low);
-      each = top_next xs held.slots h p f k c.loop-tick.most c.raw.result inv.turn raw.value inv.each;
-      met = top_stays xs held.slots h p f k c.loop-tick.most c.raw.result c.loop-tick-test.true inv.turn raw.value inv.met;
-      bound = omega (arith, inv.bound, raw.bound);
+      turn = ap (λ w. (k + w) % p) step ∙ add-mod_right k p ∙ inv.turn;
+      low = omega (arith, inv.low, most);
+      each = top_next xs held.slots h p f k c.loop-tick.most c.raw.result c.from-tick-in-loop-tick.result c.max-most.result inv.turn raw.value step most inv.each;
+      met = top_stays xs held.slots h p f k c.loop-tick.most c.raw.result c.max-most.result c.loop-tick-test.true inv.turn raw.value most inv.met;
+      bound = omega (arith, inv.bound, raw.bound, most);
     }
 
 pub returns-clause-value : goal.returns-clause-value
