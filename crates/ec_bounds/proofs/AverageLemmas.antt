@@ -11,10 +11,15 @@ use Rattle.std.proofs.lemmas.List.Elements.{All-head, All-tail}
 use Rattle.std.proofs.lemmas.Nat.{mod-mul-add}
 use Rattle.ec_units.specs.declared.slave.Place.{Place}
 use Rattle.ec_units.specs.declared.unit.Load.{Load}
+use Rattle.ec_units.specs.Load.{periods_of}
+use Rattle.ec_hyper.specs.Lcm.{lcm_of}
 use Rattle.ec_wire.specs.Wire.{wire_of, raw_of}
 use Rattle.ec_loads.specs.declared.item.Item.{Item}
 use Rattle.ec_loads.specs.Cost.{items, plan_items, is_sent, group, carried, different, payload, slot_cost, sum_below, tick_cost, slot_raw, raw_cost}
+use Rattle.ec_loads.specs.Held.{AreLoads}
+use Rattle.ec_loads.specs.Legal.{IsLegal}
 use Rattle.ec_loads.specs.Search.{Prefix, Extends, free, same, demand, least_raw}
+use Rattle.ec_loads.proofs.ItemLemmas.{DivideAll-loads}
 use Rattle.ec_bounds.proofs.SetLemmas.{different-subset}
 use Rattle.ec_bounds.proofs.SubLemmas.{Sub, Sub-items, Sub-carried, Sub-groups, Sub-busy, All-Sub, sum_below-le}
 
@@ -159,6 +164,10 @@ weight (x ∷ xs) h = x.bytes * (h / x.period) + weight xs h
 
 abbrev pub AreWhole : ℕ → ℕ → List Item → Type 0
 AreWhole n h xs = All (λ x. (x.slot < n) × (x.phase < x.period) × (x.period ∣ h)) xs
+
+-- the items of a legal plan are so
+pub AreWhole-legal : (loads : List Load) (n : ℕ) (plan : List Place) → AreLoads loads → IsLegal loads n plan → AreWhole n (lcm_of (periods_of loads)) (plan_items loads plan)
+AreWhole-legal loads n plan within legal = λ k d l. (legal.slots k d l, legal.phases k d l, DivideAll-loads loads (map Some plan) (lcm_of (periods_of loads)) within (λ i. lcm_of (periods_of loads)) k d l)
 
 sum_moved : (xs : List Item) (n h : ℕ) → AreWhole n h xs → sum_below (moved xs) h ≡ weight xs h
 sum_moved [] n h all = sum_below-none (moved []) h (λ _ _. refl)

@@ -25,9 +25,8 @@ use Rattle.ec_loads.proofs.ItemLemmas.{positive_loads}
 use Rattle.ec_bounds.specs.RoomLaws.{items_beyond, class_bytes, GroupsBound}
 use Rattle.ec_bounds.proofs.SetLemmas.{Group, mem, same_group-is, different-subset}
 use Rattle.ec_bounds.proofs.SubLemmas.{Sub, Sub-items, Sub-carried, Sub-groups, Sub-busy, All-Sub, sum_below-le}
-use Rattle.ec_bounds.proofs.AverageLemmas.{sum_below-add, sum_below-agree, sum_below-none, sum_below-split, idle-carried, head, heads, sum_raw, weight-extends, raw_cost-le, above_or_all, sum_below-bound}
+use Rattle.ec_bounds.proofs.AverageLemmas.{AreWhole-legal, sum_below-add, sum_below-agree, sum_below-none, sum_below-split, idle-carried, head, heads, sum_raw, weight-extends, raw_cost-le, above_or_all, sum_below-bound}
 use Rattle.ec_bounds.proofs.WeightLemmas.{sum_below-times, sum_below-scaled}
-use Rattle.ec_bounds.proofs.LeafLemmas.{AreWhole-legal}
 use Rattle.ec_bounds.proofs.RoomLemmas.{sum_below-term, open-slot, slot-open, open-beyond, class-none, All-beyond, room-holds}
 use Rattle.ec_bounds.proofs.CountLemmas.{classes-sum, beyond-sum}
 

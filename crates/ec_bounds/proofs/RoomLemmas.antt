@@ -23,8 +23,7 @@ use Rattle.ec_loads.proofs.ItemLemmas.{positive_loads}
 use Rattle.ec_bounds.specs.RoomLaws.{items_beyond, class_bytes, RoomsBound}
 use Rattle.ec_bounds.proofs.SetLemmas.{Group, mem, same_group-is, different-subset}
 use Rattle.ec_bounds.proofs.SubLemmas.{Sub, Sub-items, Sub-carried, Sub-groups, All-Sub, sum_below-le}
-use Rattle.ec_bounds.proofs.AverageLemmas.{sends, head, heads, head-Sub, heads-Sub, moved, raw_cost-parts, raw_cost-le}
-use Rattle.ec_bounds.proofs.LeafLemmas.{AreWhole-legal}
+use Rattle.ec_bounds.proofs.AverageLemmas.{AreWhole-legal, sends, head, heads, head-Sub, heads-Sub, moved, raw_cost-parts, raw_cost-le}
 
 -- the greatest of b and of what f is below n
 pub greatest-most : (b : ℕ) (f : ℕ → ℕ) (n m : ℕ) → b ≤ m → ((k : ℕ) → k < n → f k ≤ m) → greatest_below b f n ≤ m

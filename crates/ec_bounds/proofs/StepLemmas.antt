@@ -193,10 +193,6 @@ group_end h ps xs i t past so_far =
     let none : group_bytes h (drop i ps) (drop i xs) ≡ 0 = ap (λ w. group_bytes h w (drop i xs)) (drop_of_length-le ps past) in
     omega (arith, none, so_far)
 
--- the test of one pair
-pub needed-none : (xs : List Item) (n h v : ℕ) (ls : List Load) (p : ℕ) (pair : Pair) → pair.count ≡ 0 → IsNeeded xs n h v ls p pair
-needed-none xs n h v ls p pair none = λ some. absurd (omega (arith, none, some))
-
 -- the test of the groups
 pub groups-iff : (loads : List Load) (n : ℕ) (val : Option ℕ) (ps : Prefix) (pairs : List Pair) (left : List Load) (b h x y z : ℕ) → val ≡ Some b → h ≡ lcm_of (periods_of loads) → left ≡ unplaced loads ps → 0 < length left →
     AllZip (IsNeeded (items loads ps) n h b left) (periods_in left) pairs → x ≡ b - 1 → y ≡ h →
