@@ -56,8 +56,8 @@ fn count_large(left: &[Load], period: u16, bytes: u16) -> u64
     count
 }
 
-/// How many of these units are left over where each class of a period takes as many units of so many bytes as it has
-/// room for.
+/// How many of these units are left over where each class of a period takes as many as it has room for, so many bytes
+/// each.
 fn left_over(loads: &Loads, period: u16, bytes: u16, value: u64, count: u64) -> u64
     requires { 0 < bytes }
     ensures { result ≡ count - room_count (items_of loads.now) loads.now.slots (lcm_of (periods_of loads.now.loads)) value period bytes }
@@ -69,9 +69,9 @@ fn left_over(loads: &Loads, period: u16, bytes: u16, value: u64, count: u64) -> 
     left
 }
 
-/// Whether the units without a place of this period, in ticks, and with at least so many bytes are more than the classes
-/// of the period have room for, each class as many times so many bytes as its room holds; false where there is no value,
-/// and for 0 bytes. For each phase the ticks of its class are looked at once. Takes no memory.
+/// Whether the units without a place of this period, in ticks, and with at least so many bytes are more than have room:
+/// so many bytes each, in the classes of their period. False where there is no value, and for 0 bytes. For each phase
+/// the ticks of its class are looked at once. Takes no memory.
 pub fn count_bound(loads: &Loads, rest: &Rest, period: u16, bytes: u16, value: Option<u64>) -> bool
     ensures { IsRestOf rest.now loads.now → (IsTrue result ↔ CountHolds loads.now.loads loads.now.slots value loads.now.places period bytes) }
 {

@@ -122,7 +122,7 @@ fn group_bytes(ticks: u32, periods: &[u16], pairs: &[Pair]) -> u64
 /// Whether some unit has no place; there is a pair for each period of such units, in ascending order, and the units of
 /// the period need as many new groups as it says; and the bytes of a hyperperiod, without padding and with those of the
 /// units that have no place and of the new groups, are more than one byte less than the value in each tick would hold.
-/// False where there is no value. For each phase of each of these periods the ticks of its class are looked at twice.
+/// False where there is no value. For each phase of each of these periods the ticks of its class are looked at once.
 /// Takes no memory.
 pub fn groups_bound(loads: &Loads, rest: &Rest, pairs: &[Pair], value: Option<u64>) -> bool
     ensures { IsRestOf rest.now loads.now → (IsTrue result ↔ GroupsHold loads.now.loads loads.now.slots value loads.now.places pairs.now) }

@@ -3,7 +3,8 @@
 use crate::call::{Call, place_of};
 use crate::steps::{Dice, agrees};
 use ec_bounds::{
-    Rest, average_bound, count_bound, full_bound, groups_bound, merge_bound, tick_bound, weight_bound,
+    Rest, average_bound, count_bound, full_bound, groups_bound, merge_bound, tick_bound,
+    weight_bound,
 };
 use ec_drafts::Draft;
 use ec_loads::Loads;

@@ -1,4 +1,4 @@
-use Rattle.std.proofs.Common.{◌+◌, ◌%◌, ap, ◌∙◌, arith, mod-eq_of_lt}
+use Rattle.std.proofs.Common.{◌≡◌, ◌+◌, ◌%◌, max, ap, ◌∙◌, arith, mod-eq_of_lt}
 use Rattle.std.proofs.Math.Nat.{add-mod_right}
 use Rattle.ec_loads.specs.Cost.{items}
 use Rattle.ec_loads.specs.Rooms.{top}
@@ -31,7 +31,7 @@ loop-tick-preserved c =
     let inv = c.loop-tick.invariant in
     let raw = c.raw.ensures in
     let step = c.from-tick-in-loop-tick.ensures in
-    let most = c.max-most.ensures in
+    let most : c.max-most.result ≡ max c.loop-tick.most c.raw.result = omega arith in
     record {
       turn = ap (λ w. (k + w) % p) step ∙ add-mod_right k p ∙ inv.turn;
       low = omega (arith, inv.low, most);
