@@ -11,10 +11,15 @@ use Rattle.std.proofs.lemmas.List.Elements.{All-head, All-tail}
 use Rattle.std.proofs.lemmas.Nat.{mod-mul-add}
 use Rattle.ec_units.specs.declared.slave.Place.{Place}
 use Rattle.ec_units.specs.declared.unit.Load.{Load}
+use Rattle.ec_units.specs.Load.{periods_of}
+use Rattle.ec_hyper.specs.Lcm.{lcm_of}
 use Rattle.ec_wire.specs.Wire.{wire_of, raw_of}
 use Rattle.ec_loads.specs.declared.item.Item.{Item}
 use Rattle.ec_loads.specs.Cost.{items, plan_items, is_sent, group, carried, different, payload, slot_cost, sum_below, tick_cost, slot_raw, raw_cost}
+use Rattle.ec_loads.specs.Held.{AreLoads}
+use Rattle.ec_loads.specs.Legal.{IsLegal}
 use Rattle.ec_loads.specs.Search.{Prefix, Extends, free, same, demand, least_raw}
+use Rattle.ec_loads.proofs.ItemLemmas.{DivideAll-loads}
 use Rattle.ec_bounds.proofs.SetLemmas.{different-subset}
 use Rattle.ec_bounds.proofs.SubLemmas.{Sub, Sub-items, Sub-carried, Sub-groups, Sub-busy, All-Sub, sum_below-le}
 
@@ -32,7 +37,7 @@ sum_below-none f zero h = refl
 sum_below-none f (suc n) h = let rest = sum_below-none f n (λ k l. h k (omega arith)) in let last = h n (omega arith) in omega arith
 
 -- a sum with one term
-sum_below-one : (f : ℕ → ℕ) (n a : ℕ) → a < n → ((k : ℕ) → (k ≡ a → ⊥) → f k ≡ 0) → sum_below f n ≡ f a
+pub sum_below-one : (f : ℕ → ℕ) (n a : ℕ) → a < n → ((k : ℕ) → (k ≡ a → ⊥) → f k ≡ 0) → sum_below f n ≡ f a
 sum_below-one f zero a h e = absurd (omega arith)
 sum_below-one f (suc n) a h e =
     elim (cases_eq n a) [
@@ -75,10 +80,10 @@ sends-periods b p f (suc k) h =
 abbrev bytes : List Item → ℕ → ℕ → ℕ
 bytes xs t s = sum_by (λ x. x.bytes) (carried xs t s)
 
-abbrev head : List Item → ℕ → ℕ → ℕ
+abbrev pub head : List Item → ℕ → ℕ → ℕ
 head xs t s = cond (list_any (is_sent t s) xs) (40 + 12 * different (map group (carried xs t s))) 0
 
-idle-carried : (xs : List Item) (t s : ℕ) → list_any (is_sent t s) xs ≡ false → carried xs t s ≡ []
+pub idle-carried : (xs : List Item) (t s : ℕ) → list_any (is_sent t s) xs ≡ false → carried xs t s ≡ []
 idle-carried [] t s h = refl
 idle-carried (x ∷ xs) t s h =
     elim (cases_Bool (is_sent t s x)) [
@@ -98,7 +103,7 @@ slot_raw-parts xs t s =
           rw idle (omega arith)
     ]
 
-head-Sub : (xs ys : List Item) (t s : ℕ) → Sub xs ys → head xs t s ≤ head ys t s
+pub head-Sub : (xs ys : List Item) (t s : ℕ) → Sub xs ys → head xs t s ≤ head ys t s
 head-Sub xs ys t s r =
     let c = Sub-carried t s r in
     let groups : different (map group (carried xs t s)) ≤ different (map group (carried ys t s)) = different-subset _ _ (λ g h. Sub-groups g c h) in
@@ -138,7 +143,7 @@ sum_bytes (x ∷ xs) n t h =
     ∙ sum_below-add (λ s. cond (is_sent t s x) x.bytes 0) (bytes xs t) n
     ∙ (λ i. one_slot n t x (All-head (λ y. y.slot < n) x xs h) i + sum_bytes xs n t (All-tail (λ y. y.slot < n) x xs h) i)
 
-pub heads : List Item → ℕ → ℕ → ℕ
+unfoldable pub heads : List Item → ℕ → ℕ → ℕ
 heads xs n t = sum_below (head xs t) n
 
 pub raw_cost-parts : (xs : List Item) (n t : ℕ) → All (λ x. x.slot < n) xs → raw_cost xs n t ≡ heads xs n t + moved xs t
@@ -153,12 +158,16 @@ unfolding heads
 heads-Sub xs ys n t r = sum_below-le (head xs t) (head ys t) n (λ s _. head-Sub xs ys t s r)
 
 -- the bytes that travel in h ticks
-abbrev weight : List Item → ℕ → ℕ
+abbrev pub weight : List Item → ℕ → ℕ
 weight [] h = 0
 weight (x ∷ xs) h = x.bytes * (h / x.period) + weight xs h
 
 abbrev pub AreWhole : ℕ → ℕ → List Item → Type 0
 AreWhole n h xs = All (λ x. (x.slot < n) × (x.phase < x.period) × (x.period ∣ h)) xs
+
+-- the items of a legal plan are so
+pub AreWhole-legal : (loads : List Load) (n : ℕ) (plan : List Place) → AreLoads loads → IsLegal loads n plan → AreWhole n (lcm_of (periods_of loads)) (plan_items loads plan)
+AreWhole-legal loads n plan within legal = λ k d l. (legal.slots k d l, legal.phases k d l, DivideAll-loads loads (map Some plan) (lcm_of (periods_of loads)) within (λ i. lcm_of (periods_of loads)) k d l)
 
 sum_moved : (xs : List Item) (n h : ℕ) → AreWhole n h xs → sum_below (moved xs) h ≡ weight xs h
 sum_moved [] n h all = sum_below-none (moved []) h (λ _ _. refl)
@@ -168,13 +177,13 @@ sum_moved (x ∷ xs) n h all =
     sum_below-add (sends x.bytes x.period x.phase) (moved xs) h
     ∙ (λ i. (ap (sum_below (sends x.bytes x.period x.phase)) (sym (mul-div_cancel' x.period own.2)) ∙ sends-periods x.bytes x.period x.phase (h / x.period) own.1) i + sum_moved xs n h later i)
 
-sum_raw : (xs : List Item) (n h : ℕ) → AreWhole n h xs → sum_below (raw_cost xs n) h ≡ sum_below (heads xs n) h + weight xs h
+pub sum_raw : (xs : List Item) (n h : ℕ) → AreWhole n h xs → sum_below (raw_cost xs n) h ≡ sum_below (heads xs n) h + weight xs h
 sum_raw xs n h all =
     sum_below-agree (raw_cost xs n) (λ t. heads xs n t + moved xs t) h (λ t _. raw_cost-parts xs n t (λ k d l. (all k d l).0))
     ∙ sum_below-add (heads xs n) (moved xs) h
     ∙ ap (λ w. sum_below (heads xs n) h + w) (sum_moved xs n h all)
 
-weight-extends : (ls : List Load) (places : Prefix) (plan : List Place) (h : ℕ) → Extends places (map Some plan) → weight (plan_items ls plan) h ≡ weight (items ls places) h + demand ls places h
+pub weight-extends : (ls : List Load) (places : Prefix) (plan : List Place) (h : ℕ) → Extends places (map Some plan) → weight (plan_items ls plan) h ≡ weight (items ls places) h + demand ls places h
 weight-extends [] places plan h e = refl
 weight-extends (l ∷ ls) [] [] h e = refl
 weight-extends (l ∷ ls) [] (q ∷ qs) h e = elim e [ ]
@@ -203,7 +212,7 @@ above_or_all f (suc h) w =
       ]
     ]
 
-sum_below-bound : (f : ℕ → ℕ) (h w : ℕ) → ((t : ℕ) → t < h → f t ≤ w) → sum_below f h ≤ w * h
+pub sum_below-bound : (f : ℕ → ℕ) (h w : ℕ) → ((t : ℕ) → t < h → f t ≤ w) → sum_below f h ≤ w * h
 sum_below-bound f zero w all = omega arith
 sum_below-bound f (suc h) w all =
     let rest = sum_below-bound f h w (λ t l. all t (omega arith)) in

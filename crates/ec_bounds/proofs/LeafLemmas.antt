@@ -5,15 +5,13 @@ use Rattle.ec_hyper.specs.Lcm.{lcm_of}
 use Rattle.ec_units.specs.declared.slave.Place.{Place}
 use Rattle.ec_units.specs.declared.unit.Load.{Load}
 use Rattle.ec_units.specs.Load.{periods_of}
-use Rattle.ec_loads.specs.Cost.{plan_items}
 use Rattle.ec_loads.specs.Held.{AreLoads}
 use Rattle.ec_loads.specs.Legal.{IsLegal}
 use Rattle.ec_loads.specs.Search.{Prefix, Extends, TickHolds, FullHolds, AverageHolds, HasTick}
 use Rattle.ec_loads.specs.Shape.{tick, full, average, weighted}
 use Rattle.ec_bounds.specs.Laws.{LeavesBound, LeavesFall}
-use Rattle.ec_loads.proofs.ItemLemmas.{DivideAll-loads}
 use Rattle.ec_bounds.proofs.SubLemmas.{Sub-items, payload-Sub, tick_cost-Sub, below_some}
-use Rattle.ec_bounds.proofs.AverageLemmas.{AreWhole, average-bounds}
+use Rattle.ec_bounds.proofs.AverageLemmas.{AreWhole-legal, average-bounds}
 use Rattle.ec_bounds.proofs.WeightLemmas.{weights-bound, weights-fall}
 
 tick-bounds : (loads : List Load) (n : ℕ) (v : Option ℕ) (ps : Prefix) (plan : List Place) → Extends ps (map Some plan) → (t : ℕ) → TickHolds loads n v ps t → HasTick loads n v plan
@@ -24,9 +22,6 @@ full-bounds loads n ps plan e legal t s h =
     let more = payload-Sub _ _ t s (Sub-items loads e) in
     let most = legal.fits t s h.0 in
     omega (arith, h.1)
-
-pub AreWhole-legal : (loads : List Load) (n : ℕ) (plan : List Place) → AreLoads loads → IsLegal loads n plan → AreWhole n (lcm_of (periods_of loads)) (plan_items loads plan)
-AreWhole-legal loads n plan within legal = λ k d l. (legal.slots k d l, legal.phases k d l, DivideAll-loads loads (map Some plan) (lcm_of (periods_of loads)) within (λ i. lcm_of (periods_of loads)) k d l)
 
 average_leaf-bounds : (loads : List Load) (n : ℕ) (v : Option ℕ) (ps : Prefix) (plan : List Place) → AreLoads loads → Extends ps (map Some plan) → IsLegal loads n plan → AverageHolds loads n v ps → HasTick loads n v plan
 average_leaf-bounds loads n v ps plan within e legal h =

@@ -6,3 +6,8 @@ pub mod LeftLemmas
 pub mod RestLemmas
 pub mod HeldLemmas
 pub mod WeightLemmas
+pub mod RoomLemmas
+pub mod CountLemmas
+pub mod GroupLemmas
+pub mod FallLemmas
+pub mod StepLemmas

@@ -22,11 +22,11 @@ use Rattle.ec_bounds.proofs.AverageLemmas.{sum_below-add, sum_below-agree, sum_b
 use Rattle.ec_bounds.proofs.LeftLemmas.{some_same, below_from, below_to}
 
 -- sums
-sum_below-times : (b : ℕ) (f : ℕ → ℕ) (n : ℕ) → sum_below (λ k. b * f k) n ≡ b * sum_below f n
+pub sum_below-times : (b : ℕ) (f : ℕ → ℕ) (n : ℕ) → sum_below (λ k. b * f k) n ≡ b * sum_below f n
 sum_below-times b f zero = sym (mul-zero b)
 sum_below-times b f (suc n) = grind (arith, sum_below-times b f n)
 
-sum_below-scaled : (f : ℕ → ℕ) (b n : ℕ) → sum_below (λ k. f k * b) n ≡ sum_below f n * b
+pub sum_below-scaled : (f : ℕ → ℕ) (b n : ℕ) → sum_below (λ k. f k * b) n ≡ sum_below f n * b
 sum_below-scaled f b n = sum_below-agree (λ k. f k * b) (λ k. b * f k) n (λ k _. mul_comm (f k) b) ∙ sum_below-times b f n ∙ mul_comm b (sum_below f n)
 
 -- the least of f is at most each of its values

@@ -1,7 +1,10 @@
 -- Which units have no place yet.
-use Rattle.std.specs.Prelude.{◌≡◌, ℕ, ◌+◌, ◌*◌, ◌/◌, ◌<◌, ◌≤◌, Bool, true, is_none, if◌then◌else◌, List, [], ◌∷◌, length, map, get_or, Option, Some, None}
+use Rattle.std.specs.Prelude.{◌≡◌, ℕ, ◌+◌, ◌*◌, ◌/◌, ◌<◌, ◌≤◌, Bool, true, false, is_none, if◌then◌else◌, List, [], ◌∷◌, length, map, get_or, Option, Some, None}
+use Rattle.ec_units.specs.declared.slave.Place.{Place}
 use Rattle.ec_units.specs.declared.unit.Load.{Load}
+use Rattle.ec_loads.specs.Cost.{item}
 use Rattle.ec_loads.specs.Held.{Held}
+use Rattle.ec_loads.specs.Rooms.{is_of_class}
 use Rattle.ec_loads.specs.Search.{nobody}
 use Rattle.ec_loads.specs.Weights.{least_weight}
 
@@ -42,3 +45,14 @@ product h l = l.bytes * (h / l.period)
 -- the first n numbers are what the first n loads send in h ticks, one by one
 abbrev pub AreSent : ℕ → ℕ → List Load → List ℕ → Type 0
 AreSent h n loads sent = (i : ℕ) → i < n → get_or sent i 0 ≡ product h (get_or loads i nobody)
+
+-- the loads without a place, in file order
+abbrev pub left_loads : List Load → List Bool → List Load
+left_loads [] bs = []
+left_loads (l ∷ ls) [] = []
+left_loads (l ∷ ls) (b ∷ bs) = if b then l ∷ left_loads ls bs else left_loads ls bs
+
+-- whether a load has a place, by which it is of a class
+abbrev pub is_placed_in : ℕ → ℕ → Load → Option Place → Bool
+is_placed_in p f l None = false
+is_placed_in p f l (Some place) = is_of_class p f (item l place)

@@ -2,11 +2,21 @@
 #![tactic(auto)]
 
 mod bound;
+mod counted;
+mod grouped;
 mod law;
+mod merged;
 mod rest;
+mod rooms;
 mod weight;
 
 pub use bound::{average_bound, average_level, full_bound, tick_bound};
-pub use law::{leaves_bound, leaves_fall, raw_at_most_cost};
+pub use counted::count_bound;
+pub use grouped::groups_bound;
+pub use law::{
+    counted_units_bound, leaves_bound, leaves_fall, new_groups_bound, raw_at_most_cost,
+    room_suffices, rooms_fall,
+};
+pub use merged::merge_bound;
 pub use rest::Rest;
 pub use weight::weight_bound;

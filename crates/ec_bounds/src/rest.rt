@@ -10,7 +10,7 @@ use ec_units::{Load, Units, bytes_of};
 use std::marker::Model;
 
 /// The most units.
-const MOST_UNITS: usize = 48;
+pub(crate) const MOST_UNITS: usize = 48;
 
 /// Which units of a line have no place yet. A contract sees the loads of the units in file order, and for each
 /// whether it has no place. It lies on the stack, so that no call takes memory. What each unit sends in a hyperperiod

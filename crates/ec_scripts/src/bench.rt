@@ -2,7 +2,10 @@
 
 use crate::call::{Call, place_of};
 use crate::steps::{Dice, agrees};
-use ec_bounds::{Rest, average_bound, full_bound, tick_bound, weight_bound};
+use ec_bounds::{
+    Rest, average_bound, count_bound, full_bound, groups_bound, merge_bound, tick_bound,
+    weight_bound,
+};
 use ec_drafts::Draft;
 use ec_loads::Loads;
 use ec_units::{Place, Units};
@@ -129,6 +132,28 @@ impl Bench {
         out.add(weight_bound(&self.loads, &self.rest, weights.as_slice(), call.number(1)));
     }
 
+    /// Adds whether the units of a call's period and bytes are more at its value than have room.
+    fn count(&self, call: Call<'_>, out: &mut Draft) {
+        let (period, bytes) = (call.short(2), call.short(3));
+        out.add(count_bound(&self.loads, &self.rest, period, bytes, call.number(1)));
+    }
+
+    /// Adds whether the new groups of a call are too many at its value.
+    fn group(&self, alloc: Global, call: Call<'_>, out: &mut Draft) {
+        let pairs = call.pairs(alloc, 2, out);
+        out.add(groups_bound(&self.loads, &self.rest, pairs.as_slice(), call.number(1)));
+    }
+
+    /// Adds what a call of a bound by rooms or slots answers.
+    fn room(&self, alloc: Global, call: Call<'_>, out: &mut Draft) {
+        match call.name() {
+            "merge_bound" => out.add(merge_bound(&self.loads, call.number(1))),
+            "count_bound" => self.count(call, out),
+            "groups_bound" => self.group(alloc, call, out),
+            _ => out.add("no call"),
+        }
+    }
+
     /// Adds what a call of a tick, a slot or a bound answers.
     fn bound(&self, alloc: Global, call: Call<'_>, out: &mut Draft) {
         match call.name() {
@@ -138,7 +163,7 @@ impl Bench {
             "full_bound" => out.add(format_args!("{:?}", full_bound(&self.loads))),
             "average_bound" => out.add(average_bound(&self.loads, &self.rest, call.number(1))),
             "weight_bound" => self.weigh(alloc, call, out),
-            _ => out.add("no call"),
+            _ => self.room(alloc, call, out),
         }
     }
 

@@ -1,6 +1,7 @@
 //! The words of a call.
 
 use ec_drafts::Draft;
+use ec_loads::Pair;
 use ec_units::Place;
 use std::alloc::Global;
 
@@ -17,6 +18,15 @@ pub(crate) fn place_of(word: &str) -> Option<Place> {
         return None;
     };
     Some(Place { phase, slot })
+}
+
+/// A pair: its count and its room, with a comma between them.
+fn pair_of(word: &str) -> Option<Pair> {
+    let (count, room) = word.split_once(',').unwrap_or((word, ""));
+    let (Ok(count), Ok(room)) = (count.parse::<u16>(), room.parse::<u16>()) else {
+        return None;
+    };
+    Some(Pair { count, room })
 }
 
 impl<'a> Call<'a> {
@@ -42,6 +52,10 @@ impl<'a> Call<'a> {
     /// The same, where 0 stands for none.
     pub(crate) fn count(self, at: usize) -> u32 {
         self.word(at).parse::<u32>().unwrap_or(0)
+    }
+
+    pub(crate) fn short(self, at: usize) -> u16 {
+        self.word(at).parse::<u16>().unwrap_or(0)
     }
 
     pub(crate) fn small(self, at: usize) -> u8 {
@@ -76,6 +90,19 @@ impl<'a> Call<'a> {
             }
         }
         weights
+    }
+
+    /// The pairs that the words from this one on are, up to the first that is none. Want of memory is noted in the
+    /// answer.
+    pub(crate) fn pairs(self, alloc: Global, from: usize, out: &mut Draft) -> Vec<Pair> {
+        let mut pairs = Vec::new(alloc);
+        for word in self.text.split_whitespace().skip(from) {
+            match pair_of(word) {
+                Some(pair) => note(pairs.push(pair).is_ok(), out),
+                None => break,
+            }
+        }
+        pairs
     }
 
     /// The text after so many words, each with one space behind it.

@@ -1,0 +1,22 @@
+use Rattle.std.proofs.Common.{◌-◌, ◌+◌, sym, ap, ◌∙◌, arith}
+use Rattle.ec_hyper.specs.Lcm.{lcm_of}
+use Rattle.ec_units.specs.Load.{periods_of}
+use Rattle.ec_loads.specs.Cost.{items}
+use Rattle.ec_loads.specs.Rooms.{is_open, top}
+use Rattle.ec_bounds.proofs.StepLemmas.{room_open, room_closed}
+use Rattle.ec_bounds.proofs.rooms.room.Goals as goal
+
+pub returns-then-is_open : goal.returns-then-is_open
+returns-then-is_open c =
+    let held = c.args.loads.now in
+    let xs = items held.loads held.places in
+    c.saturating_sub.ensures ∙ ap (λ u. u - c.top-most.result) c.saturating_sub-limit.ensures
+    ∙ room_open (c.args.value - 1) (top xs held.slots (lcm_of (periods_of held.loads)) c.args.period c.args.phase) c.top-most.result (is_open xs c.args.period c.args.phase) (sym c.is_open.ensures ∙ c.if-is_open.true) c.top-most.ensures.value
+
+pub returns : goal.returns
+returns c =
+    let held = c.args.loads.now in
+    let xs = items held.loads held.places in
+    let most = c.top-most.ensures.value in
+    c.saturating_sub-2.ensures ∙ ap (λ u. u - (c.top-most.result + c.from.result)) c.saturating_sub-limit.ensures
+    ∙ room_closed (c.args.value - 1) (top xs held.slots (lcm_of (periods_of held.loads)) c.args.period c.args.phase) (c.top-most.result + c.from.result) (is_open xs c.args.period c.args.phase) (sym c.is_open.ensures ∙ c.if-is_open.false) (omega (arith, most, c.from.ensures))

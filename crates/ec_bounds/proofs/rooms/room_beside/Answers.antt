@@ -1,0 +1,21 @@
+use Rattle.std.proofs.Common.{◌-◌, sym, ◌∙◌}
+use Rattle.ec_hyper.specs.Lcm.{lcm_of}
+use Rattle.ec_units.specs.Load.{periods_of}
+use Rattle.ec_loads.specs.Cost.{items}
+use Rattle.ec_loads.specs.Rooms.{is_open, room}
+use Rattle.std.proofs.lemmas.Bool.{cond-true, cond-false}
+use Rattle.ec_bounds.proofs.rooms.room_beside.Goals as goal
+
+pub returns-then-is_open : goal.returns-then-is_open
+returns-then-is_open c =
+    let held = c.args.loads.now in
+    let xs = items held.loads held.places in
+    let all = room xs held.slots (lcm_of (periods_of held.loads)) c.args.value c.args.period c.args.phase in
+    c.room-all.ensures ∙ sym (cond-true (is_open xs c.args.period c.args.phase) all (all - c.args.bytes) (sym c.is_open.ensures ∙ c.if-is_open.true))
+
+pub returns : goal.returns
+returns c =
+    let held = c.args.loads.now in
+    let xs = items held.loads held.places in
+    let all = room xs held.slots (lcm_of (periods_of held.loads)) c.args.value c.args.period c.args.phase in
+    c.saturating_sub.ensures ∙ (λ i. c.room-all.ensures i - c.from.ensures i) ∙ sym (cond-false (is_open xs c.args.period c.args.phase) all (all - c.args.bytes) (sym c.is_open.ensures ∙ c.if-is_open.false))

@@ -1,0 +1,148 @@
+//! The bound by new groups: each costs 12 bytes in its ticks.
+
+ghost use Rattle.std.specs.Prelude.{◌≡◌, ◌+◌, ◌-◌, ◌*◌, ◌/◌, ◌<◌, ◌≤◌, ◌↔◌, IsTrue, All, length, take};
+ghost use Rattle.std.specs.List.{AllZip, list_any};
+ghost use Rattle.ec_hyper.specs.Lcm.{lcm_of};
+ghost use Rattle.ec_units.specs.Load.{periods_of};
+ghost use Rattle.ec_loads.specs.Held.{items_of};
+ghost use Rattle.ec_loads.specs.Rooms.{has_period as of_period, periods_in, bytes_at as bytes_in, room_below, IsNeeded, group_bytes as group_bytes_of, GroupsHold};
+ghost use Rattle.ec_bounds.specs.Left.{IsRestOf};
+
+use crate::counted::{NO_UNITS, fill_left};
+use crate::rest::Rest;
+use crate::rooms::room_beside;
+use ec_loads::{GROUP_BYTES, Loads, Pair};
+use ec_units::Load;
+
+/// The most different periods.
+const MOST_PERIODS: usize = 60;
+
+/// Whether one of the units has this period, in ticks.
+fn has_period(left: &[Load], period: u16) -> bool
+    ensures { result ≡ list_any (of_period period) left.now }
+{
+    left.iter().any(|load| load.period == period)
+}
+
+/// Writes the different periods of units into a table, in ascending order, and says how many.
+fn fill_periods(left: &[Load], table: &mut [u16; MOST_PERIODS]) -> usize
+    ensures periods { take result table.new ≡ periods_in left.now }
+    ensures few { result ≤ 60 }
+    ensures positive { All (λ p. 1 ≤ p) (take result table.new) }
+{
+    let mut count = 0usize;
+    for period in 1..61u16 {
+        if has_period(left, period) {
+            table[count] = period;
+            count += 1;
+        }
+    }
+    count
+}
+
+/// The bytes of the units of a period.
+fn bytes_at(left: &[Load], period: u16) -> u64
+    requires { length left.now ≤ 48 }
+    ensures { result ≡ bytes_in period left.now }
+{
+    let mut bytes = 0u64;
+    for load in left {
+        if load.period == period {
+            bytes += u64::from(load.bytes);
+        }
+    }
+    bytes
+}
+
+/// How many of so many bytes find no room where fewer closed classes of their period are used than the pair says.
+fn left_over(loads: &Loads, period: u16, pair: Pair, value: u64, bytes: u64) -> u64
+    requires { 1 ≤ pair.count }
+    ensures { result ≡ bytes - room_below (items_of loads.now) loads.now.slots (lcm_of (periods_of loads.now.loads)) value period pair }
+{
+    let mut left = bytes.saturating_sub(u64::from(pair.count - 1) * u64::from(pair.room));
+    for phase in 0..period {
+        left = left.saturating_sub(room_beside(loads, period, phase, pair.room, value));
+    }
+    left
+}
+
+/// Whether the units of a period need as many of its closed classes as the pair says.
+fn is_needed(loads: &Loads, left: &[Load], period: u16, pair: Pair, value: u64) -> bool
+    requires { length left.now ≤ 48 }
+    ensures { IsTrue result ↔ IsNeeded (items_of loads.now) loads.now.slots (lcm_of (periods_of loads.now.loads)) value left.now period pair }
+{
+    if pair.count == 0 {
+        return true;
+    }
+    left_over(loads, period, pair, value, bytes_at(left, period)) > 0
+}
+
+/// Whether there is a pair for each period, and the units of the period need as many closed classes as it says.
+fn all_needed(loads: &Loads, left: &[Load], periods: &[u16], pairs: &[Pair], value: u64) -> bool
+    requires { length left.now ≤ 48 }
+    ensures { IsTrue result ↔ AllZip (IsNeeded (items_of loads.now) loads.now.slots (lcm_of (periods_of loads.now.loads)) value left.now) periods.now pairs.now }
+{
+    if periods.len() != pairs.len() {
+        return false;
+    }
+    for i in 0..periods.len() {
+        if !is_needed(loads, left, periods[i], pairs[i], value) {
+            return false;
+        }
+    }
+    true
+}
+
+/// The bytes of as many new groups of a period in a hyperperiod of so many ticks.
+fn header_bytes(ticks: u32, period: u16, count: u16) -> u64
+    requires ticks { ticks ≤ 1024 }
+    requires period { 1 ≤ period }
+    ensures value { result ≡ 12 * (ticks / period) * count }
+    ensures bound { result ≤ 805294080 }
+{
+    u64::from(GROUP_BYTES * (ticks / u32::from(period))) * u64::from(count)
+}
+
+/// The bytes of all new groups in a hyperperiod of so many ticks.
+fn group_bytes(ticks: u32, periods: &[u16], pairs: &[Pair]) -> u64
+    requires ticks { ticks ≤ 1024 }
+    requires few { length periods.now ≤ 60 }
+    requires each { length pairs.now ≡ length periods.now }
+    requires positive { All (λ p. 1 ≤ p) periods.now }
+    ensures value { result ≡ group_bytes_of ticks periods.now pairs.now }
+    ensures bound { result ≤ 48317644800 }
+{
+    let mut total = 0u64;
+    for i in 0..pairs.len() {
+        total += header_bytes(ticks, periods[i], pairs[i].count);
+    }
+    total
+}
+
+/// Whether some unit has no place; there is a pair for each period of such units, in ascending order, and the units of
+/// the period need as many new groups as it says; and the bytes of a hyperperiod, without padding and with those of the
+/// units that have no place and of the new groups, are more than one byte less than the value in each tick would hold.
+/// False where there is no value. For each phase of each of these periods the ticks of its class are looked at once.
+/// Takes no memory.
+pub fn groups_bound(loads: &Loads, rest: &Rest, pairs: &[Pair], value: Option<u64>) -> bool
+    ensures { IsRestOf rest.now loads.now → (IsTrue result ↔ GroupsHold loads.now.loads loads.now.slots value loads.now.places pairs.now) }
+{
+    let Some(value) = value else {
+        return false;
+    };
+    let mut units = NO_UNITS;
+    let count = fill_left(rest, &mut units);
+    if count == 0 {
+        return false;
+    }
+    let left = &units[..count];
+    let mut table = [0u16; MOST_PERIODS];
+    let few = fill_periods(left, &mut table);
+    let periods = &table[..few];
+    if !all_needed(loads, left, periods, pairs, value) {
+        return false;
+    }
+    let ticks = loads.ticks();
+    let bytes = loads.raw_total() + rest.demand() + group_bytes(ticks, periods, pairs);
+    u128::from(value.saturating_sub(1)) * u128::from(ticks) < u128::from(bytes)
+}

@@ -1,0 +1,81 @@
+//! The rooms of classes. The class of a period and a phase is the ticks in which what has them travels; it is open where
+//! a unit has them.
+
+ghost use Rattle.std.specs.Prelude.{◌≡◌, ◌<◌, ◌≤◌};
+ghost use Rattle.ec_hyper.specs.Lcm.{lcm_of};
+ghost use Rattle.ec_units.specs.Load.{periods_of};
+ghost use Rattle.ec_loads.specs.Held.{items_of};
+ghost use Rattle.ec_loads.specs.Rooms.{is_open as open_in, top as top_of, room as room_of, room_beside as beside_of};
+ghost use Rattle.ec_bounds.specs.Left.{is_placed_in as placed_in};
+
+use ec_loads::{GROUP_BYTES, Loads};
+use ec_units::{Load, Place};
+
+/// What a frame costs beside its groups, without padding, in bytes.
+const FRAME_BYTES: u64 = 40;
+
+/// The greatest of 40 bytes and of what the ticks of a class cost without padding.
+fn top(loads: &Loads, period: u16, phase: u16) -> u64
+    requires { phase < period }
+    ensures value { result ≡ top_of (items_of loads.now) loads.now.slots (lcm_of (periods_of loads.now.loads)) period phase }
+    ensures bound { result ≤ 575552 }
+{
+    let ticks = loads.ticks();
+    let mut most = FRAME_BYTES;
+    let mut tick = u32::from(phase);
+    while tick < ticks {
+        most = most.max(loads.raw(tick));
+        tick += u32::from(period);
+    }
+    most
+}
+
+/// Whether a unit has a place, and this period and phase.
+fn is_placed_in(load: Load, place: Option<Place>, period: u16, phase: u16) -> bool
+    ensures { result ≡ placed_in period phase load place }
+{
+    match place {
+        Some(place) => period == load.period && phase == place.phase,
+        None => false,
+    }
+}
+
+/// Whether a class is open.
+fn is_open(loads: &Loads, period: u16, phase: u16) -> bool
+    ensures { result ≡ open_in (items_of loads.now) period phase }
+{
+    let all = loads.loads();
+    let places = loads.places();
+    for i in 0..all.len() {
+        if is_placed_in(all[i], places[i], period, phase) {
+            return true;
+        }
+    }
+    false
+}
+
+/// The room of a class at a value, in bytes: how far its top is below one less than the value; of a closed class 12
+/// less, for its group.
+pub(crate) fn room(loads: &Loads, period: u16, phase: u16, value: u64) -> u64
+    requires { phase < period }
+    ensures { result ≡ room_of (items_of loads.now) loads.now.slots (lcm_of (periods_of loads.now.loads)) value period phase }
+{
+    let limit = value.saturating_sub(1);
+    let most = top(loads, period, phase);
+    if is_open(loads, period, phase) {
+        return limit.saturating_sub(most);
+    }
+    limit.saturating_sub(most + u64::from(GROUP_BYTES))
+}
+
+/// What a class has room for beside a group of so many bytes: all of its room where it is open, else what is above them.
+pub(crate) fn room_beside(loads: &Loads, period: u16, phase: u16, bytes: u16, value: u64) -> u64
+    requires { phase < period }
+    ensures { result ≡ beside_of (items_of loads.now) loads.now.slots (lcm_of (periods_of loads.now.loads)) value period bytes phase }
+{
+    let all = room(loads, period, phase, value);
+    if is_open(loads, period, phase) {
+        return all;
+    }
+    all.saturating_sub(u64::from(bytes))
+}
