@@ -7,5 +7,7 @@ pub mod Legal
 pub mod Line
 pub mod Search
 pub mod Shape
+pub mod Strong
+pub mod StrongExamples
 pub mod Table
 pub mod Weights
