@@ -1,12 +1,12 @@
 -- The loops over the units that have a place: the greatest place of an equal unit, and the periods.
-use Rattle.std.proofs.Common.{◌≡◌, ℕ, zero, suc, ◌+◌, ◌<◌, ◌≤◌, ◌⊎◌, ◌==◌, ◌&&◌, ◌||◌, nat_lt, not, Bool, true, false, List, [], ◌∷◌, ◌++◌, filter, length, take, set, get_or, Option, Some, None, is_some, All, refl, sym, ap, ◌∙◌, subst, arith, inl, inr, add-one, append-nil, not-suc-le-zero, le_of_suc-le-suc, take_all}
+use Rattle.std.proofs.Common.{◌≡◌, ℕ, zero, suc, ◌+◌, ◌<◌, ◌≤◌, ◌⊎◌, ◌==◌, ◌&&◌, ◌||◌, nat_lt, not, Bool, true, false, List, [], ◌∷◌, ◌++◌, filter, length, take, set, get_or, Option, Some, None, is_some, All, refl, sym, ap, ◌∙◌, arith, inl, inr, add-one, append-nil, not-suc-le-zero, le_of_suc-le-suc, take_all}
 use Prim.Native.Nat.{◌∣◌}
 use native.Mathlib.Nat.{le_of_dvd}
 use Rattle.std.proofs.lemmas.Bool.{cases_eq, cases_lt, eqb-true, eq-eqb, ltb-true, lt-ltb, or_cases, or_left, or_right, and_parts, true≢false}
 use Rattle.std.proofs.lemmas.List.{take_more_set}
 use Rattle.std.proofs.lemmas.List.Elements.{All-head, All-tail, All-cons, All-nil}
 use Rattle.ec_hyper.specs.Lcm.{lcm_of}
-use Rattle.ec_hyper.proofs.LcmLemmas.{lcm_of-is, lcm_of-pos, positive}
+use Rattle.ec_hyper.proofs.LcmLemmas.{lcm_of-is, lcm_of-pos}
 use Rattle.ec_units.specs.declared.slave.Place.{Place}
 use Rattle.ec_units.specs.declared.unit.Load.{Load}
 use Rattle.ec_units.specs.Load.{periods_of}

@@ -1,8 +1,8 @@
 -- A plan with no tick above 1578 bytes, put into slot 0 alone: one frame carries no more than the frames of a tick together, and costs no more than they.
 -- `payload-merged` bounds what it carries. `Tally` says of a tick which of three cases it is: idle, one frame, or more; two frames take 80 bytes beside
 -- their payloads, so that these are at most 1498 together.
-use Rattle.std.proofs.Common.{◌≡◌, ℕ, zero, suc, ◌+◌, ◌<◌, ◌≤◌, ◌⊎◌, ◌==◌, ◌&&◌, ◌||◌, max, Bool, true, false, cond, List, [], ◌∷◌, map, length, All, refl, sym, ap, ◌∙◌, subst, arith, inl, inr}
-use Rattle.std.proofs.lemmas.Bool.{cases_eq, cases_lt, eq-eqb, ne_eqb, and_parts, or_cases, or_left, or_right, true≢false, false≢true}
+use Rattle.std.proofs.Common.{◌≡◌, ℕ, zero, suc, ◌+◌, ◌<◌, ◌≤◌, ◌⊎◌, ◌==◌, ◌&&◌, max, Bool, true, false, cond, List, [], ◌∷◌, map, All, refl, sym, ap, ◌∙◌, subst, arith, inl, inr}
+use Rattle.std.proofs.lemmas.Bool.{cases_eq, eq-eqb, ne_eqb, and_parts, or_cases, or_left, or_right, true≢false, false≢true}
 use Rattle.std.proofs.lemmas.List.{length-map}
 use Rattle.std.proofs.lemmas.List.Elements.{All-head, All-tail, All-map, All-weaker}
 use Rattle.ec_hyper.specs.Travel.{travels}
@@ -10,7 +10,6 @@ use Rattle.ec_units.specs.declared.slave.Place.{Place}
 use Rattle.ec_units.specs.declared.unit.Load.{Load}
 use Rattle.ec_loads.specs.declared.item.Item.{Item}
 use Rattle.ec_loads.specs.Cost.{item, plan_items, is_sent, group, same_group, has_group, payload, added, slot_cost, sum_below, tick_cost}
-use Rattle.ec_loads.specs.Legal.{IsLegal}
 use Rattle.ec_loads.specs.Table.{cell_cost}
 use Rattle.ec_loads.proofs.CellLemmas.{cell_cost-zero, cell_cost-some, cell_cost-more}
 use Rattle.ec_loads.proofs.CostLemmas.{sum_below-agree}

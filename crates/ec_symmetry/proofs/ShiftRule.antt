@@ -1,6 +1,6 @@
 -- A plan where the phase of the next unit isn't below the greatest common divisor of its period and what the periods before it have in common has a better
 -- one: it is sent earlier by a multiple of the periods before it, which leaves the units before it where they are.
-use Rattle.std.proofs.Common.{◌≡◌, ℕ, zero, suc, ◌+◌, ◌-◌, ◌*◌, ◌%◌, ◌<◌, ◌≤◌, List, [], ◌∷◌, map, length, set, get_or, All, Some, None, refl, sym, ap, ◌∙◌, subst, arith, inl, inr}
+use Rattle.std.proofs.Common.{◌≡◌, ℕ, zero, suc, ◌+◌, ◌-◌, ◌*◌, ◌%◌, ◌<◌, ◌≤◌, List, [], ◌∷◌, length, get_or, All, Some, None, refl, ap, ◌∙◌, arith, inl, inr}
 use Prim.Native.Nat.{◌∣◌}
 use native.Mathlib.Nat.{dvd_trans, dvd-mul_left, mod-eq-zero_of_dvd}
 use Rattle.std.proofs.lemmas.Bool.{cases_lt}
@@ -14,12 +14,11 @@ use Rattle.ec_loads.specs.Held.{AreLoads}
 use Rattle.ec_loads.specs.Legal.{IsLegal}
 use Rattle.ec_loads.specs.Search.{Prefix, nobody, nowhere}
 use Rattle.ec_loads.specs.Strong.{gcd, placed_periods, strong_phases}
-use Rattle.ec_symmetry.specs.Reached.{In, here, there}
+use Rattle.ec_symmetry.specs.Reached.{In}
 use Rattle.ec_symmetry.specs.StrongReach.{IsInFirstSlot}
 use Rattle.ec_symmetry.specs.Turned.{earlier, earlier_place, earlier_plan}
 use Rattle.ec_symmetry.proofs.CanonLemmas.{phase_at}
 use Rattle.ec_symmetry.proofs.GcdLemmas.{gcd-reached, gcd-range}
-use Rattle.ec_symmetry.proofs.InLemmas.{In-cases}
 use Rattle.ec_symmetry.proofs.ShiftLemmas.{earlier-costs, earlier-range, earlier-fits, earlier-at}
 use Rattle.ec_symmetry.proofs.SlotRule.{prefix-at, prefix-length}
 use Rattle.ec_symmetry.proofs.WalkLemmas.{prefix_at, Rule, Agree, Improves, In-below}

@@ -11,7 +11,6 @@ use Rattle.ec_loads.specs.Legal.{IsLegal}
 use Rattle.ec_loads.specs.Search.{Prefix, Extends, slots_in, used, nowhere}
 use Rattle.ec_symmetry.specs.Reached.{In, here, there}
 use Rattle.ec_symmetry.specs.Renamed.{swap, swap_place, swap_slots}
-use Rattle.ec_symmetry.specs.StrongReach.{IsInFirstSlot}
 use Rattle.ec_symmetry.proofs.CanonLemmas.{Extends-set, Extends-none, IsInRange-swap, slot_at, step_next, swap-at}
 use Rattle.ec_symmetry.proofs.InLemmas.{In-cases}
 use Rattle.ec_symmetry.proofs.SwapLemmas.{swap-second, swap-other, swap-below, swap-items, swap-payload, swap-cost}

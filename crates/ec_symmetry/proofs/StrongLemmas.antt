@@ -1,5 +1,5 @@
 -- Each legal plan has one that the strong children reach: a plan that keeps the three rules stands at strong children.
-use Rattle.std.proofs.Common.{◌≡◌, ℕ, zero, suc, ◌<◌, ◌≤◌, ◌==◌, ◌&&◌, ◌||◌, Bool, true, false, not, cond, nat_lt, List, [], ◌∷◌, filter, length, get_or, All, Some, None, refl, sym, ap, ◌∙◌, subst, arith, inl, inr}
+use Rattle.std.proofs.Common.{◌≡◌, ℕ, suc, ◌<◌, ◌==◌, ◌&&◌, ◌||◌, Bool, true, false, not, cond, nat_lt, List, [], ◌∷◌, filter, length, get_or, All, Some, None, refl, sym, ap, ◌∙◌, subst, arith, inl, inr}
 use Rattle.std.proofs.lemmas.Bool.{eqb-true, ltb-true, or_cases, and_parts, cond_both, false_from_ne_true}
 use Rattle.std.proofs.lemmas.List.Elements.{All-head, All-tail, All-cons, All-nil}
 use Rattle.ec_units.specs.declared.slave.Place.{Place}
@@ -13,7 +13,7 @@ use Rattle.ec_symmetry.specs.StrongReach.{IsStrong, StrongChildrenReach}
 use Rattle.ec_symmetry.proofs.CanonLemmas.{slot_at}
 use Rattle.ec_symmetry.proofs.EqualRule.{KeepsEqual, equal-improves}
 use Rattle.ec_symmetry.proofs.InLemmas.{In-cases, In-places_for}
-use Rattle.ec_symmetry.proofs.ShiftRule.{period_at, KeepsShift, shift-improves}
+use Rattle.ec_symmetry.proofs.ShiftRule.{KeepsShift, shift-improves}
 use Rattle.ec_symmetry.proofs.SlotRule.{KeepsSlots, prefix-of, slots-improve}
 use Rattle.ec_symmetry.proofs.WalkLemmas.{prefix_at, Rule, Keeps, Both, IsPlaceBefore, Improves, some-keeps, both-improve, order-fresh}
 

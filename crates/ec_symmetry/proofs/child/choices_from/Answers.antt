@@ -1,4 +1,4 @@
-use Rattle.std.proofs.Common.{◌-◌, ◌≤◌, ◌∙◌, refl, sym, arith, inl, inr}
+use Rattle.std.proofs.Common.{◌-◌, ◌∙◌, refl, sym, arith, inl, inr}
 use Rattle.ec_symmetry.proofs.SuffixLemmas.{suffix, next-row, none-left, suffix-none}
 use Rattle.ec_symmetry.proofs.child.choices_from.Goals as goal
 
