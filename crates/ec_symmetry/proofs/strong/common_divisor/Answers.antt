@@ -1,4 +1,4 @@
-use Rattle.std.proofs.Common.{arith, sym}
+use Rattle.std.proofs.Common.{arith, sym, rules}
 use Rattle.std.proofs.lemmas.Nat.Gcd.{IsGcd-from_zero, IsGcd-from_mod, le_of_dvd}
 use Rattle.ec_symmetry.proofs.GcdLemmas.{gcd-only}
 use Rattle.ec_symmetry.proofs.strong.common_divisor.Goals as goal
@@ -12,3 +12,6 @@ returns-clause-value c =
 
 pub returns-clause-bound : goal.returns-clause-bound
 returns-clause-bound c = le_of_dvd c.requires (c.loop-less.invariant c.loop-less.greater (IsGcd-from_zero _ _ (omega arith))).1
+
+pub loop-less-init : goal.loop-less-init
+loop-less-init c = search rules

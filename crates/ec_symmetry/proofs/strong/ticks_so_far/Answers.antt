@@ -1,4 +1,4 @@
-use Rattle.std.proofs.Common.{◌≡◌, ◌∙◌, ap, arith, take}
+use Rattle.std.proofs.Common.{◌≡◌, ◌∙◌, ap, arith, take, rules}
 use Rattle.ec_hyper.specs.Lcm.{lcm_of}
 use Rattle.ec_loads.specs.Strong.{placed_periods}
 use Rattle.ec_symmetry.proofs.LatestLemmas.{placed-range, placed-short}
@@ -19,3 +19,6 @@ unreachable-requires c =
     let short = placed-short held.loads held.places c.ticks-ticks.ensures.units in
     let same = ap lcm_of is in
     omega (arith, c.in-Err.ensures.short, same, short, c.ticks-ticks.ensures.value, c.ticks-ticks.ensures.range.1)
+
+pub returns : goal.returns
+returns c = search rules
