@@ -1,4 +1,4 @@
-use Rattle.std.proofs.Common.{sym, ap}
+use Rattle.std.proofs.Common.{sym}
 use Rattle.ec_symmetry.proofs.LatestLemmas.{later-other, later-same, later-new}
 use Rattle.ec_symmetry.proofs.strong.later_of.Goals as goal
 
