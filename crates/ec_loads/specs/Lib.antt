@@ -8,5 +8,7 @@ pub mod Line
 pub mod Rooms
 pub mod Search
 pub mod Shape
+pub mod Strong
+pub mod StrongExamples
 pub mod Table
 pub mod Weights

@@ -1,6 +1,7 @@
 //! Loads with the bounds that are asked of them.
 
 use crate::call::{Call, place_of};
+use crate::plans::add_children;
 use crate::steps::{Dice, agrees};
 use ec_bounds::{
     Rest, average_bound, count_bound, full_bound, groups_bound, merge_bound, tick_bound,
@@ -8,6 +9,7 @@ use ec_bounds::{
 };
 use ec_drafts::Draft;
 use ec_loads::Loads;
+use ec_symmetry::strong_choices;
 use ec_units::{Place, Units};
 use std::alloc::{AllocError, Global};
 use std::marker::Model;
@@ -74,6 +76,16 @@ impl Bench {
         if unit < self.loads.places().len() {
             self.free(unit);
             out.add('-');
+        } else {
+            out.add("no unit");
+        }
+    }
+
+    /// Adds the places that the unit of a call can take by the strong rules.
+    fn strong(&self, call: Call<'_>, out: &mut Draft) {
+        let unit = call.index(1);
+        if unit < self.loads.places().len() {
+            add_children(out, strong_choices(&self.loads, unit));
         } else {
             out.add("no unit");
         }
@@ -185,6 +197,7 @@ impl Bench {
         match call.name() {
             "place" => self.place(call, out),
             "remove" => self.remove(call, out),
+            "strong" => self.strong(call, out),
             "steps" => out.add(self.steps(call.count(1))),
             _ => self.tell(alloc, call, out),
         }

@@ -20,7 +20,7 @@ fn children_of(call: Call<'_>) -> Children {
 }
 
 /// Adds the places that are left, in their order.
-fn add_children(out: &mut Draft, children: Children) {
+pub(crate) fn add_children(out: &mut Draft, children: Children) {
     let mut is_first = true;
     for place in children {
         add_place(out, place, is_first);

@@ -111,7 +111,7 @@ phase_at (l ∷ ls) [] u h e all = absurd (omega arith)
 phase_at (l ∷ ls) (p ∷ ps) zero h e all = All-head (λ x. x.phase < x.period) _ (plan_items ls ps) all
 phase_at (l ∷ ls) (p ∷ ps) (suc u) h e all = phase_at ls ps u (omega arith) (omega arith) (All-tail (λ x. x.phase < x.period) _ (plan_items ls ps) all)
 
-slot_at : (n : ℕ) (loads : List Load) (plan : List Place) (u : ℕ) → u < length loads → length plan ≡ length loads → All (λ x. x.slot < n) (plan_items loads plan) → (get_or plan u nowhere).slot < n
+pub slot_at : (n : ℕ) (loads : List Load) (plan : List Place) (u : ℕ) → u < length loads → length plan ≡ length loads → All (λ x. x.slot < n) (plan_items loads plan) → (get_or plan u nowhere).slot < n
 slot_at n [] plan u h e all = absurd (omega arith)
 slot_at n (l ∷ ls) [] u h e all = absurd (omega arith)
 slot_at n (l ∷ ls) (p ∷ ps) zero h e all = All-head (λ x. x.slot < n) _ (plan_items ls ps) all
@@ -120,7 +120,7 @@ slot_at n (l ∷ ls) (p ∷ ps) (suc u) h e all = slot_at n ls ps u (omega arith
 pub swap-at : (a b : ℕ) (plan : List Place) (u : ℕ) → u < length plan → get_or (swap_slots a b plan) u nowhere ≡ swap_place a b (get_or plan u nowhere)
 swap-at a b plan u h = get_or-map (swap_place a b) plan u nowhere nowhere h
 
-IsInRange-swap : (loads : List Load) (n a b : ℕ) (plan : List Place) → a < n → b < n → IsInRange loads n plan → IsInRange loads n (swap_slots a b plan)
+pub IsInRange-swap : (loads : List Load) (n a b : ℕ) (plan : List Place) → a < n → b < n → IsInRange loads n plan → IsInRange loads n (swap_slots a b plan)
 IsInRange-swap loads n a b plan h k r =
     let is = sym (swap-items a b loads plan) in
     record {

@@ -36,7 +36,7 @@ step_slot w f s zero some h = absurd (some refl)
 step_slot w f s (suc later) some h =
     ap (λ r. r ++ flat_map (λ g. row g 0 w) (range_with_len (f + 1) later)) (row-cons f s (w - s) (w - (s + 1)) (omega arith))
 
-next_phase : (w f later : ℕ) → places_left w f 0 later ≡ flat_map (λ g. row g 0 w) (range_with_len f later)
+pub next_phase : (w f later : ℕ) → places_left w f 0 later ≡ flat_map (λ g. row g 0 w) (range_with_len f later)
 next_phase w f zero = refl
 next_phase w f (suc later) =
     let whole : w - 0 ≡ w = omega arith in

@@ -38,13 +38,17 @@ In-flat_map : {A B : Type 0} (f : A → List B) {x : A} {y : B} {xs : List A} �
 In-flat_map f (here {x} {xs}) m = In-left (flat_map f xs) m
 In-flat_map f (there {x} {y = z} {xs} k) m = In-right (f z) (In-flat_map f k m)
 
+-- which places are tried
+pub In-places_for : (phases n k : ℕ) (p : Place) → p.phase < phases → p.slot ≤ k → p.slot < n → In p (places_for phases n k)
+In-places_for phases n k p phase low slot =
+    let row : ℕ → List Place = λ f. map (λ s. record { phase = f; slot = s }) (range_with_len 0 (min (suc k) n)) in
+    In-flat_map row (In-range p.phase 0 phases (omega arith) (omega arith))
+    (In-map (λ s. record { phase = p.phase; slot = s }) (In-range p.slot 0 (min (suc k) n) (omega arith) (omega arith)))
+
 -- which places are children
 pub In-places : (rules : Rules) (loads : List Load) (n : ℕ) (ps : Prefix) (u : ℕ) (p : Place) → p.phase < phases_by rules (get_or loads u nobody).period ps → p.slot ≤ used ps → p.slot < n → In p (children (line_by rules loads n) ps u)
 unfolding children
-In-places rules loads n ps u p phase low slot =
-    let row : ℕ → List Place = λ f. map (λ s. record { phase = f; slot = s }) (range_with_len 0 (min (suc (used ps)) n)) in
-    In-flat_map row (In-range p.phase 0 (phases_by rules (get_or loads u nobody).period ps) (omega arith) (omega arith))
-    (In-map (λ s. record { phase = p.phase; slot = s }) (In-range p.slot 0 (min (suc (used ps)) n) (omega arith) (omega arith)))
+In-places rules loads n ps u p phase low slot = In-places_for (phases_by rules (get_or loads u nobody).period ps) n (used ps) p phase low slot
 
 -- by the rules of slots alone
 pub In-children : (loads : List Load) (n : ℕ) (ps : Prefix) (u : ℕ) (p : Place) → p.phase < (get_or loads u nobody).period → p.slot ≤ used ps → p.slot < n → In p (children (line_by slots_alone loads n) ps u)

@@ -1,5 +1,6 @@
 pub mod SlotLemmas
 pub mod ChoiceLemmas
+pub mod SuffixLemmas
 pub mod SwapLemmas
 pub mod UsedLemmas
 pub mod CanonLemmas
@@ -13,3 +14,13 @@ pub mod PrefixLemmas
 pub mod ShiftLemmas
 pub mod TurnLemmas
 pub mod SendLemmas
+pub mod DescentLemmas
+pub mod WalkLemmas
+pub mod GcdLemmas
+pub mod SlotRule
+pub mod ShiftRule
+pub mod EqualLemmas
+pub mod EqualRule
+pub mod StrongLemmas
+pub mod MergeLemmas
+pub mod LatestLemmas

@@ -103,7 +103,7 @@ swap-slot_cost : (a b t s : ℕ) (xs : List Item) → slot_cost (map (swap_item 
 swap-slot_cost a b t s xs = rw (swap-busy a b t s xs, swap-payload a b t s xs) refl
 
 -- two functions that differ at one place
-sum_below-change : (f g : ℕ → ℕ) (n a : ℕ) → a < n → ((k : ℕ) → (k ≡ a → ⊥) → f k ≡ g k) → sum_below f n + g a ≡ sum_below g n + f a
+pub sum_below-change : (f g : ℕ → ℕ) (n a : ℕ) → a < n → ((k : ℕ) → (k ≡ a → ⊥) → f k ≡ g k) → sum_below f n + g a ≡ sum_below g n + f a
 sum_below-change f g zero a h e = absurd (omega arith)
 sum_below-change f g (suc n) a h e =
     elim (cases_eq n a) [

@@ -1,9 +1,10 @@
 //! The places that a unit can take after a prefix.
 
-ghost use Rattle.std.specs.Prelude.{◌≡◌, ℕ, ◌<◌, ◌≤◌, ◌==◌, ◌&&◌, if◌then◌else◌, length, get_or};
+ghost use Rattle.std.specs.Prelude.{◌≡◌, ℕ, suc, ◌<◌, ◌≤◌, ◌==◌, ◌&&◌, if◌then◌else◌, not, min, filter, length, get_or};
 ghost use Rattle.std.specs.Iterator.{YieldsFirst, item_count};
 ghost use Rattle.ec_loads.specs.Line.{rules_if, line_of};
 ghost use Rattle.ec_loads.specs.Search.{places_for, children};
+ghost use Rattle.ec_loads.specs.Strong.{is_below};
 ghost use Rattle.ec_symmetry.specs.Orders.{IsOrder, prefix_of};
 
 use crate::slots::{used_among, used_slots};
@@ -48,6 +49,44 @@ pub fn choices(period: u16, slots: u8, used: u8, turned: bool) -> Children
             (_, true) => 1,
             (_, false) => period,
         },
+    }
+}
+
+/// How many slots a unit tries where the units before it use so many different ones.
+fn width_of(slots: u8, used: u8) -> u8
+    ensures { result ≡ min (suc used) slots }
+{
+    if slots <= used { slots } else { used + 1 }
+}
+
+/// The places of a unit that tries so many phases, where the units before it use so many different slots, without those
+/// that are below a first one, by phase and then slot.
+pub(crate) fn choices_from(first: Place, phases: u16, slots: u8, used: u8) -> Children
+    ensures { result ≡ filter (λ p. not (is_below p first)) (places_for phases slots used) }
+{
+    let width = width_of(slots, used);
+    if width == 0 || phases <= first.phase {
+        return Children {
+            phase: 0,
+            slot: 0,
+            width,
+            phases: 0,
+        };
+    }
+    let left = phases - first.phase;
+    if first.slot < width {
+        return Children {
+            phase: first.phase,
+            slot: first.slot,
+            width,
+            phases: left,
+        };
+    }
+    Children {
+        phase: first.phase + 1,
+        slot: 0,
+        width,
+        phases: left - 1,
     }
 }
 

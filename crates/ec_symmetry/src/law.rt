@@ -2,6 +2,7 @@
 
 ghost use Rattle.ec_symmetry.specs.Orders.{EveryPlanIsReachedBy};
 ghost use Rattle.ec_symmetry.specs.Reached.{EveryPlanIsReached, SlotsHaveNoGap};
+ghost use Rattle.ec_symmetry.specs.StrongReach.{StrongChildrenReach, SlotsMerge};
 
 /// For every legal plan and every order of the units there is a legal plan that the children by slots alone reach,
 /// unit by unit in that order, and it costs the same in every tick.
@@ -22,4 +23,17 @@ pub fn every_plan_is_reached_by()
 /// is its first free one.
 pub fn slots_have_no_gap()
     ensures { SlotsHaveNoGap }
+{}
+
+/// For every legal plan and every order of the units there is a legal plan that the strong children reach, unit by unit
+/// in that order, and each of its ticks costs what some tick of the plan costs. Where the plan uses slot 0 alone, so does
+/// that one.
+pub fn strong_children_reach()
+    ensures { StrongChildrenReach }
+{}
+
+/// Where no tick of a legal plan costs more than 1578 bytes, all its units can go into slot 0, with the phases that they
+/// have: that plan is legal too, and no tick of it costs more than before. At 1579 bytes this is no longer so.
+pub fn slots_merge()
+    ensures { SlotsMerge }
 {}

@@ -5,9 +5,14 @@ mod child;
 mod law;
 mod rename;
 mod slots;
+mod strong;
 mod turn;
 
 pub use child::{Children, children_after, children_of, choices};
-pub use law::{every_plan_is_reached, every_plan_is_reached_by, slots_have_no_gap};
+pub use law::{
+    every_plan_is_reached, every_plan_is_reached_by, slots_have_no_gap, slots_merge,
+    strong_children_reach,
+};
 pub use rename::canonical;
 pub use slots::used_slots;
+pub use strong::strong_choices;

@@ -1,0 +1,133 @@
+//! The places that a unit can take by the strong rules: fewer than by slots alone, since a shift of time and equal units
+//! leave the others to these.
+
+ghost use Rattle.std.specs.Prelude.{◌≡◌, ℕ, ◌<◌, ◌≤◌, length, take};
+ghost use Rattle.ec_hyper.specs.Lcm.{lcm_of};
+ghost use Rattle.ec_loads.specs.Held.{AreLoads};
+ghost use Rattle.ec_loads.specs.Strong.{gcd, placed_periods, strong_phases, same_load, is_below, strong_children};
+ghost use Rattle.ec_symmetry.specs.Latest.{IsLatest, IsLater};
+
+use crate::child::{Children, choices_from};
+use crate::slots::used_among;
+use ec_hyper::Hyper;
+use ec_loads::Loads;
+use ec_units::{Load, Place};
+
+/// The most units.
+const MOST_UNITS: usize = 48;
+
+/// Whether two units are equal: the same bytes and the same period.
+fn is_equal(first: Load, second: Load) -> bool
+    ensures { result ≡ same_load first second }
+{
+    first.bytes == second.bytes && first.period == second.period
+}
+
+/// Whether a place is below another one, by phase and then slot.
+fn is_lower(first: Place, second: Place) -> bool
+    ensures { result ≡ is_below first second }
+{
+    first.phase < second.phase || (first.phase == second.phase && first.slot < second.slot)
+}
+
+/// The later of a place and of the place of another unit, where that has one and is equal to the load.
+fn later_of(latest: Place, load: Load, other: Load, place: Option<Place>) -> Place
+    ensures { IsLater load other place latest result }
+{
+    let Some(place) = place else {
+        return latest;
+    };
+    if !is_equal(other, load) {
+        return latest;
+    }
+    if !is_lower(latest, place) {
+        return latest;
+    }
+    place
+}
+
+/// The greatest place, by phase and then slot, of the units that are equal to the load; phase 0 and slot 0 where none of
+/// them has a place.
+fn latest_equal(loads: &[Load], places: &[Option<Place>], load: Load) -> Place
+    requires each { length places.now ≡ length loads.now }
+    ensures { IsLatest load loads.now places.now result }
+{
+    let mut latest = Place { phase: 0, slot: 0 };
+    for i in 0..loads.len() {
+        latest = later_of(latest, load, loads[i], places[i]);
+    }
+    latest
+}
+
+/// Writes the periods of the units that have a place, in ticks, into a table, and says how many.
+fn gather_periods(
+    loads: &[Load],
+    places: &[Option<Place>],
+    periods: &mut [u16; MOST_UNITS],
+) -> usize
+    requires few { length loads.now ≤ 48 }
+    requires each { length places.now ≡ length loads.now }
+    ensures periods { take result periods.new ≡ placed_periods loads.now places.now }
+    ensures count { result ≤ 48 }
+{
+    let mut count = 0usize;
+    for i in 0..loads.len() {
+        if places[i].is_some() {
+            periods[count] = loads[i].period;
+            count += 1;
+        }
+    }
+    count
+}
+
+/// The least common multiple of the periods of the units that have a place, in ticks; 1 where none has.
+fn ticks_so_far(loads: &Loads) -> u32
+    ensures { result ≡ lcm_of (placed_periods loads.now.loads loads.now.places) }
+{
+    let _ticks = loads.ticks();
+    let mut periods = [1u16; MOST_UNITS];
+    let count = gather_periods(loads.loads(), loads.places(), &mut periods);
+    match Hyper::of(&periods[..count]) {
+        Ok(hyper) => hyper.ticks(),
+        Err(_) => unreachable!(),
+    }
+}
+
+/// The greatest common divisor of a number and a positive one.
+fn common_divisor(first: u32, second: u32) -> u32
+    requires { 1 ≤ second }
+    ensures value { result ≡ gcd first second }
+    ensures bound { result ≤ second }
+{
+    let mut greater = first;
+    let mut less = second;
+    while less != 0 {
+        let rest = greater % less;
+        greater = less;
+        less = rest;
+    }
+    greater
+}
+
+/// How many phases a unit of this period, in ticks, tries: a shift of time leads from the others to these.
+fn phases_of(loads: &Loads, period: u16) -> u16
+    requires { 1 ≤ period }
+    ensures { result ≡ strong_phases loads.now.loads loads.now.places period }
+{
+    common_divisor(ticks_so_far(loads), u32::from(period)) as u16
+}
+
+/// The places that a unit can take after the places so far by the strong rules, in child order: a phase below the greatest
+/// common divisor of its period and of the least common multiple of the periods of the units that have a place; a slot in
+/// use or the first free one, below the slot count; and no place below that of an equal unit, one with the same bytes and
+/// period, by phase and then slot. Takes no memory.
+pub fn strong_choices(loads: &Loads, unit: usize) -> Children
+    requires { unit < length loads.now.places }
+    ensures { result ≡ strong_children loads.now.loads loads.now.slots loads.now.places unit }
+{
+    let used = used_among(loads.places(), loads.slots().max(1));
+    let load = loads.loads()[unit];
+    let latest = latest_equal(loads.loads(), loads.places(), load);
+    let phases = phases_of(loads, load.period);
+    choices_from(latest, phases, loads.slots(), used)
+}
