@@ -5,6 +5,7 @@ pub mod Held
 pub mod Laws
 pub mod Legal
 pub mod Line
+pub mod Prefix
 pub mod Rooms
 pub mod Search
 pub mod Shape

@@ -3,10 +3,12 @@ use Rattle.std.specs.Prelude.{ℕ, Bool, true, false, List}
 use Rattle.ec_units.specs.declared.unit.Load.{Load}
 use Rattle.ec_loads.specs.Held.{Held}
 
--- by which rules the children of a prefix are made: slots by their first use and each phase; or the same, but of the empty prefix phase 0 alone
+-- by which rules the children of a prefix are made: slots by their first use and each phase; the same, but of the empty prefix phase 0 alone; or slots by
+-- their first use, the phases that no shift of time leads from, and no place below that of an equal unit
 pub data Rules : Type 0 where
   slots_alone : Rules
   turned_time : Rules
+  strong : Rules
 
 -- the rules where time is turned, and where it isn't
 abbrev pub rules_if : Bool → Rules

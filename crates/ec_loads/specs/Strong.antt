@@ -5,7 +5,7 @@ use Rattle.std.specs.Prelude.{ℕ, zero, suc, ◌%◌, ◌==◌, ◌&&◌, ◌||
 use Rattle.ec_hyper.specs.Lcm.{lcm_of}
 use Rattle.ec_units.specs.declared.slave.Place.{Place}
 use Rattle.ec_units.specs.declared.unit.Load.{Load}
-use Rattle.ec_loads.specs.Search.{Prefix, nobody, used, places_for}
+use Rattle.ec_loads.specs.Prefix.{Prefix, nobody, used, places_for}
 
 -- whether d divides both numbers
 abbrev pub divides_both : ℕ → ℕ → ℕ → Bool

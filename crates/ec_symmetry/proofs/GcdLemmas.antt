@@ -96,3 +96,14 @@ gcd-reached a p pos = let r = divisor-reached a p pos in subst (λ w. Reaches a 
 -- it is from 1 to p
 pub gcd-range : (a p : ℕ) → 0 < p → (0 < gcd a p) × (gcd a p ≤ p)
 gcd-range a p pos = let is = gcd-is a p pos in (IsGcd-pos a p (gcd a p) pos is, le_of_dvd pos is.1)
+
+divisor-most : (n a p : ℕ) → greatest_divisor n a p ≤ n
+divisor-most zero a p = omega arith
+divisor-most (suc n) a p =
+    let rest = divisor-most n a p in
+    cond_both (divides_both (suc n) a p) (suc n) (greatest_divisor n a p) (λ w. w ≤ suc n) (λ _. omega arith) (λ _. omega (arith, rest))
+
+-- of any number p it is at most p
+pub gcd-most : (a p : ℕ) → gcd a p ≤ p
+unfolding gcd
+gcd-most a p = divisor-most p a p

@@ -1,14 +1,17 @@
 -- Which places are children.
--- `In-children` and `children-In` go both ways; `In-cases` takes one apart. A rule that changes only how many phases
--- are tried goes into `phases_by`, of which the children ask `phases_by-most` and `phases_by-least` alone.
-use Rattle.std.proofs.Common.{◌≡◌, ℕ, zero, suc, ◌+◌, ◌<◌, ◌≤◌, ◌⊎◌, min, true, false, if◌then◌else◌, List, [], ◌∷◌, ◌++◌, map, get_or, refl, sym, ap, subst, arith, inl, inr}
+-- `In-children` and `children-In` go both ways; `In-cases` takes one apart. How many phases a rule tries stands in `phases_by`, of which the children ask
+-- `phases_by-most` and `phases_by-least` alone.
+use Rattle.std.proofs.Common.{◌≡◌, ℕ, zero, suc, ◌+◌, ◌<◌, ◌≤◌, ◌⊎◌, min, not, Bool, true, false, if◌then◌else◌, cond, filter, List, [], ◌∷◌, ◌++◌, map, get_or, refl, sym, ap, ◌∙◌, subst, arith, inl, inr}
 use Rattle.std.specs.List.{flat_map, range_with_len}
-use Rattle.std.proofs.lemmas.Bool.{cases_eq}
+use Rattle.std.proofs.lemmas.Bool.{cases_eq, cond_both}
+use Rattle.ec_hyper.specs.Lcm.{lcm_of}
 use Rattle.ec_units.specs.declared.slave.Place.{Place}
 use Rattle.ec_units.specs.declared.unit.Load.{Load}
-use Rattle.ec_loads.specs.Line.{Rules, slots_alone, turned_time, Line, line_by}
-use Rattle.ec_loads.specs.Search.{Prefix, used, nobody, places_for, has_no_place, phases_by, children}
+use Rattle.ec_loads.specs.Line.{Rules, slots_alone, turned_time, strong, rules_if, Line, line_by}
+use Rattle.ec_loads.specs.Search.{Prefix, used, nobody, places_for, has_no_place, phases_by, children_by, children}
+use Rattle.ec_loads.specs.Strong.{placed_periods, strong_phases, has_equal_above, strong_children}
 use Rattle.ec_symmetry.specs.Reached.{In, here, there}
+use Rattle.ec_symmetry.proofs.GcdLemmas.{gcd-most, gcd-range}
 
 pub In-cases : {A : Type 0} {x y : A} {xs : List A} → In x (y ∷ xs) → (x ≡ y) ⊎ In x xs
 In-cases here = inl refl
@@ -45,14 +48,15 @@ In-places_for phases n k p phase low slot =
     In-flat_map row (In-range p.phase 0 phases (omega arith) (omega arith))
     (In-map (λ s. record { phase = p.phase; slot = s }) (In-range p.slot 0 (min (suc k) n) (omega arith) (omega arith)))
 
--- which places are children
-pub In-places : (rules : Rules) (loads : List Load) (n : ℕ) (ps : Prefix) (u : ℕ) (p : Place) → p.phase < phases_by rules (get_or loads u nobody).period ps → p.slot ≤ used ps → p.slot < n → In p (children (line_by rules loads n) ps u)
+-- which places are children by slots alone, or where time is turned
+pub In-places : (turned : Bool) (loads : List Load) (n : ℕ) (ps : Prefix) (u : ℕ) (p : Place) → p.phase < phases_by (rules_if turned) loads ps (get_or loads u nobody).period → p.slot ≤ used ps → p.slot < n → In p (children (line_by (rules_if turned) loads n) ps u)
 unfolding children
-In-places rules loads n ps u p phase low slot = In-places_for (phases_by rules (get_or loads u nobody).period ps) n (used ps) p phase low slot
+In-places false loads n ps u p phase low slot = In-places_for (get_or loads u nobody).period n (used ps) p phase low slot
+In-places true loads n ps u p phase low slot = In-places_for (phases_by turned_time loads ps (get_or loads u nobody).period) n (used ps) p phase low slot
 
 -- by the rules of slots alone
 pub In-children : (loads : List Load) (n : ℕ) (ps : Prefix) (u : ℕ) (p : Place) → p.phase < (get_or loads u nobody).period → p.slot ≤ used ps → p.slot < n → In p (children (line_by slots_alone loads n) ps u)
-In-children loads n ps u p phase low slot = In-places slots_alone loads n ps u p phase low slot
+In-children loads n ps u p phase low slot = In-places false loads n ps u p phase low slot
 
 range-In : (x a n : ℕ) → In x (range_with_len a n) → (a ≤ x) × (x < a + n)
 range-In x a zero m = elim m [ ]
@@ -100,33 +104,66 @@ places_for-In phases n k p m =
     let high = range-In s.0 0 (min (suc k) n) s.1 in
     (omega (arith, low.1, phase), omega (arith, high.1, slot), omega (arith, high.1, slot))
 
+pub In-filter : {A : Type 0} (test : A → Bool) (x : A) (xs : List A) → In x xs → test x ≡ true → In x (filter test xs)
+In-filter test x [] m e = elim m [ ]
+In-filter test x (y ∷ xs) m e =
+    elim (In-cases m) [
+      | inl is ↦
+          let kept : test y ≡ true = ap test (sym is) ∙ e in
+          subst (λ w. In x w) (λ i. cond (sym kept i) (y ∷ filter test xs) (filter test xs)) (subst (λ w. In w (y ∷ filter test xs)) (sym is) here)
+      | inr later ↦
+          cond_both (test y) (y ∷ filter test xs) (filter test xs) (λ w. In x w) (λ _. there (In-filter test x xs later e)) (λ _. In-filter test x xs later e)
+    ]
+
+filter-In : {A : Type 0} (test : A → Bool) (x : A) (xs : List A) → In x (filter test xs) → In x xs
+filter-In test x [] m = elim m [ ]
+filter-In test x (y ∷ xs) m =
+    cond_both (test y) (y ∷ filter test xs) (filter test xs) (λ w. In x w → In x (y ∷ xs))
+    (λ _ k. elim (In-cases k) [
+      | inl is ↦ subst (λ w. In w (y ∷ xs)) (sym is) here
+      | inr later ↦ there (filter-In test x xs later)
+    ])
+    (λ _ k. there (filter-In test x xs k))
+    m
+
 -- no unit tries more phases than its period has, and each at least one
-pub phases_by-most : (rules : Rules) (period : ℕ) (ps : Prefix) → phases_by rules period ps ≤ period
-phases_by-most slots_alone period ps = omega arith
-phases_by-most turned_time period ps =
+pub phases_by-most : (rules : Rules) (loads : List Load) (ps : Prefix) (period : ℕ) → phases_by rules loads ps period ≤ period
+phases_by-most slots_alone loads ps period = omega arith
+phases_by-most turned_time loads ps period =
     elim (has_no_place ps) as (λ b. (if b then min 1 period else period) ≤ period) [
       | true ↦ omega arith
       | false ↦ omega arith
     ]
+phases_by-most strong loads ps period = gcd-most (lcm_of (placed_periods loads ps)) period
 
-pub phases_by-least : (rules : Rules) (period : ℕ) (ps : Prefix) → 1 ≤ period → 1 ≤ phases_by rules period ps
-phases_by-least slots_alone period ps some = some
-phases_by-least turned_time period ps some =
+pub phases_by-least : (rules : Rules) (loads : List Load) (ps : Prefix) (period : ℕ) → 1 ≤ period → 1 ≤ phases_by rules loads ps period
+phases_by-least slots_alone loads ps period some = some
+phases_by-least turned_time loads ps period some =
     elim (has_no_place ps) as (λ b. 1 ≤ (if b then min 1 period else period)) [
       | true ↦ omega arith
       | false ↦ some
     ]
+phases_by-least strong loads ps period some = (gcd-range (lcm_of (placed_periods loads ps)) period some).0
+
+children_by-In : (rules : Rules) (loads : List Load) (n : ℕ) (ps : Prefix) (u : ℕ) (p : Place) → In p (children_by rules loads n ps u) → (p.phase < phases_by rules loads ps (get_or loads u nobody).period) × (p.slot ≤ used ps) × (p.slot < n)
+unfolding strong_children
+children_by-In slots_alone loads n ps u p m = places_for-In (get_or loads u nobody).period n (used ps) p m
+children_by-In turned_time loads n ps u p m = places_for-In (phases_by turned_time loads ps (get_or loads u nobody).period) n (used ps) p m
+children_by-In strong loads n ps u p m =
+    let l = get_or loads u nobody in
+    let all = places_for (strong_phases loads ps l.period) n (used ps) in
+    places_for-In (strong_phases loads ps l.period) n (used ps) p (filter-In (λ q. not (has_equal_above l q loads ps)) p all m)
 
 -- by any rules they are within these limits
 pub children-In : (line : Line) (ps : Prefix) (u : ℕ) (p : Place) → In p (children line ps u) → (p.phase < (get_or line.loads u nobody).period) × (p.slot ≤ used ps) × (p.slot < line.slots)
 unfolding children
 children-In line ps u p m =
-    let period = (get_or line.loads u nobody).period in
-    let r = places_for-In (phases_by line.rules period ps) line.slots (used ps) p m in
-    let most = phases_by-most line.rules period ps in
+    let r = children_by-In line.rules line.loads line.slots ps u p m in
+    let most = phases_by-most line.rules line.loads ps (get_or line.loads u nobody).period in
     (omega (arith, most, r.0), r.1, r.2)
 
--- the children by any rules
-pub children-is : (rules : Rules) (loads : List Load) (n : ℕ) (ps : Prefix) (u : ℕ) → children (line_by rules loads n) ps u ≡ places_for (phases_by rules (get_or loads u nobody).period ps) n (used ps)
+-- the children by slots alone, or where time is turned
+pub children-is : (turned : Bool) (loads : List Load) (n : ℕ) (ps : Prefix) (u : ℕ) → children (line_by (rules_if turned) loads n) ps u ≡ places_for (phases_by (rules_if turned) loads ps (get_or loads u nobody).period) n (used ps)
 unfolding children
-children-is rules loads n ps u = refl
+children-is false loads n ps u = refl
+children-is true loads n ps u = refl

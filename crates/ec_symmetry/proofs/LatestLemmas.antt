@@ -52,6 +52,15 @@ below-then p q r e f =
       ]
     ])
 
+-- no place is below itself
+pub below-itself : (p : Place) → is_below p p ≡ false
+below-itself p =
+    same-bool (is_below p p) false (λ e.
+    absurd (elim (lower-of p p e) [
+      | inl less ↦ omega (arith, less)
+      | inr later ↦ let less = later.1 in omega (arith, less)
+    ])) (λ e. absurd (true≢false (sym e)))
+
 -- what is below a place that isn't above q is below q
 below-least : (p q r : Place) → is_below q r ≡ false → is_below p r ≡ true → is_below p q ≡ true
 below-least p q r e f =
@@ -104,6 +113,12 @@ later-new l m q r e high p =
     ])
     ∙ sym (λ i. or-false (e i && is_below p r) i || is_below p q)
 
+-- a unit in front of the others
+pub latest-cons : (l m : Load) (ls : List Load) (ps : Prefix) (p q r : Place) → IsLatest l ls ps q → IsLater l m (Some p) q r → IsLatest l (m ∷ ls) (Some p ∷ ps) r
+latest-cons l m ls ps p q r before later = λ x.
+    let first = same_load m l && is_below x p in
+    ap (λ w. first || w) (before x) ∙ ap (λ w. w || is_below x q) (sym (or-false first)) ∙ sym (later x)
+
 or_assoc : (a b c : Bool) → (a || (b || c)) ≡ ((a || b) || c)
 or_assoc true b c = refl
 or_assoc false b c = refl
@@ -136,14 +151,17 @@ latest_more l ls ps i d m e o q r h k is at before later = rw add-one (λ p.
     ∙ sym (later p))
 
 -- and begins: nothing is below phase 0 and slot 0
-pub latest-none : (l : Load) (ls : List Load) (ps : Prefix) → IsLatest l (take 0 ls) (take 0 ps) (record { phase = 0; slot = 0 })
-latest-none l ls ps p =
+pub none-lower : (p : Place) → is_below p (record { phase = 0; slot = 0 }) ≡ false
+none-lower p =
     let q : Place = record { phase = 0; slot = 0 } in
-    same-bool false (is_below p q) (λ e. absurd (true≢false (sym e))) (λ e.
+    same-bool (is_below p q) false (λ e.
     absurd (elim (lower-of p q e) [
       | inl less ↦ not-suc-le-zero less
       | inr later ↦ not-suc-le-zero later.1
-    ]))
+    ])) (λ e. absurd (true≢false (sym e)))
+
+pub latest-none : (l : Load) (ls : List Load) (ps : Prefix) → IsLatest l (take 0 ls) (take 0 ps) (record { phase = 0; slot = 0 })
+latest-none l ls ps p = sym (none-lower p)
 
 -- the children from the latest place of an equal unit on
 pub filter-latest : (l : Load) (ls : List Load) (ps : Prefix) (q : Place) (xs : List Place) → IsLatest l ls ps q → filter (λ p. not (is_below p q)) xs ≡ filter (λ p. not (has_equal_above l p ls ps)) xs

@@ -24,3 +24,4 @@ pub mod EqualRule
 pub mod StrongLemmas
 pub mod MergeLemmas
 pub mod LatestLemmas
+pub mod CountLemmas

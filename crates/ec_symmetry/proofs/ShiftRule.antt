@@ -43,7 +43,7 @@ placed-pos (l ∷ ls) (Some p ∷ ps) all =
     (placed-pos ls ps (All-tail (λ x. (1 ≤ x.period) × (x.period ≤ 60) × (x.bytes ≤ 1486)) l ls all))
 
 -- what holds of them holds of the period of each
-placed-at : (P : ℕ → Type 0) (loads : List Load) (ps : Prefix) (w : ℕ) (p : Place) → w < length loads → get_or ps w None ≡ Some p → All P (placed_periods loads ps) → P (period_at loads w)
+pub placed-at : (P : ℕ → Type 0) (loads : List Load) (ps : Prefix) (w : ℕ) (p : Place) → w < length loads → get_or ps w None ≡ Some p → All P (placed_periods loads ps) → P (period_at loads w)
 placed-at P [] ps w p h e all = absurd (omega arith)
 placed-at P (l ∷ ls) [] w p h e all = cc
 placed-at P (l ∷ ls) (None ∷ ps) zero p h e all = cc

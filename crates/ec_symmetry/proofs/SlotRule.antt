@@ -45,7 +45,7 @@ prefix-at loads (u ∷ before) plan w low long m =
           ]
     ]
 
-none-get : (loads : List Load) (w : ℕ) (q : Place) → get_or (no_places loads) w None ≡ Some q → ⊥
+pub none-get : (loads : List Load) (w : ℕ) (q : Place) → get_or (no_places loads) w None ≡ Some q → ⊥
 none-get [] w q e = cc
 none-get (l ∷ ls) zero q e = cc
 none-get (l ∷ ls) (suc w) q e = none-get ls w q e
@@ -83,7 +83,7 @@ dense loads (u ∷ before) plan whole low kept =
       dense = (step_next (prefix_at loads before plan) plan u d.dense d.extends (omega arith) kept.0).dense;
     }
 
-member-at : (ps : Prefix) (w : ℕ) (p : Place) → get_or ps w None ≡ Some p → member p.slot (slots_in ps) ≡ true
+pub member-at : (ps : Prefix) (w : ℕ) (p : Place) → get_or ps w None ≡ Some p → member p.slot (slots_in ps) ≡ true
 member-at [] w p e = cc
 member-at (None ∷ ps) zero p e = cc
 member-at (Some q ∷ ps) zero p e =

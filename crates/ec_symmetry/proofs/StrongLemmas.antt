@@ -1,18 +1,19 @@
 -- Each legal plan has one that the strong children reach: a plan that keeps the three rules stands at strong children.
-use Rattle.std.proofs.Common.{◌≡◌, ℕ, suc, ◌<◌, ◌==◌, ◌&&◌, ◌||◌, Bool, true, false, not, cond, nat_lt, List, [], ◌∷◌, filter, length, get_or, All, Some, None, refl, sym, ap, ◌∙◌, subst, arith, inl, inr}
-use Rattle.std.proofs.lemmas.Bool.{eqb-true, ltb-true, or_cases, and_parts, cond_both, false_from_ne_true}
+use Rattle.std.proofs.Common.{◌≡◌, ℕ, suc, ◌<◌, ◌==◌, ◌&&◌, ◌||◌, true, false, not, nat_lt, List, [], ◌∷◌, length, get_or, All, Some, None, refl, ap, subst, arith, inl, inr}
+use Rattle.std.proofs.lemmas.Bool.{eqb-true, ltb-true, or_cases, and_parts, false_from_ne_true}
 use Rattle.std.proofs.lemmas.List.Elements.{All-head, All-tail, All-cons, All-nil}
 use Rattle.ec_units.specs.declared.slave.Place.{Place}
 use Rattle.ec_units.specs.declared.unit.Load.{Load}
 use Rattle.ec_loads.specs.Held.{AreLoads}
 use Rattle.ec_loads.specs.Legal.{IsLegal}
-use Rattle.ec_loads.specs.Search.{Prefix, nobody, nowhere, used, places_for}
+use Rattle.ec_loads.specs.Line.{strong, line_by}
+use Rattle.ec_loads.specs.Search.{Prefix, nobody, nowhere, used, places_for, children}
 use Rattle.ec_loads.specs.Strong.{strong_phases, same_load, is_below, has_equal_above, strong_children}
-use Rattle.ec_symmetry.specs.Reached.{In, here, there}
-use Rattle.ec_symmetry.specs.StrongReach.{IsStrong, StrongChildrenReach}
+use Rattle.ec_symmetry.specs.Reached.{In, IsCanonical}
+use Rattle.ec_symmetry.specs.StrongReach.{StrongChildrenReach}
 use Rattle.ec_symmetry.proofs.CanonLemmas.{slot_at}
 use Rattle.ec_symmetry.proofs.EqualRule.{KeepsEqual, equal-improves}
-use Rattle.ec_symmetry.proofs.InLemmas.{In-cases, In-places_for}
+use Rattle.ec_symmetry.proofs.InLemmas.{In-filter, In-places_for}
 use Rattle.ec_symmetry.proofs.ShiftRule.{KeepsShift, shift-improves}
 use Rattle.ec_symmetry.proofs.SlotRule.{KeepsSlots, prefix-of, slots-improve}
 use Rattle.ec_symmetry.proofs.WalkLemmas.{prefix_at, Rule, Keeps, Both, IsPlaceBefore, Improves, some-keeps, both-improve, order-fresh}
@@ -24,7 +25,7 @@ place-before p q e =
       | inr later ↦ let both = and_parts (p.phase == q.phase) (nat_lt p.slot q.slot) later in inr (eqb-true p.phase q.phase both.0, inl (ltb-true p.slot q.slot both.1, refl))
     ]
 
-one-load : (l m : Load) → same_load l m ≡ true → l ≡ m
+pub one-load : (l m : Load) → same_load l m ≡ true → l ≡ m
 one-load l m e =
     let both = and_parts (l.bytes == m.bytes) (l.period == m.period) e in
     let bytes = eqb-true l.bytes m.bytes both.0 in
@@ -44,17 +45,6 @@ none-above l p (m ∷ ls) (Some q ∷ ps) h =
     h 0 q (omega arith) refl (one-load m l both.0) (place-before p q both.1)) in
     λ i. first i || rest i
 
-In-filter : {A : Type 0} (test : A → Bool) (x : A) (xs : List A) → In x xs → test x ≡ true → In x (filter test xs)
-In-filter test x [] m e = elim m [ ]
-In-filter test x (y ∷ xs) m e =
-    elim (In-cases m) [
-      | inl is ↦
-          let kept : test y ≡ true = ap test (sym is) ∙ e in
-          subst (λ w. In x w) (λ i. cond (sym kept i) (y ∷ filter test xs) (filter test xs)) (subst (λ w. In w (y ∷ filter test xs)) (sym is) here)
-      | inr later ↦
-          cond_both (test y) (y ∷ filter test xs) (filter test xs) (λ w. In x w) (λ _. there (In-filter test x xs later e)) (λ _. In-filter test x xs later e)
-    ]
-
 -- the three rules, and each improves what breaks it
 abbrev strong_rule : List Load → Rule
 strong_rule loads = Both (KeepsSlots loads) (Both (KeepsShift loads) (KeepsEqual loads))
@@ -65,8 +55,8 @@ rule-improves loads n all =
     (both-improve loads n (KeepsShift loads) (KeepsEqual loads) (shift-improves loads n all) (equal-improves loads n))
 
 -- a unit that keeps them stands at a child
-at-child : (loads : List Load) (n : ℕ) (before : List ℕ) (u : ℕ) (plan : List Place) → IsLegal loads n plan → All (λ w. w < length loads) (u ∷ before) → strong_rule loads before u plan → In (get_or plan u nowhere) (strong_children loads n (prefix_at loads before plan) u)
-unfolding strong_children
+at-child : (loads : List Load) (n : ℕ) (before : List ℕ) (u : ℕ) (plan : List Place) → IsLegal loads n plan → All (λ w. w < length loads) (u ∷ before) → strong_rule loads before u plan → In (get_or plan u nowhere) (children (line_by strong loads n) (prefix_at loads before plan) u)
+unfolding children strong_children
 at-child loads n before u plan legal low keeps =
     let within = All-head (λ w. w < length loads) u before low in
     let ps = prefix_at loads before plan in
@@ -79,7 +69,7 @@ at-child loads n before u plan legal low keeps =
     (In-places_for (strong_phases loads ps l.period) n (used ps) p keeps.1.0 keeps.0 (slot_at n loads plan u within legal.whole legal.slots))
     (ap not none)
 
-all-at-children : (loads : List Load) (n : ℕ) (before order : List ℕ) (plan : List Place) → IsLegal loads n plan → All (λ w. w < length loads) before → All (λ w. w < length loads) order → Keeps (strong_rule loads) before order plan → IsStrong loads n (prefix_at loads before plan) order plan
+all-at-children : (loads : List Load) (n : ℕ) (before order : List ℕ) (plan : List Place) → IsLegal loads n plan → All (λ w. w < length loads) before → All (λ w. w < length loads) order → Keeps (strong_rule loads) before order plan → IsCanonical (line_by strong loads n) (prefix_at loads before plan) order plan
 all-at-children loads n before [] plan legal low all keeps = tt
 all-at-children loads n before (u ∷ order) plan legal low all keeps =
     let more = All-cons (λ w. w < length loads) u before (All-head (λ w. w < length loads) u order all) low in

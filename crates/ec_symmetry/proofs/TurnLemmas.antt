@@ -31,9 +31,9 @@ none-used [] = refl
 none-used (None ∷ ps) = none-used ps
 none-used (Some p ∷ ps) = sym (ne_eqb (used (Some p ∷ ps)) 0 (λ e. let some = one_counts p.slot (slots_in ps) in omega (arith, e, some)))
 
-phases-is : (turned : Bool) (period k : ℕ) (ps : Prefix) → 1 ≤ period → k ≡ used ps → (if turned && (k == 0) then 1 else period) ≡ phases_by (rules_if turned) period ps
-phases-is false period k ps some is = refl
-phases-is true period k ps some is =
+phases-is : (turned : Bool) (loads : List Load) (period k : ℕ) (ps : Prefix) → 1 ≤ period → k ≡ used ps → (if turned && (k == 0) then 1 else period) ≡ phases_by (rules_if turned) loads ps period
+phases-is false loads period k ps some is = refl
+phases-is true loads period k ps some is =
     let one : 1 ≡ min 1 period = omega arith in
     ap (λ w. if w == 0 then 1 else period) is
     ∙ ap (λ b. if b then 1 else period) (sym (none-used ps))
@@ -43,7 +43,7 @@ phases-is true period k ps some is =
 pub children-by : (turned : Bool) (loads : List Load) (n : ℕ) (ps : Prefix) (u k : ℕ) → 1 ≤ (get_or loads u nobody).period → k ≡ used ps
     → places_for (if turned && (k == 0) then 1 else (get_or loads u nobody).period) n k ≡ children (line_by (rules_if turned) loads n) ps u
 children-by turned loads n ps u k some is =
-    (λ i. places_for (phases-is turned (get_or loads u nobody).period k ps some is i) n (is i)) ∙ sym (children-is (rules_if turned) loads n ps u)
+    (λ i. places_for (phases-is turned loads (get_or loads u nobody).period k ps some is i) n (is i)) ∙ sym (children-is turned loads n ps u)
 
 -- a unit that is sent earlier by its own phase has phase 0
 own-phase : (p f : ℕ) → f < p → earlier f p f ≡ 0
@@ -87,7 +87,7 @@ none-placed (l ∷ ls) = none-placed ls
 same-children : (loads : List Load) (n : ℕ) (ps : Prefix) (u : ℕ) → has_no_place ps ≡ false → children (line_by slots_alone loads n) ps u ≡ children (line_by turned_time loads n) ps u
 same-children loads n ps u h =
     let p = (get_or loads u nobody).period in
-    children-is slots_alone loads n ps u ∙ ap (λ b. places_for (if b then min 1 p else p) n (used ps)) (sym h) ∙ sym (children-is turned_time loads n ps u)
+    children-is false loads n ps u ∙ ap (λ b. places_for (if b then min 1 p else p) n (used ps)) (sym h) ∙ sym (children-is true loads n ps u)
 
 -- after the first unit both rules have the same children
 turn-later : (loads : List Load) (n : ℕ) (ps : Prefix) (order : List ℕ) (plan : List Place) → has_no_place ps ≡ false → IsCanonical (line_by slots_alone loads n) ps order plan → IsCanonical (line_by turned_time loads n) ps order plan
@@ -106,9 +106,9 @@ turn-reached loads n (u ∷ order) plan all at k =
     let period = (get_or loads u nobody).period in
     let low = children-In (line_by slots_alone loads n) (no_places loads) u p k.0 in
     let size : length (no_places loads) ≡ length loads = length-map loads (λ _. None) in
-    let phase : p.phase < phases_by turned_time period (no_places loads) =
+    let phase : p.phase < phases_by turned_time loads (no_places loads) period =
     subst (λ b. p.phase < (if b then min 1 period else period)) (sym (none-placed loads)) (omega (arith, at, low.0)) in (
-      In-places turned_time loads n (no_places loads) u p phase low.1 low.2,
+      In-places true loads n (no_places loads) u p phase low.1 low.2,
       turn-later loads n (set (no_places loads) u (Some p)) order plan (has-place-set (no_places loads) u p (omega arith)) k.1,
     )
 

@@ -1,24 +1,13 @@
 -- What the strong children reach, and plans in one slot.
-use Rattle.std.specs.Prelude.{◌≡◌, ℕ, ◌≤◌, List, [], ◌∷◌, length, map, set, get_or, Some, All}
+use Rattle.std.specs.Prelude.{◌≡◌, ℕ, ◌≤◌, List, length, map, All}
 use Rattle.ec_units.specs.declared.slave.Place.{Place}
 use Rattle.ec_units.specs.declared.unit.Load.{Load}
 use Rattle.ec_loads.specs.Cost.{plan_items, tick_cost}
-use Rattle.ec_loads.specs.Held.{AreLoads, no_places}
+use Rattle.ec_loads.specs.Held.{AreLoads}
 use Rattle.ec_loads.specs.Legal.{IsLegal}
-use Rattle.ec_loads.specs.Search.{Prefix, nowhere}
-use Rattle.ec_loads.specs.Strong.{strong_children}
+use Rattle.ec_loads.specs.Line.{strong, line_by}
 use Rattle.ec_symmetry.specs.Orders.{IsOrder}
-use Rattle.ec_symmetry.specs.Reached.{In, CostsWithin}
-
--- from a prefix on, each unit of the order stands in the plan at a strong child of the prefix that the units before it made
-abbrev pub IsStrong : List Load → ℕ → Prefix → List ℕ → List Place → Type 0
-IsStrong loads n ps [] plan = Unit {0}
-IsStrong loads n ps (u ∷ order) plan =
-    In (get_or plan u nowhere) (strong_children loads n ps u) × IsStrong loads n (set ps u (Some (get_or plan u nowhere))) order plan
-
--- the strong children reach the plan from the empty prefix, unit by unit in this order
-abbrev pub IsStronglyReached : List Load → ℕ → List ℕ → List Place → Type 0
-IsStronglyReached loads n order plan = IsStrong loads n (no_places loads) order plan
+use Rattle.ec_symmetry.specs.Reached.{CostsWithin, IsReached}
 
 -- the plan uses slot 0 alone
 abbrev pub IsInFirstSlot : List Place → Type 0
@@ -29,7 +18,7 @@ IsInFirstSlot plan = All (λ p. p.slot ≡ 0) plan
 abbrev pub StrongChildrenReach : Type 0
 StrongChildrenReach =
     (loads : List Load) (n : ℕ) (order : List ℕ) (plan : List Place) → AreLoads loads → IsOrder (length loads) order → IsLegal loads n plan →
-    (other : List Place) × IsLegal loads n other × CostsWithin loads n other plan × (IsInFirstSlot plan → IsInFirstSlot other) × IsStronglyReached loads n order other
+    (other : List Place) × IsLegal loads n other × CostsWithin loads n other plan × (IsInFirstSlot plan → IsInFirstSlot other) × IsReached (line_by strong loads n) order other
 
 -- the plan with the same phases and every slot 0
 abbrev pub merged : List Place → List Place

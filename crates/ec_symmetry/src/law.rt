@@ -17,6 +17,7 @@ pub fn every_plan_is_reached_by()
     ensures { EveryPlanIsReachedBy }
 {
     every_plan_is_reached();
+    strong_children_reach();
 }
 
 /// A prefix that the children reach uses the least slots, without a gap, so that the number of its different slots

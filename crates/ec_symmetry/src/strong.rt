@@ -4,7 +4,9 @@
 ghost use Rattle.std.specs.Prelude.{◌≡◌, ℕ, ◌<◌, ◌≤◌, length, take};
 ghost use Rattle.ec_hyper.specs.Lcm.{lcm_of};
 ghost use Rattle.ec_loads.specs.Held.{AreLoads};
-ghost use Rattle.ec_loads.specs.Strong.{gcd, placed_periods, strong_phases, same_load, is_below, strong_children};
+ghost use Rattle.ec_loads.specs.Line.{strong, line_of};
+ghost use Rattle.ec_loads.specs.Search.{children};
+ghost use Rattle.ec_loads.specs.Strong.{gcd, placed_periods, strong_phases, same_load, is_below};
 ghost use Rattle.ec_symmetry.specs.Latest.{IsLatest, IsLater};
 
 use crate::child::{Children, choices_from};
@@ -123,7 +125,7 @@ fn phases_of(loads: &Loads, period: u16) -> u16
 /// period, by phase and then slot. Takes no memory.
 pub fn strong_choices(loads: &Loads, unit: usize) -> Children
     requires { unit < length loads.now.places }
-    ensures { result ≡ strong_children loads.now.loads loads.now.slots loads.now.places unit }
+    ensures { result ≡ children (line_of strong loads.now) loads.now.places unit }
 {
     let used = used_among(loads.places(), loads.slots().max(1));
     let load = loads.loads()[unit];

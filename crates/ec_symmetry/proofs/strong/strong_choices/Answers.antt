@@ -1,5 +1,5 @@
 use Rattle.std.proofs.Common.{◌≡◌, ◌∙◌, false, filter, not, get_or, min, max, sym, ap, rules}
-use Rattle.ec_loads.specs.Search.{nobody, used, places_for}
+use Rattle.ec_loads.specs.Search.{nobody, used, places_for, children}
 use Rattle.ec_loads.specs.Strong.{strong_phases, is_below, has_equal_above, strong_children}
 use Rattle.ec_symmetry.specs.Latest.{IsLatest}
 use Rattle.ec_symmetry.proofs.LatestLemmas.{filter-latest}
@@ -7,7 +7,7 @@ use Rattle.ec_symmetry.proofs.SlotLemmas.{places-enough}
 use Rattle.ec_symmetry.proofs.strong.strong_choices.Goals as goal
 
 pub returns : goal.returns
-unfolding strong_children
+unfolding children strong_children
 returns c =
     let held = c.args.loads.now in
     let u = c.args.unit in
