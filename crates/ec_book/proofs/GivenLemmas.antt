@@ -1,5 +1,5 @@
 -- A search that begins with a tree.
-use Rattle.std.proofs.Common.{◌≡◌, ℕ, List, [], ◌++◌, length, replicate, Option, refl, sym, ap, ◌∙◌, arith}
+use Rattle.std.proofs.Common.{◌≡◌, ℕ, List, [], ◌++◌, length, replicate, Option, refl, sym, ap, ◌∙◌, arith, subst, ◌≤◌}
 use Rattle.std.proofs.lemmas.List.{length-replicate, length-map}
 use Rattle.ec_units.specs.declared.unit.Unit.{Unit as SyncUnit}
 use Rattle.ec_units.specs.Load.{load_of, loads_of}
@@ -9,6 +9,7 @@ use Rattle.ec_loads.specs.Line.{turned_time, Line, line_by}
 use Rattle.ec_loads.specs.Shape.{Shape}
 use Rattle.ec_loads.specs.Search.{IsPartialTree, open_count}
 use Rattle.ec_cert.specs.declared.cert.Best.{Best}
+use Rattle.ec_cert.specs.declared.tree.Tree.{Tree}
 use Rattle.ec_cert.specs.BestPlan.{value_of, IsBestPlan}
 use Rattle.ec_symmetry.specs.Orders.{IsOrder}
 use Rattle.ec_book.specs.declared.report.Report.{Report}
@@ -63,13 +64,14 @@ order-given us n held order given is_order held_is is = rw (held_is, is) (rw (le
 -- what is true of each book is true of one that begins with a tree for these units
 pub kept-given : (us : List SyncUnit) (n : ℕ) (order : List ℕ) (best : Option Best) (given : Shape) (nodes : ℕ)
     → IsOrder (length us) order → IsBestPlan (loads_of us) n best → IsPartialTree (line_by turned_time (loads_of us) n) (value_of best) given (no_places (loads_of us)) order
-    → (held : Held) (pieces : List Piece) (prefixes : List (List Place)) (reports : List Report) (log : List Step) (room : ℕ)
+    → (held : Held) (pieces : List Piece) (prefixes : List (List Place)) (reports : List Report) (log : List Step) (room : ℕ) (leaves : List Tree) (most : ℕ)
     → held ≡ record { loads = loads_of us; slots = n; places = no_places (loads_of us) }
-    → pieces ≡ replicate (open_count given) Free → prefixes ≡ open_places (line_by turned_time (loads_of us) n) order given [] → reports ≡ [] → log ≡ []
-    → IsKept held order nodes pieces prefixes reports best 0 0 0 0 log given (value_of best) room
-kept-given us n order best given nodes is_order is_best tree held pieces prefixes reports log room held_is pieces_are prefixes_are reports_are log_is =
+    → pieces ≡ replicate (open_count given) Free → prefixes ≡ open_places (line_by turned_time (loads_of us) n) order given [] → reports ≡ [] → log ≡ [] → leaves ≡ [] → length prefixes ≤ most
+    → IsKept held order nodes pieces prefixes reports best 0 0 0 0 log given (value_of best) room leaves most
+kept-given us n order best given nodes is_order is_best tree held pieces prefixes reports log room leaves most held_is pieces_are prefixes_are reports_are log_is none enough =
     rw (held_is, pieces_are, prefixes_are, reports_are, log_is) (record {
       for = record { order_is = rw (length-map us load_of) is_order; empty = refl; best_is = is_best };
       counted = counted-given given (value_of best) nodes room;
       grown = grown-given given (line_by turned_time (loads_of us) n) order (value_of best) tree;
+      spare = record { none = none; each = subst (λ (ps : List (List Place)). length ps ≤ most) prefixes_are enough };
     })

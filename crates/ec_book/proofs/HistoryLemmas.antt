@@ -1,5 +1,6 @@
 -- A history goes on by one step.
-use Rattle.std.proofs.Common.{◌≡◌, ℕ, zero, suc, ◌+◌, ◌≤◌, List, [], ◌∷◌, ◌++◌, length, set, slice_get, replicate, Some, refl, sym, ap, ◌∙◌, subst, arith, inl, inr, ◌⊎◌}
+use Rattle.std.proofs.Common.{◌≡◌, ℕ, zero, suc, ◌+◌, ◌≤◌, List, [], ◌∷◌, ◌++◌, length, set, slice_get, replicate, Option, Some, None, refl, sym, ap, ◌∙◌, subst, arith, inl, inr, ◌⊎◌}
+use Rattle.ec_loads.specs.Search.{IsAtMost}
 use Rattle.ec_book.specs.Views.{BookView}
 use Rattle.ec_book.specs.Kept.{NoneFreeBelow}
 use Rattle.ec_book.specs.Faults.{HasNothing}
@@ -7,7 +8,7 @@ use Rattle.ec_book.specs.declared.step.Step.{Step}
 use Rattle.ec_book.specs.declared.step.Step.TheVariants.{Took, Reported, Better, Back}
 use Rattle.ec_book.specs.declared.piece.Piece.{Piece}
 use Rattle.ec_book.specs.declared.piece.Piece.TheVariants.{Free, Taken, Ended}
-use Rattle.ec_book.specs.Steps.{PiecesState, PiecesStep, IsHistory, after, replay, granted, grant_of, taken_count, taken_one, live_count}
+use Rattle.ec_book.specs.Steps.{PiecesState, PiecesStep, IsHistory, IsBelow, after, replay, granted, grant_of, taken_count, taken_one, live_count}
 
 pub history-push : (n : ℕ) (s : PiecesState) (es : List Step) (e : Step) (t u : PiecesState) → IsHistory n s es t → PiecesStep n t e u → IsHistory n s (es ++ e ∷ []) u
 history-push n s [] e t u h step = (u, subst (λ w. PiecesStep n w e u) h step, refl)
@@ -23,6 +24,34 @@ step-after n s (Back w p) t h = h.2
 pub history-replays : (n : ℕ) (s : PiecesState) (es : List Step) (t : PiecesState) → IsHistory n s es t → replay s es ≡ t
 history-replays n s [] t h = sym h
 history-replays n s (e ∷ es) t h = ap (λ w. replay w es) (sym (step-after n s e h.0 h.1)) ∙ history-replays n h.0 es t h.2
+
+at_most-same : (v : Option ℕ) → IsAtMost v v
+at_most-same None = tt
+at_most-same (Some b) = omega arith
+
+at_most-trans : (a b c : Option ℕ) → IsAtMost a b → IsAtMost b c → IsAtMost a c
+at_most-trans (Some x) (Some y) (Some z) h k = omega (arith, h, k)
+at_most-trans (Some x) (Some y) None h k = tt
+at_most-trans (Some x) None (Some z) h k = absurd k
+at_most-trans (Some x) None None h k = tt
+at_most-trans None (Some y) c h k = absurd h
+at_most-trans None None c h k = k
+
+below-at_most : (v : ℕ) (value : Option ℕ) → IsBelow v value → IsAtMost (Some v) value
+below-at_most v None below = tt
+below-at_most v (Some w) below = omega (arith, below)
+
+-- the value after a step is at most the one before it
+step-falls : (n : ℕ) (s : PiecesState) (e : Step) (t : PiecesState) → PiecesStep n s e t → IsAtMost t.value s.value
+step-falls n s (Took w p g) t h = subst (λ (x : PiecesState). IsAtMost x.value s.value) (sym (step-after n s (Took w p g) t h)) (at_most-same s.value)
+step-falls n s (Reported w p k first count) t h = subst (λ (x : PiecesState). IsAtMost x.value s.value) (sym (step-after n s (Reported w p k first count) t h)) (at_most-same s.value)
+step-falls n s (Better w v) t h = subst (λ (x : PiecesState). IsAtMost x.value s.value) (sym (step-after n s (Better w v) t h)) (below-at_most v s.value h.0)
+step-falls n s (Back w p) t h = subst (λ (x : PiecesState). IsAtMost x.value s.value) (sym (step-after n s (Back w p) t h)) (at_most-same s.value)
+
+-- a legal history only lowers the value
+pub history-falls : (n : ℕ) (s : PiecesState) (es : List Step) (t : PiecesState) → IsHistory n s es t → IsAtMost t.value s.value
+history-falls n s [] t h = subst (λ (x : PiecesState). IsAtMost x.value s.value) (sym h) (at_most-same s.value)
+history-falls n s (e ∷ es) t h = at_most-trans t.value h.0.value s.value (history-falls n h.0 es t h.2) (step-falls n s e h.0 h.1)
 
 pub granted-set : (ps : List Piece) (i : ℕ) (old new : Piece) → slice_get ps i ≡ Some old → granted (set ps i new) + grant_of old ≡ granted ps + grant_of new
 granted-set [] i old new h = absurd (cc)

@@ -11,10 +11,11 @@ pub record IsBookOf (us : List SyncUnit) (n : ℕ) (order : List ℕ) (b : BookV
   pub slots_is : b.slots ≡ n
   pub order_is : b.order ≡ order
 
--- a book whose search was given this tree and this value
-pub record BeganWith (given : Shape) (value : Option ℕ) (b : BookView) : Type 0 where
+-- a book whose search was given this tree, this value and so many nodes
+pub record BeganWith (given : Shape) (value : Option ℕ) (nodes : ℕ) (b : BookView) : Type 0 where
   pub given_is : b.given ≡ given
   pub value_is : b.given_value ≡ value
+  pub nodes_is : b.nodes ≡ nodes
 
 -- two books for the same units and order, whose searches were given the same
 pub record IsSameSearch (a b : BookView) : Type 0 where
@@ -23,3 +24,4 @@ pub record IsSameSearch (a b : BookView) : Type 0 where
   pub order_is : b.order ≡ a.order
   pub given_is : b.given ≡ a.given
   pub value_is : b.given_value ≡ a.given_value
+  pub nodes_is : b.nodes ≡ a.nodes

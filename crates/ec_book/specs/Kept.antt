@@ -1,11 +1,12 @@
 -- What is true of each book.
-use Rattle.std.specs.Prelude.{◌≡◌, ◌≢◌, ℕ, ◌+◌, ◌<◌, ◌≤◌, List, Option, Some, length, slice_get, All}
+use Rattle.std.specs.Prelude.{◌≡◌, ◌≢◌, ℕ, ◌+◌, ◌<◌, ◌≤◌, List, [], Option, Some, length, slice_get, All}
 use Rattle.ec_units.specs.declared.slave.Place.{Place}
 use Rattle.ec_loads.specs.Held.{Held, no_places}
 use Rattle.ec_loads.specs.Line.{turned_time, Line, line_by}
 use Rattle.ec_loads.specs.Search.{node_count, open_count}
 use Rattle.ec_loads.specs.Shape.{Shape}
 use Rattle.ec_cert.specs.declared.cert.Best.{Best}
+use Rattle.ec_cert.specs.declared.tree.Tree.{Tree}
 use Rattle.ec_cert.specs.BestPlan.{value_of, IsBestPlan}
 use Rattle.ec_symmetry.specs.Orders.{IsOrder, IsReachedPrefix}
 use Rattle.ec_book.specs.declared.step.Step.{Step}
@@ -45,8 +46,14 @@ pub record IsGrown (given : Shape) (line : Line) (order : List ℕ) (pieces : Li
   pub pieces_are : HasPieces (grown (numbered 0 given) reports) pieces (node_count given + spent)
   pub tree : NumberedTree (StandsAt line.loads order prefixes) line value (grown (numbered 0 given) reports) (no_places line.loads) order
 
+-- no leaf is made yet, and so many that can be made without memory are enough for each piece
+pub record HasLeaves (leaves : List Tree) (most : ℕ) (prefixes : List (List Place)) : Type 0 where
+  pub none : leaves ≡ []
+  pub each : length prefixes ≤ most
+
 pub record IsKept (held : Held) (order : List ℕ) (nodes : ℕ) (pieces : List Piece) (prefixes : List (List Place)) (reports : List Report) (best : Option Best)
-    (spent granted taken low : ℕ) (log : List Step) (given : Shape) (given_value : Option ℕ) (room : ℕ) : Type 0 where
+    (spent granted taken low : ℕ) (log : List Step) (given : Shape) (given_value : Option ℕ) (room : ℕ) (leaves : List Tree) (most : ℕ) : Type 0 where
   pub for : IsFor held order best
   pub counted : IsCounted (start given given_value) nodes pieces (value_of best) spent granted taken low log room
   pub grown : IsGrown given (line_by turned_time held.loads held.slots) order pieces prefixes reports (value_of best) spent
+  pub spare : HasLeaves leaves most prefixes

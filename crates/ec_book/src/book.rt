@@ -31,7 +31,7 @@ use crate::plans::{not_below, plan_cost};
 use crate::report::Report;
 use crate::step::{Step, Steps};
 use crate::taken::{Taken, Took};
-use ec_cert::{Best, Cert, Subtree, Tree, copy_of};
+use ec_cert::{Best, Cert, Subtree, Tree};
 use ec_loads::{Illegal, Loads, Places, Plan};
 use ec_units::{Load, Place, Units};
 use std::alloc::{AllocError, Global};
@@ -42,7 +42,8 @@ use std::marker::Model;
 /// given, in preorder from 0; a search that begins afresh was given an open leaf, so its piece 0 is the empty prefix.
 /// The open leaves of a reported subtree become pieces with the next numbers, in preorder.
 ///
-/// It keeps the allocator that it was made with.
+/// It keeps the allocator that it was made with. With each piece it makes room for the open leaf that this piece is where it
+/// doesn't end, so that the end of a search takes no memory.
 #[derive(Drop)]
 pub struct Book {
     loads: Loads,
@@ -50,6 +51,7 @@ pub struct Book {
     nodes: u64,
     pieces: Vec<Piece>,
     prefixes: Vec<Places>,
+    leaves: Vec<Tree>,
     reports: Vec<Report>,
     best: Option<Best>,
     spent: u64,
@@ -75,7 +77,7 @@ impl Model for Book {
 
     ghost view = { λ b. book_view b.loads.loads b.loads.slots b.order.items b.nodes b.pieces.items b.prefixes.items b.best b.spent b.log.items (shape_of b.given) b.given_value };
 
-    ghost invariant = { λ b. IsKept b.loads b.order.items b.nodes b.pieces.items b.prefixes.items b.reports.items b.best b.spent b.held b.taken b.low b.log.items (shape_of b.given) b.given_value (vec_capacity b.log) };
+    ghost invariant = { λ b. IsKept b.loads b.order.items b.nodes b.pieces.items b.prefixes.items b.reports.items b.best b.spent b.held b.taken b.low b.log.items (shape_of b.given) b.given_value (vec_capacity b.log) b.leaves.items (vec_capacity b.leaves) };
 }
 
 /// A finished search: the best plan, if one is known, the tree that its reports make of the tree that it was given,
@@ -133,31 +135,19 @@ fn value_in(best: &Option<Best>) -> Option<u64>
     }
 }
 
-/// The same best plan once more.
-fn copy_of_best(alloc: Global, best: &Option<Best>) -> Result<Option<Best>, AllocError>
-    ensures { IfOk result (λ copy. copy ≡ best.now) }
-{
-    let Some(best) = best else {
-        return Ok(None);
-    };
-    let places = Vec::from_slice(alloc, best.plan.places.as_slice())?;
-    Ok(Some(Best {
-        busiest: best.busiest,
-        plan: Plan {
-            places: Places::new(places),
-        },
-    }))
-}
-
-/// Takes in the places that lead to new pieces, and makes room for these and for one more report; gives how many they
-/// are. Where the places aren't known or memory is refused they come back, and the lists are as before.
+/// Takes in the places that lead to new pieces, and makes room for these, for their leaves and for one more report; gives
+/// how many they are. Where the places aren't known or memory is refused they come back, and the lists are as before.
 fn add_opened(
     pieces: &mut Vec<Piece>,
     reports: &mut Vec<Report>,
     prefixes: &mut Vec<Places>,
+    leaves: &mut Vec<Tree>,
     opened: Option<Vec<Places>>,
 ) -> Result<usize, Option<Vec<Places>>>
     ensures same { (pieces.new.items ≡ pieces.old.items) × (reports.new.items ≡ reports.old.items) }
+    ensures leaves { leaves.new.items ≡ leaves.old.items }
+    ensures stays { vec_capacity leaves.old ≤ vec_capacity leaves.new }
+    ensures leaf { IfOk result (λ n. vec_len pieces.new + n ≤ vec_capacity leaves.new) }
     ensures known { IfOk result (λ n. IsAddedTo opened n prefixes.old.items prefixes.new.items) }
     ensures room { IfOk result (λ n. (vec_len pieces.new + n ≤ vec_capacity pieces.new) × (vec_len reports.new + 1 ≤ vec_capacity reports.new)) }
     ensures kept { OnErr result (prefixes.new.items ≡ prefixes.old.items) }
@@ -170,6 +160,9 @@ fn add_opened(
         return Err(Some(opened));
     };
     let Ok(()) = reports.reserve(1) else {
+        return Err(Some(opened));
+    };
+    let Ok(()) = leaves.reserve(pieces.capacity()) else {
         return Err(Some(opened));
     };
     let Ok(()) = prefixes.append(&mut opened) else {
@@ -201,6 +194,7 @@ impl Book {
         pieces.push(Piece::Free)?;
         let mut prefixes = Vec::new(alloc);
         prefixes.push(Places::new(Vec::new(alloc)))?;
+        let leaves = Vec::with_capacity(alloc, 1)?;
         let loads = Loads::new(alloc, units)?;
         Ok(Book {
             loads,
@@ -208,6 +202,7 @@ impl Book {
             nodes,
             pieces,
             prefixes,
+            leaves,
             reports: Vec::new(alloc),
             best: None,
             spent: 0,
@@ -222,21 +217,27 @@ impl Book {
 
     /// A book that goes on with the tree of a certificate for these units, where at most so many nodes more may be split
     /// or closed: its pieces are the open leaves of that tree, in preorder from 0, and its best plan is the
-    /// certificate's. The book has copies of all these.
-    pub fn resume(alloc: Global, units: &Units, cert: &Cert, nodes: u64) -> Result<Book, AllocError>
-        requires order { IsOrder (length units.now.units) cert.now.order }
-        requires best { IsBestPlan (loads_of units.now.units) units.now.slots cert.now.best }
-        requires tree { IsPartialTree (line_by turned_time (loads_of units.now.units) units.now.slots) (value_of cert.now.best) (shape_of cert.now.tree) (no_places (loads_of units.now.units)) cert.now.order }
-        ensures { IfOk result (λ b. b ≡ book_view (loads_of units.now.units) units.now.slots cert.now.order nodes (replicate (open_count (shape_of cert.now.tree)) Free)
-            (open_places (line_by turned_time (loads_of units.now.units) units.now.slots) cert.now.order (shape_of cert.now.tree) []) cert.now.best 0 [] (shape_of cert.now.tree) (value_of cert.now.best)) }
+    /// certificate's. Nothing of the certificate is copied.
+    pub fn resume(alloc: Global, units: &Units, cert: Cert, nodes: u64) -> Result<Book, AllocError>
+        requires order { IsOrder (length units.now.units) cert.order }
+        requires best { IsBestPlan (loads_of units.now.units) units.now.slots cert.best }
+        requires tree { IsPartialTree (line_by turned_time (loads_of units.now.units) units.now.slots) (value_of cert.best) (shape_of cert.tree) (no_places (loads_of units.now.units)) cert.order }
+        ensures { IfOk result (λ b. b ≡ book_view (loads_of units.now.units) units.now.slots cert.order nodes (replicate (open_count (shape_of cert.tree)) Free)
+            (open_places (line_by turned_time (loads_of units.now.units) units.now.slots) cert.order (shape_of cert.tree) []) cert.best 0 [] (shape_of cert.tree) (value_of cert.best)) }
     {
-        let order = Vec::from_slice(alloc, cert.order.as_slice())?;
-        let best = copy_of_best(alloc, &cert.best)?;
-        let given = copy_of(alloc, &cert.tree)?;
+        let Cert {
+            order,
+            best,
+            tree: given,
+            ..
+        } = cert;
+        let order = order.into_vec();
         let loads = Loads::new(alloc, units)?;
         let prefixes = opened_by(alloc, &loads, order.as_slice(), &[], &given)?;
-        let mut pieces = Vec::with_capacity(alloc, prefixes.len())?;
-        add_free(&mut pieces, prefixes.len());
+        let count = prefixes.len();
+        let mut pieces = Vec::with_capacity(alloc, count)?;
+        let leaves = Vec::with_capacity(alloc, count)?;
+        add_free(&mut pieces, count);
         let given_value = value_in(&best);
         Ok(Book {
             loads,
@@ -244,6 +245,7 @@ impl Book {
             nodes,
             pieces,
             prefixes,
+            leaves,
             reports: Vec::new(alloc),
             best,
             spent: 0,
@@ -487,6 +489,7 @@ impl Book {
             &mut self.pieces,
             &mut self.reports,
             &mut self.prefixes,
+            &mut self.leaves,
             opened,
         ) {
             Ok(count) => count,
@@ -573,17 +576,12 @@ impl Book {
         count_live(self.pieces.as_slice())
     }
 
-    /// What came of the search; it takes time and memory in proportion to the whole. Where memory runs out the book is
-    /// handed back.
+    /// What came of the search; it takes time in proportion to the whole, and no memory. So the book is never handed back.
     pub fn finish(self) -> Result<Finished, (Book, AllocError)>
         ensures ok { IfOk result (IsFinishedOf self) }
-        ensures err { IfErr result (λ e. e.0 ≡ self) }
+        ensures always { OnErr result ⊥ }
     {
-        let alloc = *self.log.allocator();
-        let built = match open_leaves(alloc, self.pieces.len()) {
-            Ok(built) => built,
-            Err(error) => return Err((self, error)),
-        };
+        let built = open_leaves(self.leaves, self.pieces.len());
         let tree = assembled(self.given, self.reports, built);
         Ok(Finished {
             best: self.best,

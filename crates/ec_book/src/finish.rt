@@ -1,6 +1,6 @@
 //! The tree that the reports make.
 
-ghost use Rattle.std.specs.Prelude.{◌≡◌, ◌≤◌, IfOk, length, replicate};
+ghost use Rattle.std.specs.Prelude.{◌≡◌, ◌≤◌, [], length, replicate, vec_capacity};
 ghost use Rattle.ec_loads.specs.Search.{open_count};
 ghost use Rattle.ec_cert.specs.Shapes.{shape_of};
 ghost use Rattle.ec_cert.specs.declared.tree.Tree.{OpenLeaf};
@@ -10,18 +10,19 @@ ghost use Rattle.ec_book.specs.Grown.{Chain, grown, shape_at};
 use crate::report::Report;
 use crate::tree::filled;
 use ec_cert::Tree;
-use std::alloc::{AllocError, Global};
 
-/// As many open leaves.
-pub(crate) fn open_leaves(alloc: Global, count: usize) -> Result<Vec<Tree>, AllocError>
-    ensures { IfOk result (λ v. v.items ≡ replicate count OpenLeaf) }
+/// As many open leaves, for which there is room.
+pub(crate) fn open_leaves(room: Vec<Tree>, count: usize) -> Vec<Tree>
+    requires none { room.items ≡ [] }
+    requires room { count ≤ vec_capacity room }
+    ensures { result.items ≡ replicate count OpenLeaf }
 {
-    let mut built = Vec::with_capacity(alloc, count)?;
+    let mut built = room;
     for i in 0..count {
         let _ = i;
-        built.push(Tree::OpenLeaf)?;
+        built.push_reserved(Tree::OpenLeaf);
     }
-    Ok(built)
+    built
 }
 
 /// The tree that the reports make of the given one, from the last report to the first.

@@ -9,10 +9,10 @@ use Rattle.ec_book.specs.Books.{IsBookOf, BeganWith}
 use Rattle.ec_book.specs.Finishing.{IsFinishedOf}
 use Rattle.ec_seats.specs.Seats.{IsFor}
 
--- it came of some book for these loads, this slot count and this order, whose search was given this tree and this value
-abbrev pub IsClosedFor : List Load → ℕ → List ℕ → Shape → Option ℕ → Finished → Type 0
-IsClosedFor loads n order given value f = (b : BookView) × IsFor loads n order b × BeganWith given value b × IsFinishedOf b f
+-- it came of some book for these loads, this slot count and this order, whose search was given this tree, this value and so many nodes
+abbrev pub IsClosedFor : List Load → ℕ → List ℕ → Shape → Option ℕ → ℕ → Finished → Type 0
+IsClosedFor loads n order given value nodes f = (b : BookView) × IsFor loads n order b × BeganWith given value nodes b × IsFinishedOf b f
 
--- it came of some book for these units and this order, whose search was given this tree and this value
-abbrev pub IsCrewed : List SyncUnit → ℕ → List ℕ → Shape → Option ℕ → Finished → Type 0
-IsCrewed us n order given value f = (b : BookView) × IsBookOf us n order b × BeganWith given value b × IsFinishedOf b f
+-- it came of some book for these units and this order, whose search was given this tree, this value and so many nodes
+abbrev pub IsCrewed : List SyncUnit → ℕ → List ℕ → Shape → Option ℕ → ℕ → Finished → Type 0
+IsCrewed us n order given value nodes f = (b : BookView) × IsBookOf us n order b × BeganWith given value nodes b × IsFinishedOf b f

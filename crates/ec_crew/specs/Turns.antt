@@ -27,6 +27,6 @@ LeavesPiece steps piece (became.Again v) = Unit {0}
 LeavesPiece steps piece (became.Stopped e) = e ≢ ended.Refused → holds steps piece ≡ false
 
 -- where a piece is to be explored again, it is at the value of some book of the search, and that is above the value at which the leaves hold
-abbrev pub FindsValue : List Load → ℕ → List ℕ → Shape → Option ℕ → Option ℕ → Turn → Type 0
-FindsValue loads n order given value threshold (became.Again v) = HasBook loads n order given value (λ b. (v ≡ value_of b.best) × (¬ (IsAtMost v threshold)))
-FindsValue loads n order given value threshold _ = Unit {0}
+abbrev pub FindsValue : List Load → ℕ → List ℕ → Shape → Option ℕ → ℕ → Option ℕ → Turn → Type 0
+FindsValue loads n order given value nodes threshold (became.Again v) = HasBook loads n order given value nodes (λ b. (v ≡ value_of b.best) × (¬ (IsAtMost v threshold)))
+FindsValue loads n order given value nodes threshold _ = Unit {0}

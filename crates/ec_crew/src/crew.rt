@@ -3,7 +3,7 @@
 ghost use Rattle.std.specs.Prelude.{◌≡◌, ◌≢◌, ◌≤◌, IfOk, [], length, vec_len, vec_capacity, All};
 ghost use Rattle.ec_symmetry.specs.Orders.{IsOrder};
 ghost use Rattle.ec_book.specs.Books.{IsBookOf, BeganWith};
-ghost use Rattle.ec_seats.specs.Seats.{AreOf};
+ghost use Rattle.ec_seats.specs.Seats.{AreOf, IsOf};
 ghost use Rattle.ec_seats.specs.Closing.{IsJournal};
 ghost use Rattle.ec_tickets.specs.Lowest.{IsNewReader};
 ghost use Rattle.ec_crew.specs.Crews.{IsClosedFor, IsCrewed};
@@ -30,7 +30,7 @@ use std::thread::{JoinHandle, Threads};
 pub struct Crewed {
     pub finished: Finished,
     /// The book refused one of them what it told, or the notes of the workers aren't those of the book; else memory was
-    /// refused to one of them; else all were done.
+    /// refused to one of them; else the time was over; else all were done.
     pub ended: Ended,
 }
 
@@ -41,31 +41,23 @@ pub enum CrewFault {
     OutOfMemory,
     /// No worker could be started.
     Spawn,
-    /// Memory was refused when the book was to be closed.
-    Unclosed,
-    /// A seat was of another search than the book.
-    OtherUnits,
 }
 
-/// Closes the book, when all seats are back.
-fn closed<S: Search>(
-    alloc: Global,
-    shared: Shared<S>,
-    seats: Vec<Seat<'_, '_, S>>,
-    ended: Ended,
-) -> Result<Crewed, CrewFault>
-    requires { vec_len seats ≡ S.parts }
-    ensures closed { IfOk result (λ c. IsClosedFor S.loads S.slots S.order S.given S.given_value c.finished) }
-    ensures journal { IfOk result (λ c. c.ended ≢ Refused → (c.ended ≡ ended) × IsJournal seats.entry.items c.finished.log) }
+/// Closes the book, when all seats are back. Takes no memory.
+fn closed<S: Search>(shared: Shared<S>, seats: Vec<Seat<'_, '_, S>>, ended: Ended) -> Crewed
+    requires count { vec_len seats ≡ S.parts }
+    requires ours { All (λ s. IsOf S.loads S.slots S.order s) seats.items }
+    ensures closed { IsClosedFor S.loads S.slots S.order S.given S.given_value S.nodes result.finished }
+    ensures journal { result.ended ≢ Refused → (result.ended ≡ ended) × IsJournal seats.entry.items result.finished.log }
 {
-    match shared.close(alloc, seats) {
-        Ok(finished) => Ok(Crewed { finished, ended }),
-        Err(CloseFault::Journal(finished)) => Ok(Crewed {
+    match shared.close(seats) {
+        Ok(finished) => Crewed { finished, ended },
+        Err(CloseFault::Journal(finished)) => Crewed {
             finished,
             ended: Ended::Refused,
-        }),
-        Err(CloseFault::OutOfMemory) => Err(CrewFault::Unclosed),
-        Err(CloseFault::OtherUnits) => Err(CrewFault::OtherUnits),
+        },
+        Err(CloseFault::OutOfMemory) => unreachable!(),
+        Err(CloseFault::OtherUnits) => unreachable!(),
     }
 }
 
@@ -156,9 +148,9 @@ fn search_on<S: Search + Send + Sync, R: Threads + Wait + Sync, G: Gate + Sync>(
     requires order { IsOrder (length units.now.units) order.now }
     requires search { AreOf S.loads S.slots S.order units.now.units units.now.slots order.now }
     requires book { IsBookOf units.now.units units.now.slots order.now book }
-    requires began { BeganWith S.given S.given_value book }
+    requires began { BeganWith S.given S.given_value S.nodes book }
     requires unused { book.log ≡ [] }
-    ensures { IfOk result (λ c. IsClosedFor S.loads S.slots S.order S.given S.given_value c.finished) }
+    ensures { IfOk result (λ c. IsClosedFor S.loads S.slots S.order S.given S.given_value S.nodes c.finished) }
 {
     let opening = Opening {
         value: book.value(),
@@ -185,13 +177,13 @@ fn search_on<S: Search + Send + Sync, R: Threads + Wait + Sync, G: Gate + Sync>(
     let Some(ended) = run_all(rt, alloc, &shared, slots.as_slice(), opening, gate, handles) else {
         return Err(CrewFault::Spawn);
     };
-    closed(alloc, shared, out_of_slots(slots, back), ended)
+    Ok(closed(shared, out_of_slots(slots, back), ended))
 }
 
 /// Searches on a book on which nothing has happened, with 1 to 16 workers, each in a thread of its own. They begin at the
 /// value of the book, if it has one. Worker 0 first offers the greedy plan, where `greedy` says so, and splits and closes
 /// single nodes until as many pieces are free as there are workers; the free pieces are then dealt to the workers in
-/// turn. `gate` is told before each later node. What the workers did comes back in the finished book, in whatever order
+/// turn. `gate` is told before each later node, and asked whether the time is over before each later piece. What the workers did comes back in the finished book, in whatever order
 /// they did it; a book that goes on with a tree was given that tree.
 pub fn search_by_crew<R: Threads + Wait + Sync, G: Gate + Sync>(
     rt: &R,
@@ -207,7 +199,7 @@ pub fn search_by_crew<R: Threads + Wait + Sync, G: Gate + Sync>(
     requires order { IsOrder (length units.now.units) order.now }
     requires book { IsBookOf units.now.units units.now.slots order.now book }
     requires unused { book.log ≡ [] }
-    ensures { IfOk result (λ c. IsCrewed units.now.units units.now.slots order.now book.given book.given_value c.finished) }
+    ensures { IfOk result (λ c. IsCrewed units.now.units units.now.slots order.now book.given book.given_value book.nodes c.finished) }
 {
     let blank = Blank::new(workers as u64);
     search_on::<Brand, R, G>(rt, alloc, blank, book, units, order, workers, greedy, gate)

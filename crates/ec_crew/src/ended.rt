@@ -9,4 +9,6 @@ pub enum Ended {
     Memory,
     /// The book refused what it was told.
     Refused,
+    /// The time for the search was over.
+    Time,
 }

@@ -58,7 +58,8 @@ pub(crate) fn out_of_slots<'u, 'o, S: Search>(
 ) -> Vec<Seat<'u, 'o, S>>
     requires empty { vec_len seats ≡ 0 }
     requires room { vec_len slots ≤ vec_capacity seats }
-    ensures { vec_len result ≡ vec_len slots.entry }
+    ensures count { vec_len result ≡ vec_len slots.entry }
+    ensures ours { All (λ s. IsOf S.loads S.slots S.order s) result.items }
 {
     let mut seats = seats;
     for slot in slots {
@@ -121,7 +122,8 @@ pub(crate) fn work_all<S: Search + Send + Sync, R: Threads + Wait + Sync, G: Gat
     )
 }
 
-/// Why two workers ended: the book refused one of them, else memory was refused, else both were done.
+/// Why two workers ended: the book refused one of them, else memory was refused, else the time was over, else both were
+/// done.
 fn worse(a: Ended, b: Ended) -> Ended
     ensures refused { (result ≡ Refused) ↔ ((a ≡ Refused) ⊎ (b ≡ Refused)) }
     ensures done { (result ≡ Done) ↔ ((a ≡ Done) × (b ≡ Done)) }
@@ -129,6 +131,7 @@ fn worse(a: Ended, b: Ended) -> Ended
     match (a, b) {
         (Ended::Refused, _) | (_, Ended::Refused) => Ended::Refused,
         (Ended::Memory, _) | (_, Ended::Memory) => Ended::Memory,
+        (Ended::Time, _) | (_, Ended::Time) => Ended::Time,
         (Ended::Done, Ended::Done) => Ended::Done,
     }
 }

@@ -48,7 +48,7 @@ pub(crate) fn worked_off<S: Search, R: Wait, G: Gate>(
 }
 
 /// Takes a piece and explores it, by the tickets before the lowest free one, and makes tickets of the pieces of the reports
-/// on it. None where the worker goes on; else why it ends. Where nothing can be handed out yet it waits a moment:
+/// on it. None where the worker goes on; else why it ends, as where the time is over. Where nothing can be handed out yet it waits a moment:
 /// longer each time for the first seven asks in a row, then as long as the system runs another thread. It never sleeps.
 fn worked<S: Search, R: Wait, G: Gate>(
     rt: &R,
@@ -59,6 +59,9 @@ fn worked<S: Search, R: Wait, G: Gate>(
     backoff: &Backoff,
     gate: &G,
 ) -> Option<Ended> {
+    if gate.is_over() {
+        return Some(Ended::Time);
+    }
     match post.ask(rt, shared, MOST_GRANT) {
         Ok(Some(Taken::Piece(took))) => {
             backoff.reset();
@@ -77,7 +80,8 @@ fn worked<S: Search, R: Wait, G: Gate>(
     }
 }
 
-/// Takes pieces until none can be handed out any more, memory is refused or the book refuses a call; says which. It goes
+/// Takes pieces until none can be handed out any more, memory is refused, the book refuses a call or the time is over; says
+/// which. It goes
 /// by its tickets before it asks for the lowest free piece, and makes tickets of the pieces of its own reports. While
 /// nothing can be handed out yet it asks again: after seven waits that grow it only lets other threads run before each ask.
 pub(crate) fn work<S: Search, R: Wait, G: Gate>(

@@ -13,6 +13,8 @@ pub enum Cut {
     Budget,
     /// Memory was refused.
     Memory,
+    /// The time for the search was over, and a leaf is still open.
+    Time,
 }
 
 /// What comes of a search. Costs are in wire bytes.

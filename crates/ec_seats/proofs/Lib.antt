@@ -1,3 +1,4 @@
 pub mod Holding
 pub mod Books
 pub mod Sending
+pub mod Journaled

@@ -55,19 +55,19 @@ pub record IsFor (loads : List Load) (n : ℕ) (order : List ℕ) (b : BookView)
   pub slots_is : b.slots ≡ n
   pub order_is : b.order ≡ order
 
--- some book for these, whose search was given this tree and this value, has it, with a legal history and with a best plan, if any, that is legal and costs what is
+-- some book for these, whose search was given this tree, this value and so many nodes, has it, with a legal history and with a best plan, if any, that is legal and costs what is
 -- stated
-pub record HasBook (loads : List Load) (n : ℕ) (order : List ℕ) (given : Shape) (value : Option ℕ) (fact : BookView → Type 0) : Type 0 where
+pub record HasBook (loads : List Load) (n : ℕ) (order : List ℕ) (given : Shape) (value : Option ℕ) (nodes : ℕ) (fact : BookView → Type 0) : Type 0 where
   pub book : BookView
   pub for : IsFor loads n order book
-  pub began : BeganWith given value book
+  pub began : BeganWith given value nodes book
   pub history : IsHistory book.nodes (opening book) book.log (state_of book)
   pub best : IsBestPlan book.loads book.slots book.best
   pub has : fact book
 
 -- the same of the seat's units and order
-abbrev pub HasSeatBook : SeatView → Shape → Option ℕ → (BookView → Type 0) → Type 0
-HasSeatBook s given value fact = HasBook (loads_of s.units) s.slots s.order given value fact
+abbrev pub HasSeatBook : SeatView → Shape → Option ℕ → ℕ → (BookView → Type 0) → Type 0
+HasSeatBook s given value nodes fact = HasBook (loads_of s.units) s.slots s.order given value nodes fact
 
 -- the seat with one more step
 abbrev pub noted : SeatView → Step → SeatView
@@ -90,9 +90,9 @@ abbrev pub IsSeatFault : Type 0 → (BookFault → Type 0) → BookFault → Typ
 IsSeatFault ours why e = (ours × why e) ⊎ ((¬ ours) × (e ≡ fault.Stranger))
 
 -- why a plan is refused from a seat: it isn't legal; else, of some book, it isn't better, or memory was refused
-abbrev pub IsSeatPlanFault : SeatView → Shape → Option ℕ → List Place → BookFault → Type 0
-IsSeatPlanFault s given value plan (fault.Illegal i) = IsIllegalBy (loads_of s.units) s.slots plan i
-IsSeatPlanFault s given value plan e = (v : ℕ) × IsPlanOf (loads_of s.units) s.slots plan v × HasSeatBook s given value (λ b. IsOfferFault (value_of b.best) v e)
+abbrev pub IsSeatPlanFault : SeatView → Shape → Option ℕ → ℕ → List Place → BookFault → Type 0
+IsSeatPlanFault s given value nodes plan (fault.Illegal i) = IsIllegalBy (loads_of s.units) s.slots plan i
+IsSeatPlanFault s given value nodes plan e = (v : ℕ) × IsPlanOf (loads_of s.units) s.slots plan v × HasSeatBook s given value nodes (λ b. IsOfferFault (value_of b.best) v e)
 
 -- why a piece isn't given back: it isn't the worker's by the book; or it is, and the worker doesn't hold it by its own steps
 abbrev pub IsBackFault : Bool → BookView → ℕ → ℕ → BookFault → Type 0

@@ -13,7 +13,6 @@ use crate::seat::Seat;
 use crate::shared::Shared;
 use ec_book::{Book, Finished};
 use ec_units::Load;
-use std::alloc::Global;
 use std::sync::ledger::Share;
 
 /// Whether all seats are for these bytes and periods, this slot count and this order.
@@ -59,21 +58,15 @@ fn counted<S: Search>(locked: Locked<S>, seats: Vec<Seat<'_, '_, S>>) -> Book
 }
 
 /// Ends the book of these seats: the receipts are compared with the log, and the book is finished.
-fn ended<S: Search>(
-    alloc: Global,
-    locked: Locked<S>,
-    seats: Vec<Seat<'_, '_, S>>,
-) -> Result<Finished, CloseFault>
+fn ended<S: Search>(locked: Locked<S>, seats: Vec<Seat<'_, '_, S>>) -> Result<Finished, CloseFault>
     requires count { vec_len seats ≡ S.parts }
     requires ours { All (λ s. IsOf S.loads S.slots S.order s) seats.items }
-    ensures ok { IfOk result (λ f. IsClosed S.loads S.slots S.order S.given S.given_value seats.entry.items f × IsJournal seats.entry.items f.log) }
-    ensures err { IfErr result (IsCloseFault S.loads S.slots S.order S.given S.given_value seats.entry.items) }
+    ensures ok { IfOk result (λ f. IsClosed S.loads S.slots S.order S.given S.given_value S.nodes seats.entry.items f × IsJournal seats.entry.items f.log) }
+    ensures err { IfErr result (IsCloseFault S.loads S.slots S.order S.given S.given_value S.nodes seats.entry.items) }
 {
-    let Ok(is_right) = is_journal(alloc, seats.as_slice(), locked.book.log()) else {
-        return Err(CloseFault::OutOfMemory);
-    };
+    let is_right = is_journal(seats.as_slice(), locked.book.log());
     let Ok(finished) = counted(locked, seats).finish() else {
-        return Err(CloseFault::OutOfMemory);
+        unreachable!()
     };
     if is_right {
         Ok(finished)
@@ -83,18 +76,18 @@ fn ended<S: Search>(
 }
 
 impl<S: Search> Shared<S> {
-    /// Ends the book, when all of its seats are back: other units are answered before the journal. It takes time and
-    /// memory in proportion to the whole.
-    pub fn close(self, alloc: Global, seats: Vec<Seat<'_, '_, S>>) -> Result<Finished, CloseFault>
+    /// Ends the book, when all of its seats are back: other units are answered before the journal. It takes time in
+    /// proportion to the whole, and no memory.
+    pub fn close(self, seats: Vec<Seat<'_, '_, S>>) -> Result<Finished, CloseFault>
         requires { vec_len seats ≡ S.parts }
-        ensures ok { IfOk result (λ f. IsClosed S.loads S.slots S.order S.given S.given_value seats.entry.items f × IsJournal seats.entry.items f.log) }
-        ensures err { IfErr result (IsCloseFault S.loads S.slots S.order S.given S.given_value seats.entry.items) }
+        ensures ok { IfOk result (λ f. IsClosed S.loads S.slots S.order S.given S.given_value S.nodes seats.entry.items f × IsJournal seats.entry.items f.log) }
+        ensures err { IfErr result (IsCloseFault S.loads S.slots S.order S.given S.given_value S.nodes seats.entry.items) }
     {
         let Shared { lock, loads, order } = self;
         let slots = loads.slots();
         if !are_all_of(seats.as_slice(), loads.loads(), slots, order.as_slice()) {
             return Err(CloseFault::OtherUnits);
         }
-        ended(alloc, lock.into_inner(), seats)
+        ended(lock.into_inner(), seats)
     }
 }

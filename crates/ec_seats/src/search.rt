@@ -8,7 +8,8 @@ use std::marker::Brand;
 use std::sync::ledger::Ledger;
 
 /// The search that a ledger counts the nodes of: the bytes and periods of its units, its slot count, the order in
-/// which the units get their places, and the tree and the value that it was given. Only contracts see it.
+/// which the units get their places, the tree and the value that it was given, and how many nodes it may split or close. Only
+/// contracts see it.
 pub trait Search: Ledger {
     ghost loads: { List Load };
 
@@ -19,6 +20,8 @@ pub trait Search: Ledger {
     ghost given: { Shape };
 
     ghost given_value: { Option ℕ };
+
+    ghost nodes: { ℕ };
 }
 
 impl Search for Brand {
@@ -31,4 +34,6 @@ impl Search for Brand {
     ghost given = { open_leaf };
 
     ghost given_value = { None };
+
+    ghost nodes = { 0 };
 }

@@ -1,16 +1,17 @@
 -- What a finished search says.
--- `without`, `optimal` and `uncopied` have an equation premise for each part, so that the answers only pass names. All
--- that an outcome says comes from `Book::finish`.
-use Rattle.std.proofs.Common.{◌≡◌, ℕ, List, length, Option, Some, None, Result, Ok, Err, IfOk, refl, sym, subst, arith, ◌∙◌}
+-- `without` and `optimal` have an equation premise for each part, so that the answers only pass names. All that an outcome
+-- says comes from `Book::finish`.
+use Rattle.std.proofs.Common.{◌≡◌, ◌≢◌, ℕ, ◌+◌, ◌<◌, ◌≤◌, List, length, Option, Some, None, Result, Ok, Err, IfOk, refl, ap, sym, subst, arith, ◌∙◌}
+use Rattle.std.proofs.lemmas.List.{length-map}
 use Rattle.ec_units.specs.declared.slave.Place.{Place}
 use Rattle.ec_units.specs.declared.unit.Unit.{Unit as SyncUnit}
 use Rattle.ec_units.specs.declared.units.Units.{Units}
 use Rattle.ec_units.specs.declared.unit.Load.{Load}
-use Rattle.ec_units.specs.Load.{loads_of}
+use Rattle.ec_units.specs.Load.{load_of, loads_of}
 use Rattle.ec_loads.specs.Held.{no_places}
 use Rattle.ec_loads.specs.Line.{turned_time, line_by}
 use Rattle.ec_loads.specs.Shape.{Shape}
-use Rattle.ec_loads.specs.Search.{BoundsAll, HasNoPlan, IsPartialTree, open_count}
+use Rattle.ec_loads.specs.Search.{BoundsAll, HasNoPlan, IsPartialTree, IsAtMost, node_count, open_count}
 use Rattle.ec_cert.specs.declared.lists.UnitLine.{UnitLine}
 use Rattle.ec_cert.specs.declared.cert.Best.{Best}
 use Rattle.ec_cert.specs.BestPlan.{value_of, IsBestPlan}
@@ -26,9 +27,14 @@ use Rattle.ec_outcome.specs.declared.search.Cut.TheVariants as cut
 use Rattle.ec_outcome.specs.declared.search.Outcome.{Outcome}
 use Rattle.ec_outcome.specs.declared.search.Outcome.TheVariants as outcome
 use Rattle.ec_outcome.specs.declared.search.SolveFault.{SolveFault}
-use Rattle.ec_workers.specs.Answers.{Asked, asked_beyond, IsCut, IsUnproved, IsOutcome}
+use Rattle.ec_book.specs.Views.{BookView}
+use Rattle.ec_book.specs.Books.{IsBookOf}
+use Rattle.ec_book.specs.Finishing.{GrowsFrom, IsFinishedOf}
+use Rattle.ec_book.specs.declared.book.Finished.{Finished}
+use Rattle.ec_crew.specs.Crews.{IsCrewed}
+use Rattle.ec_workers.specs.Answers.{Asked, asked_beyond, GoesBeyond, IsCut, IsUnproved, IsOutcome, tree_in, value_in}
 use Rattle.ec_workers.specs.Outcomes.{cert_for, IsFound, IsOptimal, IsWithoutPlan, Shows}
-use Rattle.ec_workers.proofs.LevelLemmas.{tree-partial}
+use Rattle.ec_workers.proofs.ResumeLemmas.{crewed-nodes}
 use Rattle.ec_workers.proofs.ShowLemmas.{AreFew, shows, partial-shows, bounds}
 
 pub few_of : (us : Units) → AreFew us.units us.slots
@@ -71,27 +77,72 @@ optimal refute law us order best tree lines c b plan found is said copied made =
       shows = shows refute us.units us.slots order (Some b) tree (few_of us) some;
     }))
 
--- where not even the certificate's plan could be copied
-pub uncopied : (us : List SyncUnit) (n : ℕ) (asked : Asked) (order : List ℕ) (best given : Option Best) (tree : Shape) → IsFound us n order best tree → open_count tree ≡ 0 → best ≡ given → IsUnproved us n asked given order tree cut.Memory
-uncopied us n asked order best given tree found closed is =
-    let now : IsFound us n order given tree = subst (λ b. IsFound us n order b tree) is found in
-    record { order_is = now.order_is; best_is = now.best_is; tree_is = (tree-partial (λ _ _. ⊥) (line_by turned_time (loads_of us) n) (value_of given) tree (no_places (loads_of us)) order now.tree_is, now.short); cut_is = λ _. closed }
+-- the plan fits into room for a place of each unit
+pub fits : (us : List SyncUnit) (n : ℕ) (best : Option Best) (b : Best) (room : ℕ) → IsBestPlan (loads_of us) n best → best ≡ Some b → length us ≤ room → length b.plan.places ≤ room
+fits us n best b room h is most =
+    let some : IsBestPlan (loads_of us) n (Some b) = subst (IsBestPlan (loads_of us) n) is h in
+    omega (arith, some.0.whole, length-map us load_of, most)
 
-cut-among : (workers nodes given : ℕ) (t : Shape) (why : Cut) → IsCut (asked_beyond 1 nodes given) t why → IsCut (asked_beyond workers nodes given) t why
+cut-among : (workers nodes : ℕ) (given t : Shape) (why : Cut) → IsCut (asked_beyond 1 nodes given) t why → IsCut (asked_beyond workers nodes given) t why
 cut-among workers nodes given t cut.Journal h = absurd (omega (arith, h))
 cut-among workers nodes given t cut.Budget h = h
 cut-among workers nodes given t cut.Memory h = h
+cut-among workers nodes given t cut.Time h = h
 
 -- what one worker answers is an answer of as many as were asked for
-pub among : (us : List SyncUnit) (n workers nodes given : ℕ) (o : Outcome) → IsOutcome us n (asked_beyond 1 nodes given) o → IsOutcome us n (asked_beyond workers nodes given) o
+pub among : (us : List SyncUnit) (n workers nodes : ℕ) (given : Shape) (o : Outcome) → IsOutcome us n (asked_beyond 1 nodes given) o → IsOutcome us n (asked_beyond workers nodes given) o
 among us n workers nodes given (outcome.Optimal plan b cert) h = h
 among us n workers nodes given (outcome.NoPlan cert) h = h
 among us n workers nodes given (outcome.Unproved best order tree why) h =
     record { order_is = h.order_is; best_is = h.best_is; tree_is = h.tree_is; cut_is = cut-among workers nodes given (shape_of tree) why h.cut_is }
 
-pub all_among : (us : List SyncUnit) (n workers nodes given : ℕ) (r : Result Outcome SolveFault) → IfOk r (IsOutcome us n (asked_beyond 1 nodes given)) → IfOk r (IsOutcome us n (asked_beyond workers nodes given))
+pub all_among : (us : List SyncUnit) (n workers nodes : ℕ) (given : Shape) (r : Result Outcome SolveFault) → IfOk r (IsOutcome us n (asked_beyond 1 nodes given)) → IfOk r (IsOutcome us n (asked_beyond workers nodes given))
 all_among us n workers nodes given (Ok o) h = among us n workers nodes given o h
 all_among us n workers nodes given (Err e) h = tt
+
+-- why a search of which a leaf is open was cut, by the nodes that it spent
+pub cut-of : (workers nodes spent : ℕ) (given tree : Shape) (why : Cut) → (why ≡ cut.Budget → spent ≡ nodes) → (why ≡ cut.Memory → spent ≢ nodes) → (why ≡ cut.Time → spent ≢ nodes) → (why ≡ cut.Journal → 1 < workers)
+    → node_count tree ≡ node_count given + spent → 0 < open_count tree → IsCut (asked_beyond workers nodes given) tree why
+cut-of workers nodes spent given tree cut.Journal budget memory time journal is some = journal refl
+cut-of workers nodes spent given tree cut.Budget budget memory time journal is some = let all = budget refl in (omega (arith, is, all), some)
+cut-of workers nodes spent given tree cut.Memory budget memory time journal is some = (λ all. memory refl (omega (arith, is, all)), some)
+cut-of workers nodes spent given tree cut.Time budget memory time journal is some = (λ all. time refl (omega (arith, is, all)), some)
+
+-- what a finished book gives of which a leaf is open
+pub unproved-of : (us : List SyncUnit) (n : ℕ) (asked : Asked) (order : List ℕ) (b : BookView) (f : Finished) (why : Cut) → IsOrder (length us) order → IsBookOf us n order b → IsFinishedOf b f → IsCut asked (shape_of f.tree) why
+    → IsUnproved us n asked f.best order (shape_of f.tree) why
+unproved-of us n asked order b f why order_is of is cut_is =
+    let T : List Load → ℕ → Option ℕ → List ℕ → Type 0 = λ ls k v o. IsPartialTree (line_by turned_time ls k) v (shape_of f.tree) (no_places ls) o in
+    record {
+      order_is = order_is;
+      best_is = subst (λ ls. IsBestPlan ls n f.best) of.loads_is (subst (λ k. IsBestPlan b.loads k f.best) of.slots_is is.legal);
+      tree_is =
+          subst (λ ls. T ls n (value_of f.best) order) of.loads_is
+          (subst (λ k. T b.loads k (value_of f.best) order) of.slots_is
+          (subst (λ o. T b.loads b.slots (value_of f.best) o) of.order_is
+          (subst (λ v. T b.loads b.slots v b.order) (ap value_of (sym is.best)) is.tree)));
+      cut_is = cut_is;
+    }
+
+-- an outcome with the tree and the value of a finished book goes on from what that book was given
+pub beyond : (b : BookView) (f : Finished) (nodes : ℕ) (o : Outcome) → IsFinishedOf b f → b.nodes ≡ nodes → tree_in o ≡ shape_of f.tree → value_in o ≡ value_of f.best → GoesBeyond b.given b.given_value nodes o
+beyond b f nodes o is nodes_is tree value =
+    record {
+      grows = subst (GrowsFrom b.given) (sym tree) is.extends;
+      falls = subst (λ v. IsAtMost v b.given_value) (sym (value ∙ ap value_of is.best)) is.falls;
+      within = subst (λ t. node_count t ≤ node_count b.given + nodes) (sym tree) (let all = is.nodes in let spent = is.spent in let most = is.within in omega (arith, all, spent, most, nodes_is));
+    }
+
+-- the same of what several workers made
+pub crew-beyond : (us : List SyncUnit) (n : ℕ) (order : List ℕ) (given : Shape) (value : Option ℕ) (nodes : ℕ) (f : Finished) (o : Outcome) → IsCrewed us n order given value nodes f → tree_in o ≡ shape_of f.tree → value_in o ≡ value_of f.best → GoesBeyond given value nodes o
+crew-beyond us n order given value nodes f o (b, of, began, is) tree value_is =
+    subst (λ g. GoesBeyond g value nodes o) began.given_is
+    (subst (λ v. GoesBeyond b.given v nodes o) began.value_is (beyond b f nodes o is began.nodes_is tree value_is))
+
+pub crew-unproved : (us : List SyncUnit) (n workers nodes : ℕ) (order : List ℕ) (given : Shape) (value : Option ℕ) (f : Finished) (why : Cut) → IsOrder (length us) order → IsCrewed us n order given value nodes f
+    → (node_count (shape_of f.tree) ≡ node_count given + f.spent → IsCut (asked_beyond workers nodes given) (shape_of f.tree) why) → IsUnproved us n (asked_beyond workers nodes given) f.best order (shape_of f.tree) why
+crew-unproved us n workers nodes order given value f why order_is h cut_is =
+    unproved-of us n (asked_beyond workers nodes given) order h.0 f why order_is h.1 h.3 (cut_is (crewed-nodes us n order given value nodes f h))
 
 -- the certificate of a search that ended without a proof, whose lines are those of the units
 pub unfinished : FaultsRefute → (us : Units) (order : List ℕ) (best : Option Best) (tree : Shape) (level : ℕ) (lines : List UnitLine) → IsOrder (length us.units) order → IsBestPlan (loads_of us.units) us.slots best

@@ -8,7 +8,8 @@ use Rattle.ec_loads.specs.Line.{Line}
 use Rattle.ec_loads.specs.Shape.{Leaf, tick, full, average, weighted, Shape, Shapes, split, leaf, open_leaf, no_shapes, more, shape_count}
 use Rattle.ec_loads.specs.Search.{Prefix, children, LeafHolds, TreeWith, TreesWith, HasShortTick, HasShortTicks, HaveShortTicks}
 use Rattle.ec_loads.specs.Weights.{total_weight}
-use Rattle.ec_symmetry.proofs.RuleLemmas.{children-count}
+use Rattle.ec_symmetry.specs.Reached.{In, here, there}
+use Rattle.ec_symmetry.proofs.CountLemmas.{AreLeft, AreLeft-child, children-count}
 use Rattle.ec_cert.specs.WellFormed.{IsLeafLine, HasLevels, HaveLevels}
 
 abbrev pub Opens : Type 1
@@ -36,22 +37,25 @@ leaf-line version line v ps (weighted w) later few (count, each) h = (later, rec
 -- what versions with such leaves say of a tree of which something is asked at its open leaves, which only version 3 has
 mutual
   pub tree-levels : (open_is : Opens) (version : ℕ) → 2 ≤ version → ((ps : Prefix) (order : List ℕ) → open_is ps order → 3 ≤ version) → (line : Line) (v : Option ℕ) (t : Shape) (ps : Prefix) (order : List ℕ) (d : ℕ) → AreLoads line.loads → 1 ≤ line.slots → line.slots ≤ 8
-      → All (λ u. u < length line.loads) order → length order ≤ d → HasShortTicks t → TreeWith open_is line v t ps order → HasLevels version (suc d) t
-  tree-levels open_is version later opens line v (split ts) ps [] d within some few below deep short h = absurd h
-  tree-levels open_is version later opens line v (split ts) ps (u ∷ order) zero within some few below deep short h = absurd (omega arith)
-  tree-levels open_is version later opens line v (split ts) ps (u ∷ order) (suc d) within some few below deep short h =
+      → All (λ u. u < length line.loads) order → AreLeft line ps order → length order ≤ d → HasShortTicks t → TreeWith open_is line v t ps order → HasLevels version (suc d) t
+  tree-levels open_is version later opens line v (split ts) ps [] d within some few below left deep short h = absurd h
+  tree-levels open_is version later opens line v (split ts) ps (u ∷ order) zero within some few below left deep short h = absurd (omega arith)
+  tree-levels open_is version later opens line v (split ts) ps (u ∷ order) (suc d) within some few below left deep short h =
       let is = trees-count open_is line v ts ps u order (children line ps u) h in
-      let count = children-count line ps u within some few (All-head (λ w. w < length line.loads) u order below) in
-      (omega (arith, is, count.0), omega (arith, is, count.1), trees-levels open_is version later opens line v ts ps u order (children line ps u) d within some few (All-tail (λ w. w < length line.loads) u order below) (omega arith) short h)
-  tree-levels open_is version later opens line v (leaf l) ps order d within some few below deep short h = leaf-line version line v ps l later few short h
-  tree-levels open_is version later opens line v open_leaf ps order d within some few below deep short h = opens ps order h
+      let low = All-head (λ w. w < length line.loads) u order below in
+      let count = children-count line ps u within some few low left.within in
+      (omega (arith, is, count.0), omega (arith, is, count.1), trees-levels open_is version later opens line v ts ps u order (children line ps u) d within some few (All-tail (λ w. w < length line.loads) u order below) low left (λ q m. m) (omega arith) short h)
+  tree-levels open_is version later opens line v (leaf l) ps order d within some few below left deep short h = leaf-line version line v ps l later few short h
+  tree-levels open_is version later opens line v open_leaf ps order d within some few below left deep short h = opens ps order h
 
   trees-levels : (open_is : Opens) (version : ℕ) → 2 ≤ version → ((ps : Prefix) (order : List ℕ) → open_is ps order → 3 ≤ version) → (line : Line) (v : Option ℕ) (ts : Shapes) (ps : Prefix) (u : ℕ) (order : List ℕ) (places : List Place) (d : ℕ) → AreLoads line.loads → 1 ≤ line.slots
-      → line.slots ≤ 8 → All (λ w. w < length line.loads) order → length order ≤ d → HaveShortTicks ts → TreesWith open_is line v ts ps u order places → HaveLevels version (suc d) ts
-  trees-levels open_is version later opens line v no_shapes ps u order places d within some few below deep short h = tt
-  trees-levels open_is version later opens line v (more t ts) ps u order [] d within some few below deep short h = absurd h
-  trees-levels open_is version later opens line v (more t ts) ps u order (p ∷ rest) d within some few below deep short h =
-      (tree-levels open_is version later opens line v t (set ps u (Some p)) order d within some few below deep short.0 h.0, trees-levels open_is version later opens line v ts ps u order rest d within some few below deep short.1 h.1)
+      → line.slots ≤ 8 → All (λ w. w < length line.loads) order → u < length line.loads → AreLeft line ps (u ∷ order) → ((q : Place) → In q places → In q (children line ps u)) → length order ≤ d → HaveShortTicks ts → TreesWith open_is line v ts ps u order places → HaveLevels version (suc d) ts
+  trees-levels open_is version later opens line v no_shapes ps u order places d within some few below low left among deep short h = tt
+  trees-levels open_is version later opens line v (more t ts) ps u order [] d within some few below low left among deep short h = absurd h
+  trees-levels open_is version later opens line v (more t ts) ps u order (p ∷ rest) d within some few below low left among deep short h = (
+    tree-levels open_is version later opens line v t (set ps u (Some p)) order d within some few below (AreLeft-child line ps u order p low (among p here) left) deep short.0 h.0,
+    trees-levels open_is version later opens line v ts ps u order rest d within some few below low left (λ q m. among q (there m)) deep short.1 h.1,
+  )
 
 leaf-short : (version : ℕ) (l : Leaf) → IsLeafLine version l → HasShortTick l
 leaf-short version (tick t) h = h

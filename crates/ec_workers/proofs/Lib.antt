@@ -1,5 +1,7 @@
 pub mod AnswerLemmas
+pub mod GrowLemmas
 pub mod LevelLemmas
 pub mod RangeLemmas
 pub mod ResumeLemmas
+pub mod RiseLemmas
 pub mod ShowLemmas

@@ -1,19 +1,36 @@
 -- A certificate that a search can go on with is of version 3, and its tree is a partial one; what is made of it has its nodes.
-use Rattle.std.proofs.Common.{◌≡◌, ℕ, ◌+◌, List, Option, Some, subst, ap, arith}
+use Rattle.std.proofs.Common.{◌≡◌, ℕ, ◌+◌, ◌<◌, ◌≤◌, All, List, length, Option, Some, None, Result, Ok, Err, IfOk, subst, sym, ap, arith}
+use Rattle.std.proofs.lemmas.List.{length-map}
+use Rattle.ec_units.specs.declared.slave.Place.{Place}
+use Rattle.ec_units.specs.declared.unit.Load.{Load}
 use Rattle.ec_units.specs.declared.unit.Unit.{Unit as SyncUnit}
-use Rattle.ec_units.specs.Load.{loads_of}
+use Rattle.ec_units.specs.Load.{load_of, loads_of}
+use Rattle.ec_loads.specs.Cost.{plan_items, IsBusiest}
+use Rattle.ec_loads.specs.Legal.{IsLegal}
 use Rattle.ec_loads.specs.Held.{no_places}
 use Rattle.ec_loads.specs.Line.{turned_time, line_by}
 use Rattle.ec_loads.specs.Shape.{Shape}
-use Rattle.ec_loads.specs.Search.{IsPartialTree, LevelHolds, ShowsLevel, node_count}
-use Rattle.ec_cert.specs.BestPlan.{value_of}
+use Rattle.ec_loads.specs.Search.{TreeWith, IsPartialTree, IsAtMost, BoundsAll, LevelHolds, ShowsLevel, node_count}
+use Rattle.ec_loads.proofs.ItemLemmas.{AreLoads-loads_of}
+use Rattle.ec_bounds.proofs.LeftLemmas.{some_same}
+use Rattle.ec_symmetry.specs.Orders.{IsOrder}
+use Rattle.ec_tree.specs.Trees.{LevelsBound}
+use Rattle.ec_cert.specs.declared.cert.Best.{Best}
+use Rattle.ec_cert.specs.BestPlan.{value_of, IsBestPlan}
 use Rattle.ec_cert.specs.Shapes.{CertView, shape_of}
 use Rattle.ec_cert.specs.Versions.{rules_of}
 use Rattle.ec_cert.specs.WellFormed.{IsLevelLine}
 use Rattle.ec_checker.specs.Certified.{IsShown}
+use Rattle.ec_checker.proofs.HeadLemmas.{order_ready}
+use Rattle.ec_book.specs.Finishing.{GrowsFrom}
 use Rattle.ec_book.specs.declared.book.Finished.{Finished}
 use Rattle.ec_crew.specs.Crews.{IsCrewed}
+use Rattle.ec_outcome.specs.declared.search.Outcome.{Outcome}
+use Rattle.ec_outcome.specs.declared.search.Outcome.TheVariants as outcome
+use Rattle.ec_outcome.specs.declared.search.SolveFault.{SolveFault}
+use Rattle.ec_workers.specs.Answers.{Asked, GoesBeyond, HasLevelFrom, HasOrder, IsOutcome, tree_in}
 use Rattle.ec_workers.specs.Outcomes.{IsPartialCert}
+use Rattle.ec_workers.proofs.RiseLemmas.{slots-none, tree-rises}
 use Rattle.ec_workers.proofs.LevelLemmas.{tree-partial, tree-short}
 
 shows_level : (us : List SyncUnit) (n : ℕ) (c : CertView) (p : IsPartialCert us n c) → ShowsLevel (line_by turned_time (loads_of us) n) (value_of c.best) p.level.0 c.tree (no_places (loads_of us)) c.order
@@ -31,10 +48,58 @@ goes-on us n c p =
     let shows = shows_level us n c p in
     (tree-partial (λ qs _. LevelHolds line (Some p.level.0) qs) line (value_of c.best) c.tree (no_places (loads_of us)) c.order shows.1, tree-short c.version 49 c.tree p.formed.tree)
 
+-- its level is the one that it states
+abbrev at_level : (us : List SyncUnit) (n : ℕ) (c : CertView) (l : ℕ) → IsPartialCert us n c → c.level ≡ Some l → IsPartialCert us n c
+at_level us n c l p is = record { formed = p.formed; certified = p.certified; level = (l, is) }
+
+range : (us : List SyncUnit) (n : ℕ) (c : CertView) (l : ℕ) → IsPartialCert us n c → c.level ≡ Some l → l ≤ 12304
+range us n c l p is = let line : IsLevelLine c.version (Some l) = subst (λ w. IsLevelLine c.version w) is p.formed.level in line.1
+
+bounded : LevelsBound → (us : List SyncUnit) (n : ℕ) (c : CertView) (l : ℕ) → IsPartialCert us n c → c.level ≡ Some l → BoundsAll (loads_of us) n (Some l)
+bounded law us n c l p is =
+    law (line_by turned_time (loads_of us) n) (value_of c.best) l c.tree c.order (AreLoads-loads_of us)
+    (subst (λ k. IsOrder k c.order) (sym (length-map us load_of)) p.certified.head.order) (shows_level us n c (at_level us n c l p is))
+
 -- what several workers made of a tree has its nodes and those that they split and closed
-pub crewed-nodes : (us : List SyncUnit) (n : ℕ) (order : List ℕ) (given : Shape) (value : Option ℕ) (f : Finished) → IsCrewed us n order given value f → node_count (shape_of f.tree) ≡ node_count given + f.spent
-crewed-nodes us n order given value f (b, of, began, is) =
+pub crewed-nodes : (us : List SyncUnit) (n : ℕ) (order : List ℕ) (given : Shape) (value : Option ℕ) (nodes : ℕ) (f : Finished) → IsCrewed us n order given value nodes f → node_count (shape_of f.tree) ≡ node_count given + f.spent
+crewed-nodes us n order given value nodes f (b, of, began, is) =
     let all = is.nodes in
     let spent = is.spent in
     let given_is : node_count b.given ≡ node_count given = ap node_count began.given_is in
     omega (arith, all, spent, given_is)
+
+-- ---- the level doesn't fall
+
+least-at : (loads : List Load) (n l : ℕ) (plan : List Place) (b : ℕ) → BoundsAll loads n (Some l) → IsLegal loads n plan → IsBusiest (plan_items loads plan) n b → l ≤ b
+least-at loads n l plan b bounds legal busiest =
+    let found = bounds plan legal in
+    let is : l ≡ found.0 = some_same found.1 in
+    let most = busiest.most found.2 in
+    omega (arith, is, found.3, most)
+
+at_most-best : (loads : List Load) (n l : ℕ) (best : Option Best) → BoundsAll loads n (Some l) → IsBestPlan loads n best → IsAtMost (Some l) (value_of best)
+at_most-best loads n l None bounds h = tt
+at_most-best loads n l (Some x) bounds h = least-at loads n l x.plan.places x.busiest bounds h.0 h.1
+
+-- an outcome whose tree grows from that of a certificate shows at least its level
+pub level-rises : LevelsBound → (us : List SyncUnit) (n : ℕ) (asked : Asked) (c : CertView) (l : ℕ) (o : Outcome) → IsPartialCert us n c → c.level ≡ Some l → IsOutcome us n asked o → HasOrder c.order o → GrowsFrom c.tree (tree_in o) → HasLevelFrom us n l o
+level-rises law us n asked c l (outcome.Optimal plan b cert) p is found order_is grows =
+    least-at (loads_of us) n l plan.places b (bounded law us n c l p is) found.legal found.busiest
+level-rises law us n asked c l (outcome.NoPlan cert) p is found order_is grows = tt
+level-rises law us n asked c l (outcome.Unproved best order tree why) p is found order_is grows = λ m greatest.
+    let line = line_by turned_time (loads_of us) n in
+    let shows = shows_level us n c (at_level us n c l p is) in
+    let count : length (loads_of us) ≡ length us = length-map us load_of in
+    let few : All (λ u. u < length (loads_of us)) order = subst (λ k. All (λ u. u < k) order) (sym count) found.order_is.below in
+    let old = subst (λ w. TreeWith (λ qs _. LevelHolds line (Some l) qs) line (value_of c.best) c.tree (no_places (loads_of us)) w) (sym order_is) shows.1 in
+    let partial = subst (λ t. TreeWith (λ _ _. Unit {0}) line (value_of best) t (no_places (loads_of us)) order) grows.1 found.tree_is.0 in
+    let above =
+    tree-rises line (Some l) (AreLoads-loads_of us) grows.0 (value_of c.best) (value_of best) c.tree 0 (no_places (loads_of us)) order
+    (order_ready (loads_of us) (length us) order (sym count) found.order_is) (slots-none n (loads_of us)) few old partial in
+    greatest.greatest l (range us n c l p is) (at_most-best (loads_of us) n l best (bounded law us n c l p is) found.best_is, subst (λ t. TreeWith (λ qs _. LevelHolds line (Some l) qs) line (value_of best) t (no_places (loads_of us)) order) (sym grows.1) above)
+
+-- the same of what a search answers
+pub all-rise : LevelsBound → (us : List SyncUnit) (n : ℕ) (asked : Asked) (c : CertView) (nodes : ℕ) (r : Result Outcome SolveFault) → IsPartialCert us n c → IfOk r (IsOutcome us n asked) → IfOk r (HasOrder c.order) → IfOk r (GoesBeyond c.tree (value_of c.best) nodes)
+    → IfOk r (λ o. (l : ℕ) → c.level ≡ Some l → HasLevelFrom us n l o)
+all-rise law us n asked c nodes (Ok o) p found order_is beyond = λ l is. level-rises law us n asked c l o p is found order_is beyond.grows
+all-rise law us n asked c nodes (Err e) p found order_is beyond = tt

@@ -17,6 +17,7 @@ use Rattle.ec_loads.specs.Shape.{Shape}
 use Rattle.ec_loads.specs.Search.{BoundsAll, IsPartialTree, LevelHolds}
 use Rattle.ec_loads.proofs.ItemLemmas.{AreLoads-loads_of}
 use Rattle.ec_symmetry.specs.Orders.{IsOrder}
+use Rattle.ec_symmetry.proofs.CountLemmas.{AreLeft, AreLeft-none}
 use Rattle.ec_cert.specs.declared.cert.Best.{Best}
 use Rattle.ec_cert.specs.Shapes.{CertView}
 use Rattle.ec_cert.specs.WellFormed.{HasLevels, IsUnitLine, IsPlaceLine, IsBestOrNone, IsLevelLine, IsWellFormed}
@@ -116,10 +117,14 @@ formed-by us n version order best level tree few least most order_is best_is lev
       tree = levels (AreLoads-loads_of us) (subst (λ k. All (λ u. u < k) order) (sym loads) order_is.below) (omega (arith, order_is.count, few.most_units));
     }
 
+-- at first each unit is left
+left-first : (us : List SyncUnit) (n : ℕ) (order : List ℕ) → IsOrder (length us) order → AreLeft (line_by turned_time (loads_of us) n) (no_places (loads_of us)) order
+left-first us n order is = AreLeft-none (line_by turned_time (loads_of us) n) order (subst (λ k. IsOrder k order) (sym (length-map us load_of)) is)
+
 pub formed : (us : List SyncUnit) (n : ℕ) (order : List ℕ) (best : Option Best) (tree : Shape) → AreFew us n → IsFound us n order best tree → IsWellFormed (cert_for us n order best tree)
 formed us n order best tree few found =
     formed-by us n 2 order best None tree few (omega arith) (omega arith) found.order_is found.best_is (omega arith) (λ within below deep.
-    tree-levels (λ _ _. ⊥) 2 (omega arith) (λ _ _ no. absurd no) (line_by turned_time (loads_of us) n) (value_of best) tree (no_places (loads_of us)) order 48 within few.least_slots few.most_slots below deep found.short found.tree_is)
+    tree-levels (λ _ _. ⊥) 2 (omega arith) (λ _ _ no. absurd no) (line_by turned_time (loads_of us) n) (value_of best) tree (no_places (loads_of us)) order 48 within few.least_slots few.most_slots below (left-first us n order found.order_is) deep found.short found.tree_is)
 
 checked : FaultsRefute → (us : List SyncUnit) (n : ℕ) (c : CertView) → IsCertified us n c → (r : Result Verdict CheckFault) → IsAnswer us n c r → (r ≡ Ok (verdict_of c.best c.level)) ⊎ (r ≡ Err fault.OutOfMemory)
 checked refute us n c right (Ok w) a = inl (ap Ok a.1)
@@ -148,7 +153,7 @@ partial-shows refute us n order best tree level few order_is best_is partial is 
     let right : IsCertified us n (partial_for us n order best level tree) = record { head = record { same = record { slots = refl; lines = refl }; order = order_is; best = best_is; level = is.shows.0 }; shown = is.shows } in
     record {
       formed = formed-by us n 3 order best (Some level) tree few (omega arith) (omega arith) order_is best_is (omega arith, is.range) (λ within below deep.
-          tree-levels (λ qs _. LevelHolds line (Some level) qs) 3 (omega arith) (λ _ _ _. omega arith) line (value_of best) tree (no_places (loads_of us)) order 48 within few.least_slots few.most_slots below deep partial.1 is.shows.1);
+          tree-levels (λ qs _. LevelHolds line (Some level) qs) 3 (omega arith) (λ _ _ _. omega arith) line (value_of best) tree (no_places (loads_of us)) order 48 within few.least_slots few.most_slots below (left-first us n order order_is) deep partial.1 is.shows.1);
       certified = right;
       checked = checked refute us n (partial_for us n order best level tree) right;
     }

@@ -1,15 +1,19 @@
 -- What each outcome of a search says.
-use Rattle.std.specs.Prelude.{◌≡◌, ℕ, ◌+◌, ◌<◌, List, length, Option}
+use Rattle.std.specs.Prelude.{◌≡◌, ℕ, ◌+◌, ◌<◌, ◌≤◌, List, length, Option, Some, None}
 use Rattle.ec_units.specs.declared.unit.Unit.{Unit as SyncUnit}
+use Rattle.ec_units.specs.declared.unit.Load.{Load}
 use Rattle.ec_units.specs.Load.{loads_of}
 use Rattle.ec_loads.specs.Held.{no_places}
 use Rattle.ec_loads.specs.Line.{turned_time, line_by}
-use Rattle.ec_loads.specs.Shape.{Shape}
-use Rattle.ec_loads.specs.Search.{IsPartialTree, node_count, open_count}
+use Rattle.ec_loads.specs.Shape.{Shape, open_leaf}
+use Rattle.ec_loads.specs.Search.{IsPartialTree, IsAtMost, node_count, open_count}
 use Rattle.ec_symmetry.specs.Orders.{IsOrder}
 use Rattle.ec_cert.specs.declared.cert.Best.{Best}
 use Rattle.ec_cert.specs.Shapes.{shape_of, cert_view}
 use Rattle.ec_cert.specs.BestPlan.{value_of, IsBestPlan}
+use Rattle.ec_checker.specs.Levels.{IsGreatestLevel}
+use Rattle.ec_branch.specs.Weights.{IsSearchOrder}
+use Rattle.ec_book.specs.Finishing.{GrowsFrom}
 use Rattle.ec_outcome.specs.declared.search.Cut.{Cut}
 use Rattle.ec_outcome.specs.declared.search.Cut.TheVariants as cut
 use Rattle.ec_outcome.specs.declared.search.Outcome.{Outcome}
@@ -18,26 +22,31 @@ use Rattle.ec_outcome.specs.declared.search.SolveFault.TheVariants as refused
 use Rattle.ec_outcome.specs.declared.search.Outcome.TheVariants as outcome
 use Rattle.ec_workers.specs.Outcomes.{IsOptimal, IsWithoutPlan}
 
--- what a search was asked for: how many workers, how many nodes may be split and closed, and how many nodes the tree has that it goes on with
+-- what a search was asked for: how many workers, how many nodes may be split and closed, and the tree that it goes on with
 pub record Asked : Type 0 where
   pub workers : ℕ
   pub nodes : ℕ
-  pub given : ℕ
+  pub given : Shape
 
 -- of a search that begins afresh
 abbrev pub asked_for : ℕ → ℕ → Asked
-asked_for workers nodes = record { workers = workers; nodes = nodes; given = 0 }
+asked_for workers nodes = record { workers = workers; nodes = nodes; given = open_leaf }
 
--- of one that goes on with a tree of so many nodes
-abbrev pub asked_beyond : ℕ → ℕ → ℕ → Asked
+-- of one that goes on with a tree
+abbrev pub asked_beyond : ℕ → ℕ → Shape → Asked
 asked_beyond workers nodes given = record { workers = workers; nodes = nodes; given = given }
 
--- why a search ended without a proof: the notes of several workers disagree, which those of one never do; else all nodes are spent and a leaf is open; else memory
--- was refused
+-- all nodes that were allowed are spent
+abbrev pub IsSpent : Asked → Shape → Type 0
+IsSpent asked tree = node_count tree ≡ node_count asked.given + asked.nodes
+
+-- why a search ended without a proof: the notes of several workers disagree, which those of one never do; else a leaf is open, and all nodes are spent, else memory
+-- was refused, else the time was over
 abbrev pub IsCut : Asked → Shape → Cut → Type 0
 IsCut asked tree cut.Journal = 1 < asked.workers
-IsCut asked tree cut.Budget = (node_count tree ≡ asked.given + asked.nodes) × (0 < open_count tree)
-IsCut asked tree cut.Memory = node_count tree ≡ asked.given + asked.nodes → open_count tree ≡ 0
+IsCut asked tree cut.Budget = IsSpent asked tree × (0 < open_count tree)
+IsCut asked tree cut.Memory = (¬ (IsSpent asked tree)) × (0 < open_count tree)
+IsCut asked tree cut.Time = (¬ (IsSpent asked tree)) × (0 < open_count tree)
 
 -- the best plan, if any, is legal and costs what is stated, and the tree is a partial one at that value
 pub record IsUnproved (units : List SyncUnit) (n : ℕ) (asked : Asked) (best : Option Best) (order : List ℕ) (tree : Shape) (why : Cut) : Type 0 where
@@ -51,6 +60,31 @@ abbrev pub IsOutcome : List SyncUnit → ℕ → Asked → Outcome → Type 0
 IsOutcome units n asked (outcome.Optimal plan b cert) = IsOptimal units n plan.places b (cert_view cert)
 IsOutcome units n asked (outcome.NoPlan cert) = IsWithoutPlan units n (cert_view cert)
 IsOutcome units n asked (outcome.Unproved best order tree why) = IsUnproved units n asked best order (shape_of tree) why
+
+-- the tree of an outcome: where it ended without a proof its own, else its certificate's
+abbrev pub tree_in : Outcome → Shape
+tree_in (outcome.Optimal plan b cert) = shape_of cert.tree
+tree_in (outcome.NoPlan cert) = shape_of cert.tree
+tree_in (outcome.Unproved best order tree why) = shape_of tree
+
+-- what its best plan costs, if there is one
+abbrev pub value_in : Outcome → Option ℕ
+value_in (outcome.Optimal plan b cert) = Some b
+value_in (outcome.NoPlan cert) = None
+value_in (outcome.Unproved best order tree why) = value_of best
+
+-- it goes on from a tree and a value: its tree has some tree in place of each open leaf of that one, its value is at most that one, and at most so many nodes are new
+pub record GoesBeyond (given : Shape) (value : Option ℕ) (nodes : ℕ) (o : Outcome) : Type 0 where
+  pub grows : GrowsFrom given (tree_in o)
+  pub falls : IsAtMost (value_in o) value
+  pub within : node_count (tree_in o) ≤ node_count given + nodes
+
+-- every legal plan has a tick that costs at least what the outcome shows, and this is at least l: where it ended without a proof the greatest level of its tree, else
+-- what its plan costs
+abbrev pub HasLevelFrom : List SyncUnit → ℕ → ℕ → Outcome → Type 0
+HasLevelFrom units n l (outcome.Optimal plan b cert) = l ≤ b
+HasLevelFrom units n l (outcome.NoPlan cert) = Unit {0}
+HasLevelFrom units n l (outcome.Unproved best order tree why) = (m : ℕ) → IsGreatestLevel (line_by turned_time (loads_of units) n) (value_of best) (shape_of tree) order m → l ≤ m
 
 -- why a search of so many workers has no outcome: memory was refused before it began, or none of several workers could be started
 abbrev pub IsSolveFault : ℕ → SolveFault → Type 0
@@ -67,3 +101,7 @@ abbrev pub HasOrder : List ℕ → Outcome → Type 0
 HasOrder order (outcome.Optimal plan b cert) = (cert_view cert).order ≡ order
 HasOrder order (outcome.NoPlan cert) = (cert_view cert).order ≡ order
 HasOrder order (outcome.Unproved best is tree why) = is ≡ order
+
+-- and that is the order in which a search places units of these loads
+abbrev pub HasSearchOrder : List Load → Outcome → Type 0
+HasSearchOrder loads o = (order : List ℕ) × IsSearchOrder loads order × HasOrder order o

@@ -1,10 +1,10 @@
 //! A worker that works alone, on a book without a lock.
 
-ghost use Rattle.std.specs.Prelude.{◌≡◌, ℕ, ◌≤◌, length};
+ghost use Rattle.std.specs.Prelude.{◌≤◌, length};
 ghost use Rattle.ec_units.specs.Load.{loads_of};
 ghost use Rattle.ec_loads.specs.Line.{turned_time, line_by};
 ghost use Rattle.ec_symmetry.specs.Orders.{IsOrder, IsReachedPrefix};
-ghost use Rattle.ec_book.specs.Books.{IsBookOf};
+ghost use Rattle.ec_book.specs.Books.{IsBookOf, IsSameSearch};
 ghost use Rattle.ec_workers.specs.Desks.{IsClear};
 
 use crate::desk::Desk;
@@ -35,8 +35,7 @@ fn worked_off<R: Wait, G: Gate>(
     requires some { 1 ≤ took.grant }
     requires clear { IsClear units.now.units units.now.slots desk.old.loads desk.old.rest }
     ensures clear { IsClear units.now.units units.now.slots desk.new.loads desk.new.rest }
-    ensures book { IsBookOf units.now.units units.now.slots order.now book.new }
-    ensures given { book.new.given ≡ book.old.given }
+    ensures same { IsSameSearch book.old book.new }
 {
     let mut value = took.value;
     for _ in rt.forever() {
@@ -49,8 +48,8 @@ fn worked_off<R: Wait, G: Gate>(
     unreachable!()
 }
 
-/// Takes pieces, the lowest first, until none can be handed out, memory is refused or the book refuses a call; says
-/// which. All pieces are explored in the same loads.
+/// Takes pieces, the lowest first, until none can be handed out, the time is over, memory is refused or the book refuses a
+/// call; says which. All pieces are explored in the same loads.
 pub(crate) fn work<R: Wait, G: Gate>(
     rt: &R,
     alloc: Global,
@@ -61,13 +60,15 @@ pub(crate) fn work<R: Wait, G: Gate>(
 ) -> Ended
     requires order { IsOrder (length units.now.units) order.now }
     requires book { IsBookOf units.now.units units.now.slots order.now book.old }
-    ensures book { IsBookOf units.now.units units.now.slots order.now book.new }
-    ensures given { book.new.given ≡ book.old.given }
+    ensures same { IsSameSearch book.old book.new }
 {
     let Ok(mut desk) = Desk::new(alloc, units) else {
         return Ended::Memory;
     };
     for _ in rt.forever() {
+        if gate.is_over() {
+            return Ended::Time;
+        }
         let took = match book.take(ALONE, MOST_GRANT) {
             Ok(Taken::Piece(took)) => took,
             Ok(_) => return Ended::Done,

@@ -1,24 +1,24 @@
 //! A search by several workers, and what comes of it.
 
-ghost use Rattle.std.specs.Prelude.{◌≡◌, ◌≢◌, ℕ, ◌+◌, ◌<◌, ◌≤◌, [], Option, IfOk, IfErr, length};
-ghost use Rattle.ec_loads.specs.Search.{node_count};
-ghost use Rattle.ec_loads.specs.Shape.{Shape};
+ghost use Rattle.std.specs.Prelude.{◌≡◌, ◌≢◌, ℕ, ◌<◌, ◌≤◌, [], Option, None, IfOk, IfErr, length};
+ghost use Rattle.ec_units.specs.Load.{loads_of};
+ghost use Rattle.ec_loads.specs.Shape.{Shape, open_leaf};
 ghost use Rattle.ec_symmetry.specs.Orders.{IsOrder};
+ghost use Rattle.ec_cert.specs.BestPlan.{value_of};
 ghost use Rattle.ec_cert.specs.Shapes.{cert_view, shape_of};
 ghost use Rattle.ec_book.specs.Books.{IsBookOf};
-ghost use Rattle.ec_book.specs.Views.{given_nodes};
-ghost use Rattle.ec_checker.specs.Certified.{lines_of as lines_spec};
 ghost use Rattle.ec_crew.specs.Crews.{IsCrewed};
-ghost use Rattle.ec_crew.specs.declared.ended.Ended.TheVariants.{Refused, Memory as EndedMemory};
-ghost use Rattle.ec_workers.specs.Answers.{asked_beyond, asked_for, HasCut, HasOrder, IsOutcome, IsSolveFault};
+ghost use Rattle.ec_crew.specs.declared.ended.Ended.TheVariants.{Refused, Memory as EndedMemory, Time as EndedTime};
+ghost use Rattle.ec_workers.specs.Answers.{asked_beyond, asked_for, GoesBeyond, HasCut, HasOrder, HasSearchOrder, IsOutcome, IsSolveFault};
 ghost use Rattle.ec_workers.specs.Outcomes.{IsPartialCert};
-ghost use Rattle.ec_outcome.specs.declared.search.Cut.TheVariants.{Budget, Journal, Memory};
+ghost use Rattle.ec_workers.specs.Rooms.{IsRoomFor};
+ghost use Rattle.ec_outcome.specs.declared.search.Cut.TheVariants.{Budget, Journal, Memory, Time};
 
-use crate::certify::lines_of;
-use crate::planning::{nothing, proved};
+use crate::planning::proved;
+use crate::room::Room;
 use ec_book::{Book, Finished};
 use ec_branch::search_order;
-use ec_cert::{Cert, Order, UnitLines, is_closed};
+use ec_cert::{Cert, Order, is_closed};
 use ec_crew::{CrewFault, Crewed, Ended, Gate, search_by_crew};
 use ec_outcome::{Cut, Outcome, SolveFault};
 use ec_units::Units;
@@ -27,34 +27,31 @@ use std::sync::Wait;
 use std::thread::Threads;
 
 /// Why several workers, to none of whom the book refused anything but memory, left a leaf open: all nodes are spent,
-/// else memory was refused, else what they wrote down doesn't agree.
+/// else memory was refused, else the time was over, else what they wrote down doesn't agree.
 fn cut_of_crew(spent: u64, nodes: u32, ended: Ended) -> Cut
     ensures budget { result ≡ Budget → spent ≡ nodes }
     ensures memory { result ≡ Memory → (spent ≢ nodes) × (ended ≡ EndedMemory) }
-    ensures journal { result ≡ Journal → (spent ≢ nodes) × (ended ≢ EndedMemory) }
+    ensures time { result ≡ Time → (spent ≢ nodes) × (ended ≡ EndedTime) }
+    ensures journal { result ≡ Journal → (spent ≢ nodes) × (ended ≢ EndedMemory) × (ended ≢ EndedTime) }
 {
     if spent == u64::from(nodes) {
         Cut::Budget
     } else if ended == Ended::Memory {
         Cut::Memory
+    } else if ended == Ended::Time {
+        Cut::Time
     } else {
         Cut::Journal
     }
 }
 
-/// What comes of the work of several workers.
-fn outcome_of(
-    alloc: Global,
-    units: &Units,
-    lines: UnitLines,
-    order: Order,
-    crewed: Crewed,
-    nodes: u32,
-) -> Outcome
-    requires lines { lines ≡ lines_spec units.now.units }
+/// What comes of the work of several workers. Takes no memory.
+fn outcome_of(units: &Units, room: Room, order: Order, crewed: Crewed, nodes: u32) -> Outcome
+    requires room { IsRoomFor units.now.units room.lines room.places }
     requires order { IsOrder (length units.now.units) order }
-    requires crewed { (tree : Shape) × (value : Option ℕ) × IsCrewed units.now.units units.now.slots order tree value crewed.finished }
-    ensures outcome { (workers given : ℕ) → 1 < workers → node_count (shape_of crewed.finished.tree) ≡ given + crewed.finished.spent → IsOutcome units.now.units units.now.slots (asked_beyond workers nodes given) result }
+    requires crewed { (given : Shape) × (value : Option ℕ) × IsCrewed units.now.units units.now.slots order given value nodes crewed.finished }
+    ensures outcome { (workers : ℕ) (given : Shape) (value : Option ℕ) → 1 < workers → IsCrewed units.now.units units.now.slots order given value nodes crewed.finished → IsOutcome units.now.units units.now.slots (asked_beyond workers nodes given) result }
+    ensures beyond { (given : Shape) (value : Option ℕ) → IsCrewed units.now.units units.now.slots order given value nodes crewed.finished → GoesBeyond given value nodes result }
     ensures journal { crewed.ended ≡ Refused → HasCut Journal result }
     ensures order { HasOrder order result }
 {
@@ -74,7 +71,7 @@ fn outcome_of(
         };
     }
     if is_closed(&tree) {
-        return proved(alloc, units, lines, order, best, tree);
+        return proved(units, room, order, best, tree);
     }
     Outcome::Unproved {
         best,
@@ -98,15 +95,16 @@ fn search_on<R: Threads + Wait + Sync, G: Gate + Sync>(
     gate: &G,
 ) -> Result<Outcome, SolveFault>
     requires workers { (2 ≤ workers) × (workers ≤ 16) }
-    requires some { 1 ≤ nodes }
     requires order { IsOrder (length units.now.units) order.items }
     requires book { IsBookOf units.now.units units.now.slots order.items book }
     requires unused { book.log ≡ [] }
-    ensures outcome { IfOk result (IsOutcome units.now.units units.now.slots (asked_beyond workers nodes (given_nodes book))) }
+    requires nodes { book.nodes ≡ nodes }
+    ensures outcome { IfOk result (IsOutcome units.now.units units.now.slots (asked_beyond workers nodes book.given)) }
+    ensures beyond { IfOk result (GoesBeyond book.given book.given_value nodes) }
     ensures fault { IfErr result (IsSolveFault workers) }
     ensures order { IfOk result (HasOrder order.items) }
 {
-    let lines = lines_of(alloc, units)?;
+    let room = Room::new(alloc, units)?;
     let crewed = search_by_crew(
         rt,
         alloc,
@@ -119,11 +117,9 @@ fn search_on<R: Threads + Wait + Sync, G: Gate + Sync>(
     );
     let order = Order::new(order);
     match crewed {
-        Ok(crewed) => Ok(outcome_of(alloc, units, lines, order, crewed, nodes)),
+        Ok(crewed) => Ok(outcome_of(units, room, order, crewed, nodes)),
         Err(CrewFault::OutOfMemory) => Err(SolveFault::OutOfMemory),
         Err(CrewFault::Spawn) => Err(SolveFault::Spawn),
-        Err(CrewFault::Unclosed) => Ok(nothing(order, Cut::Memory)),
-        Err(CrewFault::OtherUnits) => Ok(nothing(order, Cut::Journal)),
     }
 }
 
@@ -139,6 +135,8 @@ pub(crate) fn solve_by_crew<R: Threads + Wait + Sync, G: Gate + Sync>(
     requires workers { (2 ≤ workers) × (workers ≤ 16) }
     requires nodes { (1 ≤ nodes) × (nodes ≤ 10000000) }
     ensures outcome { IfOk result (IsOutcome units.now.units units.now.slots (asked_for workers nodes)) }
+    ensures beyond { IfOk result (GoesBeyond open_leaf None nodes) }
+    ensures order { IfOk result (HasSearchOrder (loads_of units.now.units)) }
     ensures fault { IfErr result (IsSolveFault workers) }
 {
     let order = search_order(alloc, units)?;
@@ -151,17 +149,18 @@ pub(crate) fn resume_by_crew<R: Threads + Wait + Sync, G: Gate + Sync>(
     rt: &R,
     alloc: Global,
     units: &Units,
-    cert: &Cert,
+    cert: Cert,
     workers: usize,
     nodes: u32,
     gate: &G,
 ) -> Result<Outcome, SolveFault>
     requires workers { (2 ≤ workers) × (workers ≤ 16) }
     requires nodes { (1 ≤ nodes) × (nodes ≤ 10000000) }
-    requires cert { IsPartialCert units.now.units units.now.slots (cert_view cert.now) }
-    ensures outcome { IfOk result (IsOutcome units.now.units units.now.slots (asked_beyond workers nodes (node_count (shape_of cert.now.tree)))) }
+    requires cert { IsPartialCert units.now.units units.now.slots (cert_view cert) }
+    ensures outcome { IfOk result (IsOutcome units.now.units units.now.slots (asked_beyond workers nodes (shape_of cert.tree))) }
+    ensures beyond { IfOk result (GoesBeyond (shape_of cert.tree) (value_of cert.best) nodes) }
     ensures fault { IfErr result (IsSolveFault workers) }
-    ensures order { IfOk result (HasOrder cert.now.order) }
+    ensures order { IfOk result (HasOrder cert.order) }
 {
     let order = Vec::from_slice(alloc, cert.order.as_slice())?;
     let book = Book::resume(alloc, units, cert, u64::from(nodes))?;

@@ -7,11 +7,13 @@ mod crewed;
 mod desk;
 mod planning;
 mod resuming;
+mod room;
 mod solving;
 mod turn;
 mod unfinished;
 mod watch;
 
+pub use certify::lines_of;
 pub use ec_crew::{Gate, Quiet};
 pub use ec_outcome::{Cut, Outcome, SolveFault};
 pub use resuming::solve_from;

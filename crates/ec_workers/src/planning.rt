@@ -1,27 +1,29 @@
 //! The planner.
 
-ghost use Rattle.std.specs.Prelude.{◌≡◌, ◌≢◌, ℕ, ◌≤◌, IfOk, IfErr, List, length};
-ghost use Rattle.ec_units.specs.declared.unit.Unit.{Unit as SyncUnit};
-ghost use Rattle.ec_loads.specs.Search.{node_count, open_count};
+ghost use Rattle.std.specs.Prelude.{◌≡◌, ◌≢◌, ◌≤◌, None, IfOk, IfErr, length};
+ghost use Rattle.ec_units.specs.Load.{loads_of};
+ghost use Rattle.ec_loads.specs.Search.{open_count};
 ghost use Rattle.ec_loads.specs.Shape.{open_leaf};
 ghost use Rattle.ec_symmetry.specs.Orders.{IsOrder};
+ghost use Rattle.ec_cert.specs.BestPlan.{value_of};
 ghost use Rattle.ec_cert.specs.Shapes.{cert_view, shape_of};
-ghost use Rattle.ec_checker.specs.Certified.{lines_of as lines_spec};
-ghost use Rattle.ec_workers.specs.Answers.{Asked, asked_beyond, asked_for, HasOrder, IsCut, IsOutcome};
 ghost use Rattle.ec_book.specs.Books.{IsBookOf, IsSameSearch};
-ghost use Rattle.ec_book.specs.Views.{given_nodes};
+ghost use Rattle.ec_crew.specs.declared.ended.Ended.TheVariants.{Time as EndedTime};
+ghost use Rattle.ec_workers.specs.Answers.{Asked, asked_beyond, asked_for, GoesBeyond, HasOrder, HasSearchOrder, IsOutcome, tree_in, value_in};
 ghost use Rattle.ec_workers.specs.Outcomes.{IsFound, IsPartialCert};
-ghost use Rattle.ec_outcome.specs.declared.search.Cut.TheVariants.{Budget, Journal, Memory};
+ghost use Rattle.ec_workers.specs.Rooms.{IsRoomFor};
+ghost use Rattle.ec_outcome.specs.declared.search.Cut.TheVariants.{Budget, Journal, Memory, Time};
 ghost use Rattle.ec_outcome.specs.declared.search.SolveFault.TheVariants.{OutOfMemory};
 
 use crate::alone::work;
-use crate::certify::{certificate, lines_of};
+use crate::certify::certificate;
+use crate::room::{Room, copied};
 use crate::turn::offer;
 use ec_book::{Book, Finished};
 use ec_branch::{greedy, search_order};
-use ec_cert::{Best, Cert, Order, Tree, UnitLines};
+use ec_cert::{Best, Cert, Order, Tree};
 use ec_checker::faults_refute;
-use ec_crew::{Gate, copy_of};
+use ec_crew::{Ended, Gate};
 use ec_outcome::{Cut, Outcome, SolveFault};
 use ec_tree::trees_bound;
 use ec_units::Units;
@@ -38,91 +40,86 @@ fn offered_greedy(alloc: Global, units: &Units, book: &mut Book) -> bool
     }
 }
 
-/// Why a search that left a leaf open ended.
-fn cut_of(spent: u64, nodes: u32) -> Cut
+/// Offers the greedy plan, and then works on the pieces of the book; says why that ended.
+fn searched<R: Wait, G: Gate>(
+    rt: &R,
+    alloc: Global,
+    units: &Units,
+    order: &[u8],
+    book: &mut Book,
+    gate: &G,
+) -> Ended
+    requires order { IsOrder (length units.now.units) order.now }
+    requires book { IsBookOf units.now.units units.now.slots order.now book.old }
+    ensures same { IsSameSearch book.old book.new }
+{
+    if !offered_greedy(alloc, units, book) {
+        return Ended::Memory;
+    }
+    work(rt, alloc, units, order, book, gate)
+}
+
+/// Why a search that left a leaf open ended: all nodes are spent, else the time was over, else memory was refused.
+fn cut_of(spent: u64, nodes: u32, why: Ended) -> Cut
     ensures budget { result ≡ Budget → spent ≡ nodes }
-    ensures memory { result ≡ Memory → spent ≢ nodes }
+    ensures memory { result ≡ Memory → (spent ≢ nodes) × (why ≢ EndedTime) }
+    ensures time { result ≡ Time → (spent ≢ nodes) × (why ≡ EndedTime) }
     ensures agrees { result ≢ Journal }
 {
     if spent == u64::from(nodes) {
         Cut::Budget
+    } else if why == Ended::Time {
+        Cut::Time
     } else {
         Cut::Memory
     }
 }
 
-/// What comes of a finished search in which no leaf is open.
+/// What comes of a finished search in which no leaf is open. Takes no memory.
 pub(crate) fn proved(
-    alloc: Global,
     units: &Units,
-    lines: UnitLines,
+    room: Room,
     order: Order,
     best: Option<Best>,
     tree: Tree,
 ) -> Outcome
-    requires lines { lines ≡ lines_spec units.now.units }
+    requires room { IsRoomFor units.now.units room.lines room.places }
     requires found { IsFound units.now.units units.now.slots order best (shape_of tree) }
-    requires closed { open_count (shape_of tree) ≡ 0 }
     ensures outcome { (asked : Asked) → IsOutcome units.now.units units.now.slots asked result }
+    ensures tree { tree_in result ≡ shape_of tree }
+    ensures value { value_in result ≡ value_of best }
     ensures order { HasOrder order result }
 {
     faults_refute();
     trees_bound();
+    let Room { lines, places } = room;
     let Some(best) = best else {
         let cert = certificate(units.slots, lines, order, None, tree);
         return Outcome::NoPlan { cert };
     };
-    match copy_of(alloc, &best.plan) {
-        Ok(plan) => {
-            let busiest = best.busiest;
-            let cert = certificate(units.slots, lines, order, Some(best), tree);
-            Outcome::Optimal {
-                plan,
-                busiest,
-                cert,
-            }
-        }
-        Err(_) => Outcome::Unproved {
-            best: Some(best),
-            order,
-            tree,
-            cut: Cut::Memory,
-        },
+    let plan = copied(places, &best.plan);
+    let busiest = best.busiest;
+    let cert = certificate(units.slots, lines, order, Some(best), tree);
+    Outcome::Optimal {
+        plan,
+        busiest,
+        cert,
     }
 }
 
-/// What comes of a search without its book, and why it ended.
-pub(crate) fn nothing(order: Order, cut: Cut) -> Outcome
-    ensures outcome { (units : List SyncUnit) (n : ℕ) (asked : Asked) → IsOrder (length units) order → IsCut asked open_leaf cut → IsOutcome units n asked result }
-    ensures order { HasOrder order result }
-{
-    Outcome::Unproved {
-        best: None,
-        order,
-        tree: Tree::OpenLeaf,
-        cut,
-    }
-}
-
-/// What comes of the book of a search with one worker.
-fn ended(
-    alloc: Global,
-    units: &Units,
-    lines: UnitLines,
-    order: Order,
-    book: Book,
-    nodes: u32,
-) -> Outcome
-    requires lines { lines ≡ lines_spec units.now.units }
+/// What comes of the book of a search with one worker, who ended for this reason. Takes no memory.
+fn ended(units: &Units, room: Room, order: Order, book: Book, nodes: u32, why: Ended) -> Outcome
+    requires room { IsRoomFor units.now.units room.lines room.places }
     requires order { IsOrder (length units.now.units) order }
     requires book { IsBookOf units.now.units units.now.slots order book }
-    requires some { 1 ≤ nodes }
-    ensures outcome { IsOutcome units.now.units units.now.slots (asked_beyond 1 nodes (given_nodes book)) result }
+    requires nodes { book.nodes ≡ nodes }
+    ensures outcome { IsOutcome units.now.units units.now.slots (asked_beyond 1 nodes book.given) result }
+    ensures beyond { GoesBeyond book.given book.given_value nodes result }
     ensures order { HasOrder order result }
 {
     let open = book.open_pieces();
     let Ok(finished) = book.finish() else {
-        return nothing(order, Cut::Memory);
+        unreachable!()
     };
     let Finished {
         best,
@@ -131,13 +128,13 @@ fn ended(
         ..
     } = finished;
     if open == 0 {
-        return proved(alloc, units, lines, order, best, tree);
+        return proved(units, room, order, best, tree);
     }
     Outcome::Unproved {
         best,
         order,
         tree,
-        cut: cut_of(spent, nodes),
+        cut: cut_of(spent, nodes, why),
     }
 }
 
@@ -151,17 +148,16 @@ pub(crate) fn solve_alone<R: Wait, G: Gate>(
 ) -> Result<Outcome, SolveFault>
     requires nodes { (1 ≤ nodes) × (nodes ≤ 10000000) }
     ensures outcome { IfOk result (IsOutcome units.now.units units.now.slots (asked_for 1 nodes)) }
+    ensures beyond { IfOk result (GoesBeyond open_leaf None nodes) }
+    ensures order { IfOk result (HasSearchOrder (loads_of units.now.units)) }
     ensures fault { IfErr result (λ e. e ≡ OutOfMemory) }
 {
-    let lines = lines_of(alloc, units)?;
+    let room = Room::new(alloc, units)?;
     let order = search_order(alloc, units)?;
     let mut book = Book::new(alloc, units, order.as_slice(), u64::from(nodes))?;
-    if offered_greedy(alloc, units, &mut book) {
-        // With one worker the nodes that are spent tell why it ended.
-        let _ended = work(rt, alloc, units, order.as_slice(), &mut book, gate);
-    }
+    let why = searched(rt, alloc, units, order.as_slice(), &mut book, gate);
     let order = Order::new(order);
-    Ok(ended(alloc, units, lines, order, book, nodes))
+    Ok(ended(units, room, order, book, nodes, why))
 }
 
 /// Goes on with a certificate's tree, with one worker, as `solve_alone` searches.
@@ -169,21 +165,21 @@ pub(crate) fn resume_alone<R: Wait, G: Gate>(
     rt: &R,
     alloc: Global,
     units: &Units,
-    cert: &Cert,
+    cert: Cert,
     nodes: u32,
     gate: &G,
 ) -> Result<Outcome, SolveFault>
     requires nodes { (1 ≤ nodes) × (nodes ≤ 10000000) }
-    requires cert { IsPartialCert units.now.units units.now.slots (cert_view cert.now) }
-    ensures outcome { IfOk result (IsOutcome units.now.units units.now.slots (asked_beyond 1 nodes (node_count (shape_of cert.now.tree)))) }
+    requires cert { IsPartialCert units.now.units units.now.slots (cert_view cert) }
+    ensures outcome { IfOk result (IsOutcome units.now.units units.now.slots (asked_beyond 1 nodes (shape_of cert.tree))) }
+    ensures beyond { IfOk result (GoesBeyond (shape_of cert.tree) (value_of cert.best) nodes) }
+    ensures order { IfOk result (HasOrder cert.order) }
     ensures fault { IfErr result (λ e. e ≡ OutOfMemory) }
-    ensures order { IfOk result (HasOrder cert.now.order) }
 {
-    let lines = lines_of(alloc, units)?;
+    let room = Room::new(alloc, units)?;
     let order = Vec::from_slice(alloc, cert.order.as_slice())?;
     let mut book = Book::resume(alloc, units, cert, u64::from(nodes))?;
-    // As above, the nodes that are spent tell why it ended.
-    let _ended = work(rt, alloc, units, order.as_slice(), &mut book, gate);
+    let why = work(rt, alloc, units, order.as_slice(), &mut book, gate);
     let order = Order::new(order);
-    Ok(ended(alloc, units, lines, order, book, nodes))
+    Ok(ended(units, room, order, book, nodes, why))
 }

@@ -1,9 +1,9 @@
 //! The planner, where it goes on with a certificate.
 
-ghost use Rattle.std.specs.Prelude.{◌≤◌, IfOk, IfErr};
-ghost use Rattle.ec_loads.specs.Search.{node_count};
+ghost use Rattle.std.specs.Prelude.{◌≡◌, ℕ, ◌≤◌, Some, IfOk, IfErr};
+ghost use Rattle.ec_cert.specs.BestPlan.{value_of};
 ghost use Rattle.ec_cert.specs.Shapes.{cert_view, shape_of};
-ghost use Rattle.ec_workers.specs.Answers.{asked_beyond, HasOrder, IsOutcome, IsSolveFault};
+ghost use Rattle.ec_workers.specs.Answers.{asked_beyond, GoesBeyond, HasLevelFrom, HasOrder, IsOutcome, IsSolveFault};
 ghost use Rattle.ec_workers.specs.Outcomes.{IsPartialCert};
 
 use crate::crewed::resume_by_crew;
@@ -11,6 +11,7 @@ use crate::planning::resume_alone;
 use ec_cert::{Cert, is_closed};
 use ec_crew::Gate;
 use ec_outcome::{Outcome, SolveFault};
+use ec_tree::levels_bound;
 use ec_units::Units;
 use std::alloc::Global;
 use std::sync::Wait;
@@ -18,7 +19,9 @@ use std::thread::Threads;
 
 /// Goes on with a search that ended without a proof, from its certificate, with 1 to 16 workers, which split and close
 /// at most `nodes` nodes more (1 to 10,000,000). The order of the units is the certificate's, and so are the tree and
-/// the plan from which it goes on; what it finds is as if it had found all of the tree. `gate` is told before each node.
+/// the plan from which it goes on, which it never loses: what it finds is as if it had found all of the tree. `gate` is told
+/// and asked as `solve` does it. Nothing of the certificate is copied but its order, and once the search has begun its end
+/// takes no memory.
 ///
 /// Where no leaf of the tree is open it ends at once. One worker runs in the calling thread; its answer is always the same for
 /// the same units, certificate and budget, as long as memory is given. Several run as `solve` says, but no greedy plan
@@ -30,18 +33,21 @@ pub fn solve_from<R: Threads + Wait + Sync, G: Gate + Sync>(
     rt: &R,
     alloc: Global,
     units: &Units,
-    cert: &Cert,
+    cert: Cert,
     workers: usize,
     nodes: u32,
     gate: &G,
 ) -> Result<Outcome, SolveFault>
     requires workers { (1 ≤ workers) × (workers ≤ 16) }
     requires nodes { (1 ≤ nodes) × (nodes ≤ 10000000) }
-    requires cert { IsPartialCert units.now.units units.now.slots (cert_view cert.now) }
-    ensures outcome { IfOk result (IsOutcome units.now.units units.now.slots (asked_beyond workers nodes (node_count (shape_of cert.now.tree)))) }
+    requires cert { IsPartialCert units.now.units units.now.slots (cert_view cert) }
+    ensures outcome { IfOk result (IsOutcome units.now.units units.now.slots (asked_beyond workers nodes (shape_of cert.tree))) }
+    ensures beyond { IfOk result (GoesBeyond (shape_of cert.tree) (value_of cert.best) nodes) }
+    ensures level { IfOk result (λ o. (l : ℕ) → cert.level ≡ Some l → HasLevelFrom units.now.units units.now.slots l o) }
     ensures fault { IfErr result (IsSolveFault workers) }
-    ensures order { IfOk result (HasOrder cert.now.order) }
+    ensures order { IfOk result (HasOrder cert.order) }
 {
+    levels_bound();
     if workers == 1 || is_closed(&cert.tree) {
         return resume_alone(rt, alloc, units, cert, nodes, gate);
     }

@@ -1,7 +1,9 @@
 //! The planner, whatever the number of its workers.
 
-ghost use Rattle.std.specs.Prelude.{◌≤◌, IfOk, IfErr};
-ghost use Rattle.ec_workers.specs.Answers.{asked_for, IsOutcome, IsSolveFault};
+ghost use Rattle.std.specs.Prelude.{◌≤◌, None, IfOk, IfErr};
+ghost use Rattle.ec_units.specs.Load.{loads_of};
+ghost use Rattle.ec_loads.specs.Shape.{open_leaf};
+ghost use Rattle.ec_workers.specs.Answers.{asked_for, GoesBeyond, HasSearchOrder, IsOutcome, IsSolveFault};
 
 use crate::crewed::solve_by_crew;
 use crate::planning::solve_alone;
@@ -13,7 +15,9 @@ use std::sync::Wait;
 use std::thread::Threads;
 
 /// Searches for a plan whose busiest tick costs least, with 1 to 16 workers, which split and close at most `nodes`
-/// nodes of the tree (1 to 10,000,000); the greedy plan counts none. `gate` is told before each node.
+/// nodes of the tree (1 to 10,000,000); the greedy plan counts none. They place the units in the order that `search_order`
+/// gives. `gate` is told before each node, and asked before each piece whether the time is over; then the search ends, with
+/// all that it found. Once it has begun its end takes no memory.
 ///
 /// One worker runs in the calling thread, and its answer is always the same for the same units and budget, as long as
 /// memory is given. Several run each in a thread of its own; one that can't be started is left out. Before they start,
@@ -34,6 +38,8 @@ pub fn solve<R: Threads + Wait + Sync, G: Gate + Sync>(
     requires workers { (1 ≤ workers) × (workers ≤ 16) }
     requires nodes { (1 ≤ nodes) × (nodes ≤ 10000000) }
     ensures outcome { IfOk result (IsOutcome units.now.units units.now.slots (asked_for workers nodes)) }
+    ensures beyond { IfOk result (GoesBeyond open_leaf None nodes) }
+    ensures order { IfOk result (HasSearchOrder (loads_of units.now.units)) }
     ensures fault { IfErr result (IsSolveFault workers) }
 {
     if workers == 1 {

@@ -105,8 +105,7 @@ pub(crate) fn take_turn<G: Gate>(
     requires some { 1 ≤ took.now.grant }
     requires clear { IsClear units.now.units units.now.slots desk.old.loads desk.old.rest }
     ensures clear { IsClear units.now.units units.now.slots desk.new.loads desk.new.rest }
-    ensures book { IsBookOf units.now.units units.now.slots order.now book.new }
-    ensures given { book.new.given ≡ book.old.given }
+    ensures same { IsSameSearch book.old book.new }
     ensures again { FindsLower value book.new result }
 {
     let mut watch = Watch {

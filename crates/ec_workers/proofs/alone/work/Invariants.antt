@@ -1,7 +1,6 @@
-use Rattle.std.proofs.Common.{◌≡◌}
-use Rattle.ec_book.specs.Books.{IsBookOf}
+use Rattle.ec_book.specs.Books.{IsBookOf, IsSameSearch}
 use Rattle.ec_workers.specs.Desks.{IsClear}
 use Rattle.ec_workers.proofs.alone.work.Given as goal
 
 abbrev pub invariant-loop : goal.invariant-loop
-invariant-loop g l = IsBookOf l.units.units l.units.slots l.order l.book × (l.book.given ≡ l.initial.book.given) × IsClear l.units.units l.units.slots l.desk.loads l.desk.rest × (goal.iterator-loop g).can_next l.iterator' × (goal.iterator-loop g).is_finite l.iterator'
+invariant-loop g l = IsBookOf l.units.units l.units.slots l.order l.book × IsSameSearch l.initial.book l.book × IsClear l.units.units l.units.slots l.desk.loads l.desk.rest × (goal.iterator-loop g).can_next l.iterator' × (goal.iterator-loop g).is_finite l.iterator'

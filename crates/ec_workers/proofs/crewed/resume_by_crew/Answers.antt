@@ -4,10 +4,4 @@ use Rattle.ec_workers.proofs.ResumeLemmas.{goes-on}
 use Rattle.ec_workers.proofs.crewed.resume_by_crew.Goals as goal
 
 pub resume-requires-clause-tree : goal.resume-requires-clause-tree
-resume-requires-clause-tree g c = goes-on c.args.units.now.units c.args.units.now.slots (cert_view c.args.cert.now) c.requires.cert
-
-pub returns-clause-outcome : goal.returns-clause-outcome
-returns-clause-outcome g c = search rules
-
-pub returns-clause-order : goal.returns-clause-order
-returns-clause-order g c = search rules
+resume-requires-clause-tree g c = goes-on c.args.units.now.units c.args.units.now.slots (cert_view c.args.cert) c.requires.cert

@@ -9,6 +9,3 @@ returns-then-spent-from-clause-memory c = search rules
 
 pub returns-then-spent-from-clause-agrees : goal.returns-then-spent-from-clause-agrees
 returns-then-spent-from-clause-agrees c = search rules
-
-pub returns-else-spent-from-clause-memory : goal.returns-else-spent-from-clause-memory
-returns-else-spent-from-clause-memory c = search rules

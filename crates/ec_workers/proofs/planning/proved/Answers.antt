@@ -1,14 +1,14 @@
 use Rattle.ec_cert.specs.Shapes.{shape_of, cert_view}
-use Rattle.ec_workers.proofs.AnswerLemmas.{without, optimal, uncopied}
+use Rattle.ec_workers.proofs.AnswerLemmas.{without, optimal, fits}
 use Rattle.ec_workers.proofs.planning.proved.Goals as goal
+
+pub copied-plan-requires-clause-wide : goal.copied-plan-requires-clause-wide
+copied-plan-requires-clause-wide c = fits c.args.units.now.units c.args.units.now.slots c.args.best c.in-Some.best _ c.requires.found.best_is c.in-Some.is c.requires.room.wide
 
 pub returns-in_default-clause-outcome : goal.returns-in_default-clause-outcome
 returns-in_default-clause-outcome c = λ _.
-    without c.faults_refute.ensures c.trees_bound.ensures c.args.units.now c.args.order c.args.best (shape_of c.args.tree) c.args.lines (cert_view c.certificate-cert.result) c.requires.found c.in_default.is c.requires.lines c.certificate-cert.ensures
+    without c.faults_refute.ensures c.trees_bound.ensures c.args.units.now c.args.order c.args.best (shape_of c.args.tree) c.args.room.lines (cert_view c.certificate-cert.result) c.requires.found c.in_default.is c.requires.room.lines_are c.certificate-cert.ensures
 
-pub returns-in-Ok-clause-outcome : goal.returns-in-Ok-clause-outcome
-returns-in-Ok-clause-outcome c = λ _.
-    optimal c.faults_refute.ensures c.trees_bound.ensures c.args.units.now c.args.order c.args.best (shape_of c.args.tree) c.args.lines (cert_view c.certificate-cert-in-Ok.result) c.in-Some.best c.in-Ok.plan.places c.requires.found c.in-Some.is c.requires.lines c.in-Ok.ensures c.certificate-cert-in-Ok.ensures
-
-pub returns-in-Err-clause-outcome : goal.returns-in-Err-clause-outcome
-returns-in-Err-clause-outcome c = λ asked. uncopied c.args.units.now.units c.args.units.now.slots asked c.args.order c.args.best _ (shape_of c.args.tree) c.requires.found c.requires.closed c.in-Some.is
+pub returns-clause-outcome : goal.returns-clause-outcome
+returns-clause-outcome c = λ _.
+    optimal c.faults_refute.ensures c.trees_bound.ensures c.args.units.now c.args.order c.args.best (shape_of c.args.tree) c.args.room.lines (cert_view c.certificate-cert-2.result) c.in-Some.best c.copied-plan.result.places c.requires.found c.in-Some.is c.requires.room.lines_are c.copied-plan.ensures c.certificate-cert-2.ensures

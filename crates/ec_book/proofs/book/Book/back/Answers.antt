@@ -52,6 +52,7 @@ invariant_of-self c =
           counted-back (start (shape_of b.given) b.given_value) b.nodes b.pieces.items (value_of b.best) b.spent b.held b.taken b.low b.log.items _ inv.counted c.args.worker c.args.piece c.in-Ok.grant
           c.push_reserved.new.self.items at c.push_reserved.ensures.items;
       grown = grown-set (shape_of b.given) (line_by turned_time b.loads.loads b.loads.slots) b.order.items b.pieces.items b.prefixes.items b.reports.items (value_of b.best) b.spent inv.grown c.args.piece (Taken c.args.worker c.in-Ok.grant) Free at refl;
+      spare = inv.spare;
     })
 
 pub returns-clause-ok : goal.returns-clause-ok

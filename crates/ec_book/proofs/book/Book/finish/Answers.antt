@@ -1,13 +1,19 @@
-use Rattle.std.proofs.Common.{◌≡◌, refl}
+use Rattle.std.proofs.Common.{◌≡◌, refl, arith, ap, length}
 use Rattle.ec_loads.specs.Line.{turned_time, line_by}
 use Rattle.ec_cert.specs.Shapes.{shape_of}
 use Rattle.ec_cert.specs.BestPlan.{value_of}
 use Rattle.ec_book.specs.Numbered.{numbered, plain}
 use Rattle.ec_book.specs.Grown.{grown}
 use Rattle.ec_book.specs.Steps.{start}
-use Rattle.ec_book.proofs.HistoryLemmas.{history-replays}
+use Rattle.ec_book.proofs.HistoryLemmas.{history-replays, history-falls}
 use Rattle.ec_book.proofs.FinishLemmas.{drawn, drawn-partial, drawn-nodes, drawn-open, drawn-closed, drawn-extends}
 use Rattle.ec_book.proofs.book.Book.finish.Goals as goal
+
+pub open_leaves-built-requires-clause-none : goal.open_leaves-built-requires-clause-none
+open_leaves-built-requires-clause-none c = c.self.invariant.spare.none
+
+pub open_leaves-built-requires-clause-room : goal.open_leaves-built-requires-clause-room
+open_leaves-built-requires-clause-room c = omega (arith, c.self.invariant.grown.each, c.self.invariant.spare.each, c.self.inside.pieces.ok.0, c.len.ensures)
 
 pub returns-clause-ok : goal.returns-clause-ok
 returns-clause-ok c =
@@ -22,7 +28,7 @@ returns-clause-ok c =
     let made = c.self.invariant.grown in
     let past = c.self.invariant.counted.history in
     let shape = shape_of c.assembled-tree.result in
-    let is : shape ≡ plain (grown (numbered 0 given) reports) = drawn given line order pieces prefixes reports value b.spent made c.len.result _ _ c.assembled-tree.ensures c.in-Ok.ensures in
+    let is : shape ≡ plain (grown (numbered 0 given) reports) = drawn given line order pieces prefixes reports value b.spent made c.len.result _ _ c.assembled-tree.ensures c.open_leaves-built.ensures in
     rw (← c.self.view_is) (record {
       best = refl;
       legal = c.self.invariant.for.best_is;
@@ -36,4 +42,6 @@ returns-clause-ok c =
       history = rw c.new.ensures past;
       replayed = rw c.new.ensures (history-replays b.nodes (start given b.given_value) b.log.items (record { pieces = pieces; value = value; spent = b.spent }) past);
       extends = drawn-extends given line order pieces prefixes reports value b.spent made shape is;
+      falls = history-falls b.nodes (start given b.given_value) b.log.items (record { pieces = pieces; value = value; spent = b.spent }) past;
+      within = omega (arith, c.self.invariant.counted.within);
     })

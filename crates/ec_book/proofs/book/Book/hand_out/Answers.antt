@@ -27,6 +27,7 @@ invariant_of-self-2 c =
           (omega (arith, c.min-grant.ensures, c.from.ensures, some, left, c.requires.some)) (omega (arith, c.min-grant.ensures, left, counted.held_is)) log_is
           (omega (arith, c.in-Ok-reserve.ensures.ok, c.in-Some.ensures.1, c.push_reserved.ensures.capacity, c.reserve.ensures.len, b.log.ok.0));
       grown = grown-set (shape_of b.given) (line_by turned_time b.loads.loads b.loads.slots) b.order.items b.pieces.items b.prefixes.items b.reports.items (value_of b.best) b.spent inv.grown p Free (Taken c.args.worker g) at refl;
+      spare = inv.spare;
     })
 
 pub returns-clause-ok : goal.returns-clause-ok

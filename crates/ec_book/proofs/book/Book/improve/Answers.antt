@@ -22,6 +22,7 @@ invariant_of-self-2 c =
           (vec_capacity c.push_reserved.new.self) c.push_reserved.new.self.items below log_is
           (omega (arith, c.in-Ok.ensures.ok, c.in-Some-checked_add.ensures.1, c.push_reserved.ensures.capacity, c.reserve.ensures.len, b.log.ok.0));
       grown = grown-better (shape_of b.given) (line_by turned_time b.loads.loads b.loads.slots) b.order.items b.pieces.items b.prefixes.items b.reports.items (value_of b.best) b.spent inv.grown v below;
+      spare = inv.spare;
     }
 
 pub returns-clause-ok : goal.returns-clause-ok

@@ -1,4 +1,4 @@
-use Rattle.std.proofs.Common.{◌≡◌, ◌+◌, ap, ◌++◌, ◌∷◌, [], arith, refl, ◌∙◌, set, replicate, drop, ◌≤◌, ◌<◌, length}
+use Rattle.std.proofs.Common.{◌≡◌, ◌+◌, ap, ◌++◌, ◌∷◌, [], arith, refl, ◌∙◌, set, replicate, drop, ◌≤◌, ◌<◌, length, length-append}
 use Rattle.ec_loads.specs.Line.{turned_time, line_by}
 use Rattle.ec_loads.specs.Search.{node_count, IsPartialTree}
 use Rattle.ec_cert.specs.Shapes.{shape_of}
@@ -118,6 +118,10 @@ invariant_of-self-2 c =
       grown =
           grown-report (shape_of b.given) line order b.pieces.items b.prefixes.items b.reports.items (value_of b.best) b.spent inv.grown p c.args.worker g k count q sub.threshold sub.tree
           c.add_free.new.pieces.items c.add_opened.new.prefixes.items c.push_reserved-2.new.self.items welcome.held welcome.place welcome.ahead partial c.in-Ok.ensures.nodes more.0 pieces_are more.1 reports_are;
+      spare = record {
+        none = c.add_opened.ensures.leaves ∙ inv.spare.none;
+        each = omega (arith, c.in-Ok-add_opened.ensures.leaf, ap length more.1, length-append b.prefixes.items (open_places line order shape q), more.0, inv.grown.each, c.add_opened.new.pieces.ok.0, ap length c.add_opened.ensures.same.0);
+      };
     })
 
 pub returns-clause-welcome : goal.returns-clause-welcome
