@@ -1,4 +1,4 @@
-//! Jobs and command lines.
+//! Jobs.
 
 /// What the program is to do.
 #[derive(Clone, Copy, Debug, PartialEq, Eq)]
@@ -19,12 +19,4 @@ pub enum Job {
     PlanCost,
     /// Plays a certificate's plan, or that of the placed units, through modelled slaves for a hyperperiod.
     Play,
-}
-
-/// A command line: the job, the path of a certificate to read, and the path of what a plan, a resumed search or a capture writes.
-#[derive(Debug, Drop)]
-pub struct Line {
-    pub job: Job,
-    pub cert: Option<String>,
-    pub out: Option<String>,
 }

@@ -2,5 +2,7 @@
 #![tactic(auto)]
 
 mod job;
+mod line;
 
-pub use job::{Job, Line};
+pub use job::Job;
+pub use line::{Effort, Line};

@@ -1,23 +1,24 @@
-//! The explanation of a line that refuses, and what would help a search that ended without a proof.
+//! What a refusal means, and what to do after a search.
 
 ghost use Rattle.std.specs.Prelude.{All, IfOk, string_bytes};
 ghost use Rattle.ec_explain.specs.Plain.{IsPlain};
 
 use crate::plain::plain_text;
+use ec_outcome::Ending;
+use ec_refusals::Refusal;
 use ec_remarks::{Inputs, Written, counsel, remarks};
 use std::alloc::{AllocError, Global};
 
-/// What a line that refuses means, in a few sentences for a person, each a line: which unit, slave, key, value or line of
-/// the certificate it is, where it stands in the file, what would be right, and what was likely meant.
+/// What a refusal means, in a few sentences for a person, each a line: which unit, slave, key, value or line of the
+/// certificate it is, where it stands in the file, what would be right, and what was likely meant.
 ///
-/// The line is `refused CODE NAME ..`; of any other the text is empty. Whatever the line and the inputs hold, the text
-/// has nothing but printable ASCII and line feeds: of another byte its number is told, as `\x1b`. A line has at most 160
-/// columns; what is longer is cut. Where the inputs aren't those of the line, or are missing, less is told. Only
-/// want of memory is an error (own profile).
-pub fn explain(alloc: Global, line: &str, inputs: &Inputs<'_>) -> Result<String, AllocError>
+/// Whatever the inputs hold, the text has nothing but printable ASCII and line feeds: of another byte its number is told,
+/// as `\x1b`. A line has at most 160 columns; what is longer is cut. Where the inputs aren't those of the refusal, or are
+/// missing, less is told. Only want of memory is an error (own profile).
+pub fn explain(alloc: Global, refusal: &Refusal, inputs: &Inputs<'_>) -> Result<String, AllocError>
     ensures { IfOk result (λ text. All IsPlain (string_bytes text)) }
 {
-    let text = remarks(alloc, line, inputs)?;
+    let text = remarks(alloc, refusal, inputs)?;
     plain_text(alloc, text.as_str())
 }
 
@@ -25,12 +26,15 @@ pub fn explain(alloc: Global, line: &str, inputs: &Inputs<'_>) -> Result<String,
 /// for, what it has proved of every plan, what would help, and how it is gone on with. Of any: that its certificate, if
 /// one was written, has more than the 67,108,864 bytes that are read again.
 ///
-/// The text of a search without a proof begins with its lines `unproved ..`, `cut ..` and `at least ..`, in wire bytes.
-/// Whatever the text and the path hold, the answer has nothing but printable ASCII and line feeds, as `explain` says it.
-/// Only want of memory is an error (own profile).
-pub fn advice(alloc: Global, text: &str, written: Option<Written<'_>>) -> Result<String, AllocError>
+/// Whatever the path holds, the text has nothing but printable ASCII and line feeds, as `explain` says it. Only want of
+/// memory is an error (own profile).
+pub fn advice(
+    alloc: Global,
+    ending: Option<Ending>,
+    written: Option<Written<'_>>,
+) -> Result<String, AllocError>
     ensures { IfOk result (λ told. All IsPlain (string_bytes told)) }
 {
-    let sentences = counsel(alloc, text, written)?;
+    let sentences = counsel(alloc, ending, written)?;
     plain_text(alloc, sentences.as_str())
 }

@@ -8,8 +8,8 @@ use std::alloc::{AllocError, Global};
 /// The longest line that is told, in columns.
 const COLUMNS: usize = 160;
 
-/// The byte that is told for a byte: itself where it is printable ASCII, else `?`.
-fn shown(byte: u8) -> u8
+/// What is told for a byte: itself where it is printable ASCII, else `?`.
+fn plain_byte(byte: u8) -> u8
     ensures { IsPlain result }
 {
     match byte {
@@ -30,7 +30,7 @@ pub fn plain_text(alloc: Global, text: &str) -> Result<String, AllocError>
             out.push('\n')?;
             column = 0;
         } else if column < COLUMNS {
-            out.push(char::from(shown(byte)))?;
+            out.push(char::from(plain_byte(byte)))?;
             column += 1;
         }
     }

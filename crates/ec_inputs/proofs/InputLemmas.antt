@@ -14,7 +14,7 @@ use Rattle.ec_unit_text.specs.declared.fault.UnitFault.TheVariants as fault
 use Rattle.ec_cert_text.specs.declared.fault.CertFault.TheVariants as cert
 use Rattle.ec_refusals.specs.declared.refusal.Refusal.{Refusal}
 use Rattle.ec_refusals.specs.declared.refusal.Refusal.TheVariants as refusal
-use Rattle.ec_refusals.specs.Refusals.{IsReadFault, out_of_memory, level_memory}
+use Rattle.ec_refusals.specs.Refusals.{IsReadFault, out_of_memory, check_memory}
 use Rattle.ec_inputs.specs.Input.{ReadsAll, AreRead, AreUnits, AnswersUnits, IsInputFault, ReadsTooMany, text_given}
 use Rattle.ec_inputs.specs.declared.input.Inputs.{Inputs}
 
@@ -94,7 +94,7 @@ pub unread_units : {A : Type 0} (left text : Option (List ℕ)) (r : Refusal) (a
 unread_units left text r answer is h = rw is (no_units left text r h)
 
 -- no room to check
-pub no_room : (left text : Option (List ℕ)) → IfSome left (λ bytes. IfSome text (λ t. IsInputFault bytes t level_memory))
+pub no_room : (left text : Option (List ℕ)) → IfSome left (λ bytes. IfSome text (λ t. IsInputFault bytes t check_memory))
 no_room None text = tt
 no_room (Some bytes) None = tt
 no_room (Some bytes) (Some t) = inl (inr refl)

@@ -14,7 +14,7 @@ use Rattle.ec_inputs.specs.declared.input.Given.{Given}
 use Rattle.ec_inputs.specs.declared.input.Inputs.{Inputs}
 use Rattle.ec_refusals.specs.declared.refusal.Refusal.{Refusal}
 use Rattle.ec_refusals.specs.declared.refusal.Refusal.TheVariants as refusal
-use Rattle.ec_refusals.specs.Refusals.{out_of_memory, level_memory}
+use Rattle.ec_refusals.specs.Refusals.{out_of_memory, check_memory}
 
 -- what is read is all that was left, and no more than the limit
 abbrev pub ReadsAll : Option (List ℕ) → ℕ → List ℕ → Type 0
@@ -47,7 +47,7 @@ AnswersUnits (Err r) bytes = (r ≡ out_of_memory) ⊎ IsUnitsFault bytes r
 -- they do and the text has too many bytes
 abbrev pub IsInputFault : List ℕ → List ℕ → Refusal → Type 0
 IsInputFault bytes text r =
-    ((r ≡ out_of_memory) ⊎ (r ≡ level_memory))
+    ((r ≡ out_of_memory) ⊎ (r ≡ check_memory))
     ⊎ (IsUnitsFault bytes r ⊎ ((us : Units) × AnswersUnits (Ok us) bytes × (r ≡ refusal.Cert cert.TooLarge) × (67108864 < length text)))
 
 -- why bytes give no units to work on, which may be want of memory

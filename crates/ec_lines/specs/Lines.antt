@@ -56,6 +56,7 @@ abbrev pub cut_text : Cut → List ℕ
 cut_text cut.Journal = codes "journal"
 cut_text cut.Budget = codes "budget"
 cut_text cut.Memory = codes "memory"
+cut_text cut.Time = codes "time"
 
 abbrev pub cut_line : Cut → List ℕ
 cut_line why = codes "cut " ++ (cut_text why ++ codes "\n")

@@ -58,6 +58,7 @@ fn cut_name(cut: Cut) -> &'static str
         Cut::Journal => "journal",
         Cut::Budget => "budget",
         Cut::Memory => "memory",
+        Cut::Time => "time",
     }
 }
 

@@ -32,6 +32,7 @@ enum Choice {
     Capture,
     Workers,
     Nodes,
+    Minutes,
     Out,
     Places,
     Progress,
@@ -39,12 +40,13 @@ enum Choice {
 }
 
 /// The options in the order of the help.
-const CHOICES: [Choice; 9] = [
+const CHOICES: [Choice; 10] = [
     Choice::Cert,
     Choice::Picture,
     Choice::Capture,
     Choice::Workers,
     Choice::Nodes,
+    Choice::Minutes,
     Choice::Out,
     Choice::Places,
     Choice::Progress,
@@ -136,8 +138,18 @@ fn nodes_arg<'a>(alloc: Global) -> Arg<'a> {
         .long("nodes")
         .value_name("N")
         .value_parser(value_parser!(u32).range(1..=10_000_000))
-        .default_value("1000000")
-        .help("The most nodes of the search tree to visit, 1 to 10000000")
+        .help(
+            "The most nodes of the search tree to visit, 1 to 10000000; without it 1000000, with --minutes 10000000",
+        )
+}
+
+/// How long a search may take.
+fn minutes_arg<'a>(alloc: Global) -> Arg<'a> {
+    Arg::new(alloc, "minutes")
+        .long("minutes")
+        .value_name("M")
+        .value_parser(value_parser!(u32).range(1..=10_000))
+        .help("After how many minutes the search ends, 1 to 10000, if it hasn't ended before")
 }
 
 /// Whether the progress is told in any case.
@@ -185,6 +197,7 @@ fn arg_of<'a>(alloc: Global, verb: Verb, choice: Choice) -> Arg<'a> {
         ),
         Choice::Workers => workers_arg(alloc),
         Choice::Nodes => nodes_arg(alloc),
+        Choice::Minutes => minutes_arg(alloc),
         Choice::Progress => progress_arg(alloc),
         Choice::File => file_arg(alloc),
     }
@@ -206,7 +219,7 @@ fn command_of<'a>(alloc: Global, verb: Verb) -> Result<Command<'a>, AllocError> 
 fn program<'a>(alloc: Global) -> Result<Command<'a>, AllocError> {
     Command::new(alloc, "ecplan")
         .about("Plans the cyclic frames of an EtherCAT line")
-        .version("0.3.0")
+        .version("0.4.0")
         .after_help(AFTER_HELP)
         .no_binary_name(true)
         .subcommand_required(true)

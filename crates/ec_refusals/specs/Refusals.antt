@@ -136,17 +136,17 @@ out_of_memory = refusal.Unit fault.OutOfMemory
 abbrev pub frame_memory : Refusal
 frame_memory = refusal.Play play.OutOfMemory
 
--- want of memory over the level of a search that has no proof
-abbrev pub level_memory : Refusal
-level_memory = refusal.Check check.OutOfMemory
+-- want of memory over the room in which a certificate is checked
+abbrev pub check_memory : Refusal
+check_memory = refusal.Check check.OutOfMemory
 
--- want of memory in a plan: before the search, over its level, or while its text or its certificate is made
+-- want of memory in a plan: before the search, or while its text is made
 abbrev pub IsPlanMemory : Refusal → Type 0
-IsPlanMemory r = (r ≡ out_of_memory) ⊎ ((r ≡ refusal.Solve solve.OutOfMemory) ⊎ (r ≡ level_memory))
+IsPlanMemory r = (r ≡ out_of_memory) ⊎ (r ≡ refusal.Solve solve.OutOfMemory)
 
 -- want of memory in a resumed search: as in a plan, or while the certificate is read or checked
 abbrev pub IsResumeMemory : Refusal → Type 0
-IsResumeMemory r = IsPlanMemory r ⊎ (r ≡ refusal.Cert cert.OutOfMemory)
+IsResumeMemory r = IsPlanMemory r ⊎ ((r ≡ refusal.Cert cert.OutOfMemory) ⊎ (r ≡ check_memory))
 
 -- want of memory over frames: over the units or a text, the certificate, the check, or the layout, the frames and what they are played with
 abbrev pub IsFramesMemory : Refusal → Type 0

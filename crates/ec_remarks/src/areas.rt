@@ -2,9 +2,8 @@
 
 use crate::inputs::{Doc, number_in};
 use crate::label::{add_in, table_of};
-use crate::refused::Refused;
 use ec_drafts::Draft;
-use ec_unit_text::Key;
+use ec_unit_text::{Key, Spot};
 use toml::Table;
 
 /// An area: where it begins, and its bytes.
@@ -61,12 +60,11 @@ fn add_overlap(out: &mut Draft, outputs: Area, inputs: Area) {
 }
 
 /// Tells which cause an area has to be refused.
-pub(crate) fn tell_area(out: &mut Draft, doc: Doc<'_>, refused: Refused<'_>) {
-    let place = refused.place();
-    let slave = table_of(doc, place);
+pub(crate) fn tell_area(out: &mut Draft, doc: Doc<'_>, spot: Spot) {
+    let slave = table_of(doc, spot);
     let outputs = area_of(slave, Key::Area(false), 4096, Key::OutBytes);
     let inputs = area_of(slave, Key::Area(true), 8192, Key::InBytes);
-    add_in(out, doc, place);
+    add_in(out, doc, spot);
     out.add("its outputs or its inputs lie wrong in its memory.\n");
     if slave.is_none() {
         return;

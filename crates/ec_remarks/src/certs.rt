@@ -3,7 +3,6 @@
 use crate::due::{Due, cert_line, due_at, is_partial};
 use crate::inputs::Inputs;
 use crate::quoted::{add_bytes, add_quoted};
-use crate::refused::Refused;
 use crate::syntax::line_at;
 use ec_drafts::Draft;
 
@@ -126,37 +125,61 @@ pub(crate) fn tell_large(out: &mut Draft, inputs: &Inputs<'_>) {
     out.add(" is too large: at most 67108864 bytes are read.\n");
 }
 
-/// What is wrong with a line.
-fn fault_of(code: &str) -> &'static str {
-    match code {
-        "C4" => "is not of the kind that is due",
-        "C5" => "has a number that begins with 0 or is out of range",
-        "C6" => "is not whole, or ends the text too early",
-        "C7" => "stands where the certificate has to end",
-        "C8" => "has more than 48 splits above it in the tree",
-        _ => "is wrong",
+/// Tells that memory ran out while a certificate was read.
+pub(crate) fn tell_memory(out: &mut Draft) {
+    out.add(
+        "Memory ran out over the certificate: nothing is said of it. Run it with more memory.\n",
+    );
+}
+
+/// What is wrong with a line of a certificate.
+#[derive(Clone, Copy)]
+pub(crate) enum LineFault {
+    /// It is not of the kind that is due.
+    NotDue,
+    /// It has a number that isn't spelled or in range as it has to be.
+    Number,
+    /// It is not whole, or ends the text too early.
+    Early,
+    /// It stands where the text has to end.
+    Late,
+    /// It is a node too deep in the tree.
+    Deep,
+}
+
+impl LineFault {
+    /// The fault as it is said of the line.
+    fn as_str(self) -> &'static str {
+        match self {
+            LineFault::NotDue => "is not of the kind that is due",
+            LineFault::Number => "has a number that begins with 0 or is out of range",
+            LineFault::Early => "is not whole, or ends the text too early",
+            LineFault::Late => "stands where the certificate has to end",
+            LineFault::Deep => "has more than 48 splits above it in the tree",
+        }
     }
 }
 
-/// Adds what a line should be, by the fault.
-fn add_wanted(out: &mut Draft, cert: &[u8], code: &str, line: usize) {
-    match code {
-        "C4" | "C5" => add_due(out, cert, line),
-        "C6" => {
+/// Adds what a line, from 0, should be, by its fault.
+fn add_wanted(out: &mut Draft, cert: &[u8], line: usize, fault: LineFault) {
+    match fault {
+        LineFault::NotDue | LineFault::Number => add_due(out, cert, line),
+        LineFault::Early => {
             add_due(out, cert, line);
             out.add("Was the file cut off? Each line ends with a line feed, also the last.\n");
         }
-        "C7" => out.add("The last line is end, behind the tree, and nothing follows it.\n"),
-        _ => {}
+        LineFault::Late => {
+            out.add("The last line is end, behind the tree, and nothing follows it.\n");
+        }
+        LineFault::Deep => {}
     }
 }
 
-/// Tells the line at fault, its text, and what was due.
-pub(crate) fn tell_line(out: &mut Draft, inputs: &Inputs<'_>, refused: Refused<'_>) {
-    let number = refused.number(3).unwrap_or(0);
+/// Tells the line at fault, from 1, its text, and what was due.
+pub(crate) fn tell_line(out: &mut Draft, inputs: &Inputs<'_>, number: u32, fault: LineFault) {
     add_cert(out, inputs);
     out.add(format_args!(": line {number} "));
-    out.add(fault_of(refused.code()));
+    out.add(fault.as_str());
     out.add(".\n");
     let Some(cert) = inputs.cert else {
         return;
@@ -164,6 +187,7 @@ pub(crate) fn tell_line(out: &mut Draft, inputs: &Inputs<'_>, refused: Refused<'
     if number == 0 {
         return;
     }
-    add_line_text(out, cert, number - 1);
-    add_wanted(out, cert, refused.code(), number - 1);
+    let line = (number - 1) as usize;
+    add_line_text(out, cert, line);
+    add_wanted(out, cert, line, fault);
 }

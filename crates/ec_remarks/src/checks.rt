@@ -7,8 +7,8 @@ use crate::label::add_unit;
 use crate::leaves::add_leaf_fault;
 use crate::others::add_differences;
 use crate::places::add_full;
-use crate::refused::Refused;
 use ec_drafts::Draft;
+use ec_loads::Illegal;
 
 /// Tells that a certificate is of other units, and what differs.
 pub(crate) fn tell_others(out: &mut Draft, inputs: &Inputs<'_>, doc: Doc<'_>) {
@@ -41,58 +41,62 @@ pub(crate) fn tell_order(out: &mut Draft, inputs: &Inputs<'_>) {
 }
 
 /// Adds what is wrong with the plan of a certificate.
-fn add_plan_fault(out: &mut Draft, doc: Doc<'_>, refused: Refused<'_>) {
-    match refused.word(3) {
-        "I1" => out.add("It has not one place for each unit.\n"),
-        "I2" => {
+fn add_plan_fault(out: &mut Draft, doc: Doc<'_>, illegal: Illegal) {
+    match illegal {
+        Illegal::WrongCount => out.add("It has not one place for each unit.\n"),
+        Illegal::PhaseRange(unit) => {
             out.add("The phase that it gives is not below the period: ");
-            add_unit(out, doc, refused.number(5).unwrap_or(0));
+            add_unit(out, doc, unit);
             out.add(".\n");
         }
-        "I3" => {
+        Illegal::SlotRange(unit) => {
             out.add("The slot that it gives is not one of the slots of the file: ");
-            add_unit(out, doc, refused.number(5).unwrap_or(0));
+            add_unit(out, doc, unit);
             out.add(".\n");
         }
-        "I4" => add_full(out, refused, 5),
-        _ => {}
+        Illegal::Full { tick, slot, bytes } => add_full(out, tick, slot, bytes),
     }
 }
 
 /// Tells that the plan of a certificate isn't legal.
-pub(crate) fn tell_plan(out: &mut Draft, inputs: &Inputs<'_>, doc: Doc<'_>, refused: Refused<'_>) {
+pub(crate) fn tell_plan(out: &mut Draft, inputs: &Inputs<'_>, doc: Doc<'_>, illegal: Illegal) {
     add_cert(out, inputs);
     out.add(" has a plan that is not legal.\n");
-    add_plan_fault(out, doc, refused);
+    add_plan_fault(out, doc, illegal);
 }
 
-/// Tells that a certificate states another value than its plan has.
-pub(crate) fn tell_value(out: &mut Draft, inputs: &Inputs<'_>, refused: Refused<'_>) {
-    let stated = refused.number(3).unwrap_or(0);
-    let found = refused.number(4).unwrap_or(0);
+/// Tells that a certificate states another value than its plan has, both in wire bytes.
+pub(crate) fn tell_value(out: &mut Draft, inputs: &Inputs<'_>, stated: u64, found: u64) {
     add_cert(out, inputs);
     out.add(format_args!(" states the value {stated}"));
     out.add(format_args!(", and the busiest tick of its plan costs {found} bytes.\n"));
 }
 
-/// Adds the line of the level of a certificate, with its number.
-fn add_level_line(out: &mut Draft, inputs: &Inputs<'_>) {
+/// The certificate as a text, if it was read and is one.
+fn text_of<'a>(inputs: &Inputs<'a>) -> Option<&'a str> {
     let Some(cert) = inputs.cert else {
-        return out.add(".\n");
+        return None;
     };
-    let Ok(text) = std::str::from_utf8(cert) else {
-        return out.add(".\n");
-    };
-    let line = line_after_plan(text);
-    let number = line.saturating_add(1);
-    out.add(format_args!(": line {number}.\n"));
-    add_line_text(out, cert, line);
+    std::str::from_utf8(cert).ok()
 }
 
-/// Tells that a certificate states a level above its value.
-pub(crate) fn tell_level(out: &mut Draft, inputs: &Inputs<'_>, refused: Refused<'_>) {
-    let level = refused.number(3).unwrap_or(0);
-    let value = refused.number(4).unwrap_or(0);
+/// Ends a sentence with the number of a line of a certificate, from 0, and adds the line.
+fn add_line_of(out: &mut Draft, cert: &str, line: usize) {
+    let number = line.saturating_add(1);
+    out.add(format_args!(": line {number}.\n"));
+    add_line_text(out, cert.as_bytes(), line);
+}
+
+/// Ends a sentence with the line of the level of a certificate, if it is known.
+fn add_level_line(out: &mut Draft, inputs: &Inputs<'_>) {
+    match text_of(inputs) {
+        Some(text) => add_line_of(out, text, line_after_plan(text)),
+        None => out.add(".\n"),
+    }
+}
+
+/// Tells that a certificate states a level above its value, both in wire bytes.
+pub(crate) fn tell_level(out: &mut Draft, inputs: &Inputs<'_>, level: u64, value: u64) {
     add_cert(out, inputs);
     out.add(format_args!(" states the level {level}"));
     out.add(format_args!(", and the busiest tick of its plan costs {value} bytes"));
@@ -104,12 +108,9 @@ pub(crate) fn tell_level(out: &mut Draft, inputs: &Inputs<'_>, refused: Refused<
 
 /// Whether the certificate that was read is known to be that of a search without a proof, or known not to be.
 fn is_known_partial(inputs: &Inputs<'_>) -> Option<bool> {
-    let Some(cert) = inputs.cert else {
-        return None;
-    };
-    match std::str::from_utf8(cert) {
-        Ok(text) => Some(is_partial(text)),
-        Err(_) => None,
+    match text_of(inputs) {
+        Some(text) => Some(is_partial(text)),
+        None => None,
     }
 }
 
@@ -134,37 +135,48 @@ pub(crate) fn tell_memory(out: &mut Draft, inputs: &Inputs<'_>) {
     });
 }
 
-/// Adds what is wrong with a node of the tree.
-fn add_node_fault(out: &mut Draft, refused: Refused<'_>) {
-    match refused.code() {
-        "K6" => {
-            let want = refused.number(4).unwrap_or(0);
-            let got = refused.number(5).unwrap_or(0);
-            out.add(format_args!(" has {got} children, where there are {want} places to try"));
-        }
-        "K7" => out.add(" is a leaf whose reason does not hold"),
-        _ => out.add(" is a split where every unit has a place"),
+/// Adds that a certificate fails at a node of its tree, from 0.
+fn add_node(out: &mut Draft, inputs: &Inputs<'_>, node: usize) {
+    add_cert(out, inputs);
+    out.add(format_args!(" does not show what it says: node {node} of its tree, from 0,"));
+}
+
+/// Ends a sentence with the line of a node, if it is known.
+fn add_node_line(out: &mut Draft, inputs: &Inputs<'_>, node: usize) {
+    match text_of(inputs) {
+        Some(text) => add_line_of(out, text, node_line(text, node)),
+        None => out.add(".\n"),
     }
 }
 
-/// Tells which node of the tree is wrong, its line, and of a leaf why.
-pub(crate) fn tell_node(out: &mut Draft, inputs: &Inputs<'_>, doc: Doc<'_>, refused: Refused<'_>) {
-    let node = refused.number(3).unwrap_or(0);
-    add_cert(out, inputs);
-    out.add(format_args!(" does not show what it says: node {node} of its tree, from 0,"));
-    add_node_fault(out, refused);
-    let Some(cert) = inputs.cert else {
-        return out.add(".\n");
-    };
-    let Ok(text) = std::str::from_utf8(cert) else {
+/// Tells which split has so many children and wants so many, and its line.
+pub(crate) fn tell_children(
+    out: &mut Draft,
+    inputs: &Inputs<'_>,
+    node: usize,
+    want: usize,
+    got: usize,
+) {
+    add_node(out, inputs, node);
+    out.add(format_args!(" has {got} children, where there are {want} places to try"));
+    add_node_line(out, inputs, node);
+}
+
+/// Tells which node is a split below which no unit is left, and its line.
+pub(crate) fn tell_depth(out: &mut Draft, inputs: &Inputs<'_>, node: usize) {
+    add_node(out, inputs, node);
+    out.add(" is a split where every unit has a place");
+    add_node_line(out, inputs, node);
+}
+
+/// Tells which leaf doesn't hold, its line, and why.
+pub(crate) fn tell_leaf(out: &mut Draft, inputs: &Inputs<'_>, doc: Doc<'_>, node: usize) {
+    add_node(out, inputs, node);
+    out.add(" is a leaf whose reason does not hold");
+    let Some(text) = text_of(inputs) else {
         return out.add(".\n");
     };
     let line = node_line(text, node);
-    let number = line.saturating_add(1);
-    out.add(format_args!(": line {number}.\n"));
-    add_line_text(out, cert, line);
-    match refused.code() {
-        "K7" => add_leaf_fault(out, doc, text, line),
-        _ => {}
-    }
+    add_line_of(out, text, line);
+    add_leaf_fault(out, doc, text, line);
 }

@@ -3,7 +3,7 @@
 use ec_unit_text::Key;
 use toml::{Table, Value};
 
-/// What a refused job had before it. Each part may be missing or cut short: then less is told.
+/// What a refused job had before it. Any part may be missing or cut short: then less is told.
 #[derive(Clone, Copy)]
 pub struct Inputs<'a> {
     /// The bytes of the unit text, as far as they were kept.

@@ -4,9 +4,8 @@ use crate::inputs::{Doc, value_in};
 use crate::label::{add_in, table_of};
 use crate::nearest::nearest;
 use crate::quoted::{add_quoted, add_value};
-use crate::refused::{Place, Refused};
 use ec_drafts::Draft;
-use ec_unit_text::Key;
+use ec_unit_text::{Key, Spot};
 use std::alloc::Global;
 use toml::{Table, Value};
 
@@ -22,32 +21,32 @@ const SLAVE_KEYS: [Key; 5] = [
     Key::Area(true),
 ];
 
-/// The keys of the table at a place.
-fn keys_at(place: Place) -> &'static [Key] {
-    match (place.unit, place.slave) {
+/// The keys of the table at a spot.
+fn keys_at(spot: Spot) -> &'static [Key] {
+    match (spot.unit, spot.slave) {
         (Some(_), Some(_)) => &SLAVE_KEYS,
         (Some(_), None) => &UNIT_KEYS,
-        _ => &TOP_KEYS,
+        (None, _) => &TOP_KEYS,
     }
 }
 
 /// What a key says, and what it takes.
-fn meaning(key: &str) -> &'static str {
+fn meaning(key: Key) -> &'static str {
     match key {
-        "tick_ns" => "tick_ns is the length of a tick in ns, 80 to 1000000000.",
-        "slots" => "slots is how many slots there are, 1 to 8.",
-        "unit" => "Each unit is a table of its own that begins with a line [[unit]].",
-        "name" => "name is a text in quotes, as name = \"press-4\".",
-        "period" => "period says after how many ticks the unit is sent again, 1 to 60.",
-        "slave" => "Each slave is a table of its own that begins with a line [[unit.slave]].",
-        "phase" => "phase is the tick of its period in which the unit is sent, from 0.",
-        "slot" => "slot is the slot in which the unit is sent, from 0.",
-        "station" => "station is the slave's configured station address, 1 to 65535.",
-        "out_bytes" => "out_bytes is how many output bytes the slave has, 0 where it has none.",
-        "in_bytes" => "in_bytes is how many input bytes the slave has, 0 where it has none.",
-        "out_at" => "out_at is the address at which the slave's outputs begin, 4096 to 65535.",
-        "in_at" => "in_at is the address at which the slave's inputs begin, 4096 to 65535.",
-        _ => "",
+        Key::TickNs => "tick_ns is the length of a tick in ns, 80 to 1000000000.",
+        Key::Slots => "slots is how many slots there are, 1 to 8.",
+        Key::Unit => "Each unit is a table of its own that begins with a line [[unit]].",
+        Key::Name => "name is a text in quotes, as name = \"press-4\".",
+        Key::Period => "period says after how many ticks the unit is sent again, 1 to 60.",
+        Key::Slave => "Each slave is a table of its own that begins with a line [[unit.slave]].",
+        Key::Phase => "phase is the tick of its period in which the unit is sent, from 0.",
+        Key::Slot => "slot is the slot in which the unit is sent, from 0.",
+        Key::Station => "station is the slave's configured station address, 1 to 65535.",
+        Key::OutBytes => "out_bytes is how many output bytes the slave has, 0 where it has none.",
+        Key::InBytes => "in_bytes is how many input bytes the slave has, 0 where it has none.",
+        Key::Area(false) =>
+            "out_at is the address at which the slave's outputs begin, 4096 to 65535.",
+        Key::Area(true) => "in_at is the address at which the slave's inputs begin, 4096 to 65535.",
     }
 }
 
@@ -69,31 +68,21 @@ fn unknown_in<'a>(table: Option<&'a Table>, keys: &[Key]) -> Option<&'a str> {
     None
 }
 
-/// The key with this spelling.
-fn key_spelled(keys: &[Key], word: &str) -> Option<Key> {
-    for key in keys {
-        if word == key.as_str() {
-            return Some(*key);
-        }
-    }
-    None
-}
-
 /// Adds which keys there are.
-fn add_keys(out: &mut Draft, place: Place) {
-    match (place.unit, place.slave) {
+fn add_keys(out: &mut Draft, spot: Spot) {
+    match (spot.unit, spot.slave) {
         (Some(_), Some(_)) => {
             out.add("The keys of a slave are station, out_bytes, in_bytes, out_at and in_at.\n");
         }
         (Some(_), None) => {
             out.add("The keys of a unit are name, period, slave, phase and slot.\n");
         }
-        _ => out.add("The keys at the top of the file are tick_ns, slots and unit.\n"),
+        (None, _) => out.add("The keys at the top of the file are tick_ns, slots and unit.\n"),
     }
 }
 
 /// Adds where a key stands that is one of another table; else which key was meant.
-fn add_meant(out: &mut Draft, alloc: Global, word: &str, place: Place) {
+fn add_meant(out: &mut Draft, alloc: Global, word: &str, spot: Spot) {
     if is_key(&SLAVE_KEYS, word) {
         return out.add("It is a key of a slave, below a line [[unit.slave]].\n");
     }
@@ -110,7 +99,7 @@ fn add_meant(out: &mut Draft, alloc: Global, word: &str, place: Place) {
     if is_key(&TOP_KEYS, word) {
         return out.add("It stands at the top of the file, above the first [[unit]].\n");
     }
-    let Ok(meant) = nearest(alloc, word, keys_at(place)) else {
+    let Ok(meant) = nearest(alloc, word, keys_at(spot)) else {
         return out.give_up();
     };
     match meant {
@@ -118,40 +107,38 @@ fn add_meant(out: &mut Draft, alloc: Global, word: &str, place: Place) {
             let key = key.as_str();
             out.add(format_args!("Was {key} meant?\n"));
         }
-        None => add_keys(out, place),
+        None => add_keys(out, spot),
     }
 }
 
-/// Adds the first key at a place that isn't known there, and which was meant.
-fn add_unknown(out: &mut Draft, alloc: Global, doc: Doc<'_>, place: Place) {
-    let Some(word) = unknown_in(table_of(doc, place), keys_at(place)) else {
-        return add_keys(out, place);
+/// Adds the first key at a spot that isn't known there, and which was meant.
+fn add_unknown(out: &mut Draft, alloc: Global, doc: Doc<'_>, spot: Spot) {
+    let Some(word) = unknown_in(table_of(doc, spot), keys_at(spot)) else {
+        return add_keys(out, spot);
     };
     out.add("the key ");
     add_quoted(out, word.as_bytes());
     out.add(" is not known there.\n");
-    add_meant(out, alloc, word, place);
+    add_meant(out, alloc, word, spot);
 }
 
 /// Tells a key that isn't known.
-pub(crate) fn tell_unknown(out: &mut Draft, alloc: Global, doc: Doc<'_>, refused: Refused<'_>) {
-    add_in(out, doc, refused.place());
-    add_unknown(out, alloc, doc, refused.place());
+pub(crate) fn tell_unknown(out: &mut Draft, alloc: Global, doc: Doc<'_>, spot: Spot) {
+    add_in(out, doc, spot);
+    add_unknown(out, alloc, doc, spot);
 }
 
 /// Tells a key that is missing, and one that isn't known where it should stand.
-pub(crate) fn tell_missing(out: &mut Draft, alloc: Global, doc: Doc<'_>, refused: Refused<'_>) {
-    let place = refused.place();
-    let word = refused.word(5);
-    add_in(out, doc, place);
+pub(crate) fn tell_missing(out: &mut Draft, alloc: Global, doc: Doc<'_>, spot: Spot, key: Key) {
+    add_in(out, doc, spot);
     out.add("the key ");
-    add_quoted(out, word.as_bytes());
+    add_quoted(out, key.as_str().as_bytes());
     out.add(" is missing.\n");
-    if unknown_in(table_of(doc, place), keys_at(place)).is_some() {
+    if unknown_in(table_of(doc, spot), keys_at(spot)).is_some() {
         out.add("Beside it, ");
-        add_unknown(out, alloc, doc, place);
+        add_unknown(out, alloc, doc, spot);
     }
-    out.add(meaning(word));
+    out.add(meaning(key));
     out.add('\n');
 }
 
@@ -170,19 +157,24 @@ fn add_type(out: &mut Draft, key: Key, value: &Value) {
         Key::Unit => add_not_tables(out, value, "unit"),
         Key::Slave => add_not_tables(out, value, "unit.slave"),
         Key::Name => out.add("A name is a text in quotes, as name = \"press-4\".\n"),
-        _ => out.add("A whole number is needed, without quotes and without a point.\n"),
+        Key::TickNs
+        | Key::Slots
+        | Key::Period
+        | Key::Phase
+        | Key::Slot
+        | Key::Station
+        | Key::OutBytes
+        | Key::InBytes
+        | Key::Area(_) => {
+            out.add("A whole number is needed, without quotes and without a point.\n");
+        }
     }
 }
 
 /// Tells a value of another type.
-pub(crate) fn tell_type(out: &mut Draft, doc: Doc<'_>, refused: Refused<'_>) {
-    let place = refused.place();
-    let word = refused.word(5);
-    add_in(out, doc, place);
-    let Some(key) = key_spelled(keys_at(place), word) else {
-        return out.add("a value has the wrong type.\n");
-    };
-    let Some(value) = value_in(table_of(doc, place), key) else {
+pub(crate) fn tell_type(out: &mut Draft, doc: Doc<'_>, spot: Spot, key: Key) {
+    add_in(out, doc, spot);
+    let Some(value) = value_in(table_of(doc, spot), key) else {
         return out.add("a value has the wrong type.\n");
     };
     out.add(key.as_str());

@@ -3,9 +3,8 @@
 use crate::headers::{slave_line, unit_line};
 use crate::inputs::{Doc, number_in, text_in, value_in};
 use crate::quoted::{add_quoted, add_value};
-use crate::refused::Place;
 use ec_drafts::Draft;
-use ec_unit_text::Key;
+use ec_unit_text::{Key, Spot};
 use toml::Table;
 
 /// Adds a line of the file in brackets, if it is known.
@@ -50,24 +49,24 @@ pub(crate) fn add_slave(out: &mut Draft, doc: Doc<'_>, unit: usize, slave: usize
 }
 
 /// Adds in which table something is: `In unit "a" (line 3): `.
-pub(crate) fn add_in(out: &mut Draft, doc: Doc<'_>, place: Place) {
-    let Some(unit) = place.unit else {
+pub(crate) fn add_in(out: &mut Draft, doc: Doc<'_>, spot: Spot) {
+    let Some(unit) = spot.unit else {
         return out.add("At the top of the file: ");
     };
     out.add("In ");
-    match place.slave {
+    match spot.slave {
         Some(slave) => add_slave(out, doc, unit, slave),
         None => add_unit(out, doc, unit),
     }
     out.add(": ");
 }
 
-/// The table that a line names.
-pub(crate) fn table_of<'a>(doc: Doc<'a>, place: Place) -> Option<&'a Table> {
-    match (place.unit, place.slave) {
-        (Some(_), Some(_)) => doc.slave(place.unit, place.slave),
-        (Some(_), None) => doc.unit(place.unit),
-        _ => doc.top,
+/// The table at a spot.
+pub(crate) fn table_of<'a>(doc: Doc<'a>, spot: Spot) -> Option<&'a Table> {
+    match (spot.unit, spot.slave) {
+        (Some(_), Some(_)) => doc.slave(spot.unit, spot.slave),
+        (Some(_), None) => doc.unit(spot.unit),
+        (None, _) => doc.top,
     }
 }
 

@@ -1,4 +1,4 @@
-//! What there is to tell a person of a refusal: from the line that refuses and what was read, a few sentences.
+//! What there is to tell a person of a refusal and of a search without a proof, in a few sentences.
 //!
 //! Nothing of it takes part in a job: it is made after the job, of copies of what the job read.
 #![tactic(auto)]
@@ -20,7 +20,6 @@ mod periods;
 mod places;
 mod quoted;
 mod ranges;
-mod refused;
 mod syntax;
 mod telling;
 mod units;

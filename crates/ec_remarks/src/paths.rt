@@ -37,24 +37,14 @@ pub(crate) fn tell_write(out: &mut Draft, inputs: &Inputs<'_>) {
     out.add("Give a path in a folder that is there and can be written.\n");
 }
 
-/// What is told of a code alone.
-pub(crate) fn words_of(code: &str) -> &'static str {
-    match code {
-        "U1" =>
-            "Memory ran out: nothing is said of the units. Run it with more memory, or with fewer nodes.\n",
-        "C1" =>
-            "Memory ran out over the certificate: nothing is said of it. Run it with more memory.\n",
-        "S1" =>
-            "Memory ran out before the search began. Run it with more memory, or with fewer workers.\n",
-        "P1" => "Memory ran out over the frames or the slaves. Run it with more memory.\n",
-        "P4" =>
-            "No ring of frames could be made between two threads, or one was lost. Run it again, with more memory.\n",
-        "P5" =>
-            "No thread could be started for a slave: a play takes one for each of at most 16 slaves. Run it where that many may be started.\n",
-        "S2" =>
-            "No thread could be started for a worker. Run it with --workers 1, which needs none.\n",
-        "E1" =>
-            "The unit text is too large: at most 1048576 bytes are read. Is it the right file?\n",
-        _ => "",
-    }
+/// Tells that memory ran out over the units, or over what is told of them.
+pub(crate) fn tell_memory(out: &mut Draft) {
+    out.add(
+        "Memory ran out: nothing is said of the units. Run it with more memory, or with fewer nodes.\n",
+    );
+}
+
+/// Tells that the unit text is too large.
+pub(crate) fn tell_large(out: &mut Draft) {
+    out.add("The unit text is too large: at most 1048576 bytes are read. Is it the right file?\n");
 }

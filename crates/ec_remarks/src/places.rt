@@ -3,18 +3,17 @@
 use crate::inputs::{Doc, number_in, text_in, value_in};
 use crate::label::{add_in, add_pair, add_unit};
 use crate::quoted::add_quoted;
-use crate::refused::Refused;
 use ec_drafts::Draft;
-use ec_unit_text::Key;
+use ec_unit_text::{Key, Spot};
 use toml::Table;
 
 /// Tells a phase or a slot out of range, with both limits.
-pub(crate) fn tell_range(out: &mut Draft, doc: Doc<'_>, refused: Refused<'_>) {
-    let unit = doc.unit(refused.number(3));
+pub(crate) fn tell_range(out: &mut Draft, doc: Doc<'_>, spot: Spot) {
+    let unit = doc.unit(spot.unit);
     let period = number_in(unit, Key::Period).unwrap_or(60);
     let slots = number_in(doc.top, Key::Slots).unwrap_or(8);
     let (last_phase, last_slot) = (period.saturating_sub(1), slots.saturating_sub(1));
-    add_in(out, doc, refused.place());
+    add_in(out, doc, spot);
     add_pair(out, unit, Key::Phase);
     out.add(" and ");
     add_pair(out, unit, Key::Slot);
@@ -23,9 +22,9 @@ pub(crate) fn tell_range(out: &mut Draft, doc: Doc<'_>, refused: Refused<'_>) {
 }
 
 /// Tells which half of a place is missing.
-pub(crate) fn tell_half(out: &mut Draft, doc: Doc<'_>, refused: Refused<'_>) {
-    let unit = doc.unit(refused.number(3));
-    add_in(out, doc, refused.place());
+pub(crate) fn tell_half(out: &mut Draft, doc: Doc<'_>, spot: Spot) {
+    let unit = doc.unit(spot.unit);
+    add_in(out, doc, spot);
     add_pair(out, unit, Key::Phase);
     out.add(" and ");
     add_pair(out, unit, Key::Slot);
@@ -33,9 +32,9 @@ pub(crate) fn tell_half(out: &mut Draft, doc: Doc<'_>, refused: Refused<'_>) {
 }
 
 /// Tells a unit without a place.
-pub(crate) fn tell_no_place(out: &mut Draft, doc: Doc<'_>, refused: Refused<'_>) {
+pub(crate) fn tell_no_place(out: &mut Draft, doc: Doc<'_>, unit: usize) {
     out.add("A unit has no place, that is no phase and no slot: ");
-    add_unit(out, doc, refused.number(3).unwrap_or(0));
+    add_unit(out, doc, unit);
     out.add(
         ".\nCosts and frames are those of places: write them for every unit, or let plan find them.\n",
     );
@@ -66,11 +65,8 @@ fn add_travelling(out: &mut Draft, doc: Doc<'_>, tick: i64, slot: i64) {
     out.add(".\n");
 }
 
-/// Adds a slot that carries too much, from a word of the line on: its tick, the slot, and the bytes.
-pub(crate) fn add_full(out: &mut Draft, refused: Refused<'_>, at: usize) {
-    let tick = refused.number(at).unwrap_or(0);
-    let slot = refused.number(at.saturating_add(1)).unwrap_or(0);
-    let bytes = refused.number(at.saturating_add(2)).unwrap_or(0);
+/// Adds a slot that carries too much in a tick, with its bytes.
+pub(crate) fn add_full(out: &mut Draft, tick: u32, slot: u8, bytes: u32) {
     out.add(format_args!(
         "Too much travels in one frame: in tick {tick} slot {slot} has {bytes} bytes"
     ));
@@ -78,12 +74,10 @@ pub(crate) fn add_full(out: &mut Draft, refused: Refused<'_>, at: usize) {
 }
 
 /// Tells which slot carries too much in which tick, and which units travel in it.
-pub(crate) fn tell_full(out: &mut Draft, doc: Doc<'_>, refused: Refused<'_>) {
-    add_full(out, refused, 3);
-    let tick = refused.word(3).parse::<i64>().ok().unwrap_or(0);
-    let slot = refused.word(4).parse::<i64>().ok().unwrap_or(0);
+pub(crate) fn tell_full(out: &mut Draft, doc: Doc<'_>, tick: u32, slot: u8, bytes: u32) {
+    add_full(out, tick, slot, bytes);
     if !doc.units().is_empty() {
-        add_travelling(out, doc, tick, slot);
+        add_travelling(out, doc, i64::from(tick), i64::from(slot));
     }
     out.add("Give some of them another phase or another slot.\n");
 }

@@ -2,46 +2,56 @@
 
 use crate::inputs::Doc;
 use crate::label::{add_in, add_pair, table_of};
-use crate::refused::Refused;
 use ec_drafts::Draft;
-use ec_unit_text::Key;
+use ec_unit_text::{Key, Spot};
 
-/// The keys whose values are out of range.
-fn keys_of(code: &str) -> &'static [Key] {
-    match code {
-        "U10" => &[Key::Period],
-        "U12" => &[Key::OutBytes, Key::InBytes],
-        "U14" => &[Key::Station],
-        "U18" => &[Key::Slots],
-        "U19" => &[Key::TickNs],
-        _ => &[],
-    }
-}
+/// The top table of a unit text.
+const TOP: Spot = Spot {
+    unit: None,
+    slave: None,
+};
 
-/// The range.
-fn rule_of(code: &str) -> &'static str {
-    match code {
-        "U10" => "a period is 1 to 60 ticks",
-        "U12" => "neither may be negative, and not both may be 0",
-        "U14" => "a station address is 1 to 65535",
-        "U18" => "there are 1 to 8 slots",
-        "U19" => "a tick is 80 to 1000000000 ns",
-        _ => "",
-    }
-}
-
-/// Tells the values and their range: `In unit "a" (line 3): period = 90, but a period is 1 to 60 ticks.`
-pub(crate) fn tell_range(out: &mut Draft, doc: Doc<'_>, refused: Refused<'_>) {
-    let place = refused.place();
-    let table = table_of(doc, place);
-    add_in(out, doc, place);
+/// Tells values and their range: `In unit "a" (line 3): period = 90, but a period is 1 to 60 ticks.`
+fn tell_range(out: &mut Draft, doc: Doc<'_>, spot: Spot, keys: &[Key], rule: &str) {
+    let table = table_of(doc, spot);
+    add_in(out, doc, spot);
     if table.is_some() {
-        for key in keys_of(refused.code()) {
+        for key in keys {
             add_pair(out, table, *key);
             out.add(", ");
         }
         out.add("but ");
     }
-    out.add(rule_of(refused.code()));
+    out.add(rule);
     out.add(".\n");
+}
+
+/// Tells a period out of range.
+pub(crate) fn tell_period(out: &mut Draft, doc: Doc<'_>, spot: Spot) {
+    let rule = "a period is 1 to 60 ticks";
+    tell_range(out, doc, spot, &[Key::Period], rule);
+}
+
+/// Tells bytes of a slave that are negative, or both 0.
+pub(crate) fn tell_slave_bytes(out: &mut Draft, doc: Doc<'_>, spot: Spot) {
+    let rule = "neither may be negative, and not both may be 0";
+    tell_range(out, doc, spot, &[Key::OutBytes, Key::InBytes], rule);
+}
+
+/// Tells a station out of range.
+pub(crate) fn tell_station(out: &mut Draft, doc: Doc<'_>, spot: Spot) {
+    let rule = "a station address is 1 to 65535";
+    tell_range(out, doc, spot, &[Key::Station], rule);
+}
+
+/// Tells slots out of range.
+pub(crate) fn tell_slots(out: &mut Draft, doc: Doc<'_>) {
+    let rule = "there are 1 to 8 slots";
+    tell_range(out, doc, TOP, &[Key::Slots], rule);
+}
+
+/// Tells a tick out of range.
+pub(crate) fn tell_tick(out: &mut Draft, doc: Doc<'_>) {
+    let rule = "a tick is 80 to 1000000000 ns";
+    tell_range(out, doc, TOP, &[Key::TickNs], rule);
 }

@@ -79,7 +79,7 @@ fn hint(line: &str, message: &str) -> &'static str {
 }
 
 /// Tells the line and the column at which the reader stopped, why, the line's text, and what was likely meant.
-pub(crate) fn tell_syntax(out: &mut Draft, alloc: Global, text: &[u8], error: Error) {
+fn tell_syntax(out: &mut Draft, alloc: Global, text: &[u8], error: Error) {
     let Some(span) = error.span() else {
         return out.add("The file is not TOML.\n");
     };
@@ -100,5 +100,13 @@ pub(crate) fn tell_syntax(out: &mut Draft, alloc: Global, text: &[u8], error: Er
     match String::from_utf8_lossy(alloc, bytes) {
         Ok(line) => out.add(hint(line.as_str(), error.message())),
         Err(_) => out.give_up(),
+    }
+}
+
+/// Tells that the file isn't TOML, and where and why its reader stopped, if that is known.
+pub(crate) fn tell_not_toml(out: &mut Draft, alloc: Global, text: &[u8], error: Option<Error>) {
+    match error {
+        Some(error) => tell_syntax(out, alloc, text, error),
+        None => out.add("The file is not TOML.\n"),
     }
 }

@@ -3,9 +3,8 @@
 use crate::inputs::{Doc, number_in, text_in, values_in};
 use crate::label::{add_in, add_slave, add_unit};
 use crate::quoted::add_quoted;
-use crate::refused::Refused;
 use ec_drafts::Draft;
-use ec_unit_text::Key;
+use ec_unit_text::{Key, Spot};
 use ec_units::is_name_byte;
 use toml::{Table, Value};
 
@@ -37,10 +36,10 @@ fn add_name_cause(out: &mut Draft, name: &str) {
 }
 
 /// Tells what is wrong with a name.
-pub(crate) fn tell_name(out: &mut Draft, doc: Doc<'_>, refused: Refused<'_>) {
-    add_in(out, doc, refused.place());
+pub(crate) fn tell_name(out: &mut Draft, doc: Doc<'_>, spot: Spot) {
+    add_in(out, doc, spot);
     out.add("a name has 1 to 32 characters of a-z, A-Z, 0-9, _ and -.\n");
-    match text_in(doc.unit(refused.number(3)), Key::Name) {
+    match text_in(doc.unit(spot.unit), Key::Name) {
         Some(name) => add_name_cause(out, name),
         None => {}
     }
@@ -57,22 +56,22 @@ fn unit_named(units: &[Value], name: &str) -> Option<usize> {
 }
 
 /// Tells which two units have one name.
-pub(crate) fn tell_same_name(out: &mut Draft, doc: Doc<'_>, refused: Refused<'_>) {
+pub(crate) fn tell_same_name(out: &mut Draft, doc: Doc<'_>, spot: Spot) {
     out.add("Two units have one name: ");
-    if let Some(name) = text_in(doc.unit(refused.number(3)), Key::Name) {
+    if let Some(name) = text_in(doc.unit(spot.unit), Key::Name) {
         if let Some(first) = unit_named(doc.units(), name) {
             add_unit(out, doc, first);
             out.add(" and ");
         }
     }
-    add_unit(out, doc, refused.number(3).unwrap_or(0));
+    add_unit(out, doc, spot.unit.unwrap_or(0));
     out.add(".\nGive each unit a name of its own.\n");
 }
 
 /// Tells how many slaves a unit has.
-pub(crate) fn tell_slaves(out: &mut Draft, doc: Doc<'_>, refused: Refused<'_>) {
-    let count = values_in(doc.unit(refused.number(3)), Key::Slave).len();
-    add_in(out, doc, refused.place());
+pub(crate) fn tell_slaves(out: &mut Draft, doc: Doc<'_>, spot: Spot) {
+    let count = values_in(doc.unit(spot.unit), Key::Slave).len();
+    add_in(out, doc, spot);
     out.add(format_args!("there are {count} slaves, but a unit has 1 to 8.\n"));
     out.add(
         "Each slave begins with a line [[unit.slave]], below the [[unit]] that it belongs to.\n",
@@ -96,9 +95,9 @@ pub(crate) fn unit_bytes(unit: Option<&Table>) -> i64 {
 }
 
 /// Tells how many bytes a unit has.
-pub(crate) fn tell_bytes(out: &mut Draft, doc: Doc<'_>, refused: Refused<'_>) {
-    let bytes = unit_bytes(doc.unit(refused.number(3)));
-    add_in(out, doc, refused.place());
+pub(crate) fn tell_bytes(out: &mut Draft, doc: Doc<'_>, spot: Spot) {
+    let bytes = unit_bytes(doc.unit(spot.unit));
+    add_in(out, doc, spot);
     out.add(format_args!(
         "all its slaves together have {bytes} bytes, but one datagram carries at most 1486.\n"
     ));
@@ -126,15 +125,14 @@ fn place_with(doc: Doc<'_>, station: i64) -> Option<(usize, usize)> {
 }
 
 /// Tells which two slaves have one station.
-pub(crate) fn tell_same_station(out: &mut Draft, doc: Doc<'_>, refused: Refused<'_>) {
-    let place = refused.place();
+pub(crate) fn tell_same_station(out: &mut Draft, doc: Doc<'_>, spot: Spot) {
     out.add("Two slaves have one station address: ");
-    if let Some(station) = number_in(doc.slave(place.unit, place.slave), Key::Station) {
+    if let Some(station) = number_in(doc.slave(spot.unit, spot.slave), Key::Station) {
         if let Some((unit, slave)) = place_with(doc, station) {
             add_slave(out, doc, unit, slave);
             out.add(" and ");
         }
     }
-    add_slave(out, doc, place.unit.unwrap_or(0), place.slave.unwrap_or(0));
+    add_slave(out, doc, spot.unit.unwrap_or(0), spot.slave.unwrap_or(0));
     out.add(".\nEach slave of the line has an address of its own.\n");
 }

@@ -1,16 +1,16 @@
 //! The command line.
 
-ghost use Rattle.std.specs.Prelude.{◌≡◌, codes, IfOk, IfSome};
-ghost use Rattle.ec_command.specs.Words.{JobFits, HasPath, MayHaveOut};
+ghost use Rattle.std.specs.Prelude.{◌≡◌, ◌≤◌, true, Some, codes, IfOk, IfSome};
+ghost use Rattle.std.specs.Option.{ForSome};
+ghost use Rattle.ec_command.specs.Words.{JobFits, job_of};
 ghost use Rattle.ec_words.specs.Names.{name_of};
-ghost use Rattle.ec_words.specs.Numbers.{HasNumbersOf};
-ghost use Rattle.ec_words.specs.Pictures.{MayHavePicture};
-ghost use Rattle.ec_words.specs.Placing.{MayHavePlaces};
+ghost use Rattle.ec_words.specs.Numbers.{EffortFits, HasEffortOf, HasNumbersOf, IsSaidBy};
+ghost use Rattle.ec_words.specs.Paths.{HasPathsOf, IsPathOf};
 ghost use Rattle.ec_words.specs.declared.words.LineFault.TheVariants.{Memory};
 
 use clap::error::ErrorKind;
 use clap::{ArgMatches, Error};
-use ec_command::{Job, Line};
+use ec_command::{Effort, Line};
 use ec_options::all_commands;
 use std::alloc::{AllocError, Global};
 
@@ -31,16 +31,12 @@ impl From<AllocError> for LineFault {
     }
 }
 
-/// The words of a command line: its job with the certificate's paths, and what else they name.
+/// The words of a command line: the command with its paths, and what else they say.
 #[derive(Debug, Drop)]
 pub struct Words {
     pub line: Line,
     /// The path of the units; none where they come on standard input.
     pub units: Option<String>,
-    /// The path of a picture to write.
-    pub picture: Option<String>,
-    /// The path at which the unit text is written again with the places of the plan.
-    pub places: Option<String>,
     /// Whether the progress of a search is told also where standard error is no terminal.
     pub progress: bool,
 }
@@ -64,170 +60,167 @@ fn fault_of(alloc: Global, error: Error) -> LineFault {
     }
 }
 
-/// The workers and nodes of a plan or a resumed search, where they are within the limits.
-fn numbers_of(matches: &ArgMatches<'_>) -> Option<(usize, u32)>
-    ensures within { IfSome result (λ numbers. JobFits (Job.Plan numbers.0 numbers.1)) }
-    ensures said { IfSome result (λ numbers. HasNumbersOf matches.now (Job.Plan numbers.0 numbers.1)) }
+/// The path that an option names, if it is there.
+fn path_of(
+    alloc: Global,
+    matches: &ArgMatches<'_>,
+    option: &str,
+) -> Result<Option<String>, AllocError>
+    ensures { IfOk result (IsPathOf matches.now option.now) }
+{
+    match matches.get_str(option) {
+        Some(path) => Ok(Some(String::from_str(alloc, path)?)),
+        None => Ok(None),
+    }
+}
+
+/// The path of a certificate that has to be there.
+fn cert_path(alloc: Global, matches: &ArgMatches<'_>) -> Result<String, LineFault>
+    ensures { IfOk result (λ path. IsPathOf matches.now (codes "cert") (Some path)) }
+{
+    match path_of(alloc, matches, "cert")? {
+        Some(path) => Ok(path),
+        None => Err(refused(alloc, "error: --cert <PATH> is missing\n")),
+    }
+}
+
+/// The nodes that a search may visit where no number is given: a million, and where time ends it, as many as may be asked
+/// for.
+fn usual_nodes(minutes: Option<u32>) -> u32 {
+    match minutes {
+        Some(_) => 10_000_000,
+        None => 1_000_000,
+    }
+}
+
+/// The nodes that a search may visit; none of a word that is no number.
+fn nodes_of(matches: &ArgMatches<'_>, minutes: Option<u32>) -> Option<u32>
+    ensures { IfSome result (IsSaidBy matches.now (codes "nodes")) }
+{
+    if matches.contains_id("nodes") {
+        matches.get_one::<u32>("nodes")
+    } else {
+        Some(usual_nodes(minutes))
+    }
+}
+
+/// Whether a number of minutes is within its limits.
+fn are_minutes(minutes: Option<u32>) -> bool
+    ensures { result ≡ true → ForSome minutes (λ m. (1 ≤ m) × (m ≤ 10000)) }
+{
+    match minutes {
+        Some(minutes) => 1 <= minutes && minutes <= 10_000,
+        None => true,
+    }
+}
+
+/// What a search may take, where the numbers are within the limits.
+fn effort_of(matches: &ArgMatches<'_>) -> Option<Effort>
+    ensures within { IfSome result EffortFits }
+    ensures said { IfSome result (HasEffortOf matches.now) }
 {
     let workers = matches.get_one::<usize>("workers")?;
-    let nodes = matches.get_one::<u32>("nodes")?;
-    if workers < 1 || workers > 16 || nodes < 1 || nodes > 10_000_000 {
+    let minutes = matches.get_one::<u32>("minutes");
+    let nodes = nodes_of(matches, minutes)?;
+    if workers < 1 || workers > 16 || nodes < 1 || nodes > 10_000_000 || !are_minutes(minutes) {
         return None;
     }
-    Some((workers, nodes))
+    Some(Effort {
+        workers,
+        nodes,
+        minutes,
+    })
+}
+
+/// What a search may take, or the refusal that says that a number is out of range.
+fn effort(alloc: Global, matches: &ArgMatches<'_>) -> Result<Effort, LineFault>
+    ensures within { IfOk result EffortFits }
+    ensures said { IfOk result (HasEffortOf matches.now) }
+{
+    match effort_of(matches) {
+        Some(effort) => Ok(effort),
+        None => Err(refused(alloc, "error: a number is out of range\n")),
+    }
 }
 
 /// The line of a plan with these options.
 fn plan_line(alloc: Global, matches: &ArgMatches<'_>) -> Result<Line, LineFault>
-    ensures named { IfOk result (λ line. name_of line.job ≡ codes "plan") }
-    ensures within { IfOk result (λ line. JobFits line.job) }
-    ensures paths { IfOk result (λ line. HasPath line.job line.cert) }
-    ensures said { IfOk result (λ line. HasNumbersOf matches.now line.job) }
-    ensures out { IfOk result (λ line. MayHaveOut line.job line.out) }
+    ensures named { IfOk result (λ line. name_of line ≡ codes "plan") }
+    ensures within { IfOk result (λ line. JobFits (job_of line)) }
+    ensures said { IfOk result (HasNumbersOf matches.now) }
+    ensures paths { IfOk result (HasPathsOf matches.now) }
 {
-    let Some((workers, nodes)) = numbers_of(matches) else {
-        return Err(refused(alloc, "error: a number is out of range\n"));
-    };
-    let out = match matches.get_str("out") {
-        Some(path) => Some(String::from_str(alloc, path)?),
-        None => None,
-    };
-    Ok(Line {
-        job: Job::Plan { workers, nodes },
-        cert: None,
+    let effort = effort(alloc, matches)?;
+    let out = path_of(alloc, matches, "out")?;
+    let places = path_of(alloc, matches, "places")?;
+    Ok(Line::Plan {
+        effort,
         out,
+        places,
     })
 }
 
 /// The line of a resumed search with these options.
 fn resume_line(alloc: Global, matches: &ArgMatches<'_>) -> Result<Line, LineFault>
-    ensures named { IfOk result (λ line. name_of line.job ≡ codes "resume") }
-    ensures within { IfOk result (λ line. JobFits line.job) }
-    ensures paths { IfOk result (λ line. HasPath line.job line.cert) }
-    ensures said { IfOk result (λ line. HasNumbersOf matches.now line.job) }
-    ensures out { IfOk result (λ line. MayHaveOut line.job line.out) }
+    ensures named { IfOk result (λ line. name_of line ≡ codes "resume") }
+    ensures within { IfOk result (λ line. JobFits (job_of line)) }
+    ensures said { IfOk result (HasNumbersOf matches.now) }
+    ensures paths { IfOk result (HasPathsOf matches.now) }
 {
-    let Some((workers, nodes)) = numbers_of(matches) else {
-        return Err(refused(alloc, "error: a number is out of range\n"));
-    };
-    let Some(path) = matches.get_str("cert") else {
-        return Err(refused(alloc, "error: --cert <PATH> is missing\n"));
-    };
-    let cert = Some(String::from_str(alloc, path)?);
-    let out = match matches.get_str("out") {
-        Some(path) => Some(String::from_str(alloc, path)?),
-        None => None,
-    };
-    Ok(Line {
-        job: Job::Resume { workers, nodes },
+    let effort = effort(alloc, matches)?;
+    let cert = cert_path(alloc, matches)?;
+    let out = path_of(alloc, matches, "out")?;
+    let places = path_of(alloc, matches, "places")?;
+    Ok(Line::Resume {
         cert,
+        effort,
         out,
+        places,
     })
 }
 
-/// The line of a check with these options.
-fn check_line(alloc: Global, matches: &ArgMatches<'_>) -> Result<Line, LineFault>
-    ensures named { IfOk result (λ line. name_of line.job ≡ codes "check") }
-    ensures within { IfOk result (λ line. JobFits line.job) }
-    ensures paths { IfOk result (λ line. HasPath line.job line.cert) }
-    ensures said { IfOk result (λ line. HasNumbersOf matches.now line.job) }
-    ensures out { IfOk result (λ line. MayHaveOut line.job line.out) }
-{
-    let Some(path) = matches.get_str("cert") else {
-        return Err(refused(alloc, "error: --cert <PATH> is missing\n"));
-    };
-    Ok(Line {
-        job: Job::Check,
-        cert: Some(String::from_str(alloc, path)?),
-        out: None,
-    })
-}
-
-/// The line of a cost with these options: of a certificate's plan where they have its path.
+/// The line of a cost with these options.
 fn cost_line(alloc: Global, matches: &ArgMatches<'_>) -> Result<Line, LineFault>
-    ensures named { IfOk result (λ line. name_of line.job ≡ codes "cost") }
-    ensures within { IfOk result (λ line. JobFits line.job) }
-    ensures paths { IfOk result (λ line. HasPath line.job line.cert) }
-    ensures said { IfOk result (λ line. HasNumbersOf matches.now line.job) }
-    ensures out { IfOk result (λ line. MayHaveOut line.job line.out) }
+    ensures named { IfOk result (λ line. name_of line ≡ codes "cost") }
+    ensures within { IfOk result (λ line. JobFits (job_of line)) }
+    ensures said { IfOk result (HasNumbersOf matches.now) }
+    ensures paths { IfOk result (HasPathsOf matches.now) }
 {
-    let cert = match matches.get_str("cert") {
-        Some(path) => String::from_str(alloc, path)?,
-        None => {
-            return Ok(Line {
-                job: Job::Cost,
-                cert: None,
-                out: None,
-            });
-        }
-    };
-    Ok(Line {
-        job: Job::PlanCost,
-        cert: Some(cert),
-        out: None,
-    })
+    let cert = path_of(alloc, matches, "cert")?;
+    let svg = path_of(alloc, matches, "svg")?;
+    Ok(Line::Cost { cert, svg })
 }
 
-/// The line of frames with these options: of a capture where they have the path of its file.
+/// The line of frames with these options.
 fn frames_line(alloc: Global, matches: &ArgMatches<'_>) -> Result<Line, LineFault>
-    ensures named { IfOk result (λ line. name_of line.job ≡ codes "frames") }
-    ensures within { IfOk result (λ line. JobFits line.job) }
-    ensures paths { IfOk result (λ line. HasPath line.job line.cert) }
-    ensures said { IfOk result (λ line. HasNumbersOf matches.now line.job) }
-    ensures out { IfOk result (λ line. MayHaveOut line.job line.out) }
+    ensures named { IfOk result (λ line. name_of line ≡ codes "frames") }
+    ensures within { IfOk result (λ line. JobFits (job_of line)) }
+    ensures said { IfOk result (HasNumbersOf matches.now) }
+    ensures paths { IfOk result (HasPathsOf matches.now) }
 {
-    let cert = match matches.get_str("cert") {
-        Some(path) => Some(String::from_str(alloc, path)?),
-        None => None,
-    };
-    match matches.get_str("pcap") {
-        Some(path) => Ok(Line {
-            job: Job::Capture,
-            cert,
-            out: Some(String::from_str(alloc, path)?),
-        }),
-        None => Ok(Line {
-            job: Job::Frames,
-            cert,
-            out: None,
-        }),
-    }
-}
-
-/// The line of a play with these options.
-fn play_line(alloc: Global, matches: &ArgMatches<'_>) -> Result<Line, LineFault>
-    ensures named { IfOk result (λ line. name_of line.job ≡ codes "play") }
-    ensures within { IfOk result (λ line. JobFits line.job) }
-    ensures paths { IfOk result (λ line. HasPath line.job line.cert) }
-    ensures said { IfOk result (λ line. HasNumbersOf matches.now line.job) }
-    ensures out { IfOk result (λ line. MayHaveOut line.job line.out) }
-{
-    let cert = match matches.get_str("cert") {
-        Some(path) => Some(String::from_str(alloc, path)?),
-        None => None,
-    };
-    Ok(Line {
-        job: Job::Play,
-        cert,
-        out: None,
-    })
+    let cert = path_of(alloc, matches, "cert")?;
+    let pcap = path_of(alloc, matches, "pcap")?;
+    Ok(Line::Frames { cert, pcap })
 }
 
 /// The line of a command with these options.
 fn line_of(alloc: Global, command: &str, matches: &ArgMatches<'_>) -> Result<Line, LineFault>
-    ensures named { IfOk result (λ line. name_of line.job ≡ command.now) }
-    ensures within { IfOk result (λ line. JobFits line.job) }
-    ensures paths { IfOk result (λ line. HasPath line.job line.cert) }
-    ensures said { IfOk result (λ line. HasNumbersOf matches.now line.job) }
-    ensures out { IfOk result (λ line. MayHaveOut line.job line.out) }
+    ensures named { IfOk result (λ line. name_of line ≡ command.now) }
+    ensures within { IfOk result (λ line. JobFits (job_of line)) }
+    ensures said { IfOk result (HasNumbersOf matches.now) }
+    ensures paths { IfOk result (HasPathsOf matches.now) }
 {
     match command {
         "cost" => cost_line(alloc, matches),
         "plan" => plan_line(alloc, matches),
         "resume" => resume_line(alloc, matches),
-        "check" => check_line(alloc, matches),
+        "check" => Ok(Line::Check {
+            cert: cert_path(alloc, matches)?,
+        }),
         "frames" => frames_line(alloc, matches),
-        "play" => play_line(alloc, matches),
+        "play" => Ok(Line::Play {
+            cert: path_of(alloc, matches, "cert")?,
+        }),
         _ => Err(refused(alloc, "error: no command\n")),
     }
 }
@@ -240,43 +233,10 @@ fn units_path(alloc: Global, matches: &ArgMatches<'_>) -> Result<Option<String>,
     }
 }
 
-/// The path of a picture of costs; no other job has one.
-fn picture_path(
-    alloc: Global,
-    job: &Job,
-    matches: &ArgMatches<'_>,
-) -> Result<Option<String>, AllocError>
-    ensures { IfOk result (λ path. MayHavePicture job.now path) }
-{
-    let (Job::Cost | Job::PlanCost, Some(path)) = (job, matches.get_str("svg")) else {
-        return Ok(None);
-    };
-    Ok(Some(String::from_str(alloc, path)?))
-}
-
-/// The path of the units with the places of a search's plan; no other job has one.
-fn places_path(
-    alloc: Global,
-    job: &Job,
-    matches: &ArgMatches<'_>,
-) -> Result<Option<String>, AllocError>
-    ensures { IfOk result (λ path. MayHavePlaces job.now path) }
-{
-    let (Job::Plan { .. } | Job::Resume { .. }, Some(path)) = (job, matches.get_str("places"))
-    else {
-        return Ok(None);
-    };
-    Ok(Some(String::from_str(alloc, path)?))
-}
-
 /// Reads the words after the program's name: `cost`, `plan`, `resume`, `check`, `frames` or `play`, with its options and the path of
 /// the units.
 pub fn read_words(alloc: Global, words: &[String]) -> Result<Words, LineFault>
-    ensures within { IfOk result (λ words. JobFits words.line.job) }
-    ensures paths { IfOk result (λ words. HasPath words.line.job words.line.cert) }
-    ensures out { IfOk result (λ words. MayHaveOut words.line.job words.line.out) }
-    ensures picture { IfOk result (λ words. MayHavePicture words.line.job words.picture) }
-    ensures places { IfOk result (λ words. MayHavePlaces words.line.job words.places) }
+    ensures { IfOk result (λ words. JobFits (job_of words.line)) }
 {
     let matches = match all_commands(alloc)?.try_get_matches_from(words) {
         Ok(matches) => matches,
@@ -286,14 +246,10 @@ pub fn read_words(alloc: Global, words: &[String]) -> Result<Words, LineFault>
         return Err(refused(alloc, "error: no command\n"));
     };
     let line = line_of(alloc, command, options)?;
-    let picture = picture_path(alloc, &line.job, options)?;
-    let places = places_path(alloc, &line.job, options)?;
     let units = units_path(alloc, options)?;
     Ok(Words {
         line,
         units,
-        picture,
-        places,
         progress: options.get_flag("progress"),
     })
 }

@@ -1,5 +1,0 @@
-use Rattle.std.proofs.Common.{rules}
-use Rattle.ec_words.proofs.words.play_line.Goals as goal
-
-pub returns-clause-paths : goal.returns-clause-paths
-returns-clause-paths c = search rules
