@@ -9,10 +9,10 @@ use Rattle.ec_units.specs.declared.units.Units.{Units}
 use Rattle.ec_units.specs.Load.{loads_of}
 use Rattle.ec_unit_text.specs.Reading.{reading}
 use Rattle.ec_units.specs.Views.{units_view}
-use Rattle.ec_loads.specs.Search.{node_count}
+use Rattle.ec_loads.specs.Shape.{Shape}
 use Rattle.ec_cert.specs.declared.cert.Best.{Best}
-use Rattle.ec_cert.specs.BestPlan.{IsBestPlan}
-use Rattle.ec_cert.specs.Shapes.{CertView}
+use Rattle.ec_cert.specs.BestPlan.{IsBestPlan, value_of}
+use Rattle.ec_cert.specs.Shapes.{CertView, shape_of}
 use Rattle.ec_cert.specs.WellFormed.{IsWellFormed}
 use Rattle.ec_cert_text.specs.declared.fault.CertFault.TheVariants as cert
 use Rattle.ec_cert_text.specs.Reading.{reading as cert_reading}
@@ -26,13 +26,14 @@ use Rattle.ec_checker.specs.Laws.{FaultsRefute}
 use Rattle.ec_checker.proofs.CheckLemmas.{claim_from}
 use Rattle.ec_outcome.specs.declared.search.Outcome.{Outcome}
 use Rattle.ec_outcome.specs.declared.search.Outcome.TheVariants as outcome
-use Rattle.ec_workers.specs.Answers.{Asked, asked_beyond, IsOutcome, HasOrder}
+use Rattle.ec_workers.specs.Answers.{Asked, asked_beyond, GoesBeyond, IsOutcome, HasOrder}
 use Rattle.ec_workers.specs.Outcomes.{Shows, IsOptimal, IsWithoutPlan}
+use Rattle.ec_workers.proofs.GrowLemmas.{stays}
 use Rattle.ec_lines.specs.declared.answer.Answer.{Answer}
 use Rattle.ec_lines.specs.Outcomes.{outcome_output, IsLevelOf}
 use Rattle.ec_lines.specs.Output.{shown}
 use Rattle.ec_refusals.specs.declared.refusal.Refusal.{Refusal}
-use Rattle.ec_refusals.specs.Refusals.{out_of_memory, level_memory}
+use Rattle.ec_refusals.specs.Refusals.{out_of_memory}
 use Rattle.ec_inputs.specs.Input.{AnswersUnits, IsInputFault}
 use Rattle.ec_answers.specs.Planned.{GoesOn, GoesOnFrom, IsProofBy, IsStopped, IsStoppedFrom, IsResumeOf, IsResumeFault}
 use Rattle.ec_answers.proofs.CheckedLemmas.{memory_or, too_long}
@@ -84,11 +85,28 @@ own_order c (outcome.Optimal plan b cert) own = ap (λ (x : CertView). x.order) 
 own_order c (outcome.NoPlan cert) own = ap (λ (x : CertView). x.order) own
 own_order c (outcome.Unproved best order tree why) own = absurd own
 
-pub goes_by_proof : (workers nodes : ℕ) (us : Units) (c : CertView) (o : Outcome) → IsCertified us.units us.slots c → ((asked : Asked) → IsOutcome us.units us.slots asked o) → IsProofBy c o → GoesOn workers nodes us c o
-goes_by_proof workers nodes us c o right is own = record {
+no_level : (l : ℕ) → None ≡ Some l → ⊥
+no_level l e = absurd cc
+
+-- a proof goes on from itself
+own_beyond : (nodes : ℕ) (us : Units) (c : CertView) (o : Outcome) → IsOutcome us.units us.slots (asked_beyond 1 0 c.tree) o → IsProofBy c o → GoesBeyond c.tree (value_of c.best) nodes o
+own_beyond nodes us c (outcome.Optimal plan b cert) is own =
+    let value : Some b ≡ value_of c.best = ap (λ x. Some x) (sym is.held.2) ∙ ap value_of (sym is.held.1) ∙ ap (λ (x : CertView). value_of x.best) own in
+    subst (λ (t : Shape). GoesBeyond t (value_of c.best) nodes (outcome.Optimal plan b cert)) (ap (λ (x : CertView). x.tree) own)
+    (subst (λ (v : Option ℕ). GoesBeyond (shape_of cert.tree) v nodes (outcome.Optimal plan b cert)) value (stays nodes (outcome.Optimal plan b cert)))
+own_beyond nodes us c (outcome.NoPlan cert) is own =
+    let value : None ≡ value_of c.best = ap value_of (sym is.held) ∙ ap (λ (x : CertView). value_of x.best) own in
+    subst (λ (t : Shape). GoesBeyond t (value_of c.best) nodes (outcome.NoPlan cert)) (ap (λ (x : CertView). x.tree) own)
+    (subst (λ (v : Option ℕ). GoesBeyond (shape_of cert.tree) v nodes (outcome.NoPlan cert)) value (stays nodes (outcome.NoPlan cert)))
+own_beyond nodes us c (outcome.Unproved best order tree why) is own = absurd own
+
+pub goes_by_proof : (workers nodes : ℕ) (us : Units) (c : CertView) (o : Outcome) → IsCertified us.units us.slots c → c.level ≡ None → ((asked : Asked) → IsOutcome us.units us.slots asked o) → IsProofBy c o → GoesOn workers nodes us c o
+goes_by_proof workers nodes us c o right none is own = record {
   right = right;
-  answer = is (asked_beyond workers nodes (node_count c.tree));
-  proof = λ none. own;
+  answer = is (asked_beyond workers nodes c.tree);
+  beyond = own_beyond nodes us c o (is (asked_beyond 1 0 c.tree)) own;
+  level = λ l some. absurd (no_level l (sym none ∙ some));
+  proof = λ _. own;
   order = own_order c o own;
 }
 
@@ -97,21 +115,21 @@ goes_by_proof workers nodes us c o right is own = record {
 -- the faults of a search that goes on
 stopped_fault : (workers : ℕ) (bytes text : List ℕ) (us : Units) (c : CertView) (r : Refusal) → reading bytes ≡ Ok (units_view us) → cert_reading text ≡ Ok c → IsStopped workers us c r → IsResumeFault workers bytes text r
 stopped_fault workers bytes text us c r said read (inl memory) = inl (inr (inl memory))
-stopped_fault workers bytes text us c r said read (inr (inl h)) = inl (inr (inr (inr h)))
-stopped_fault workers bytes text us c r said read (inr (inr h)) = inr (inr (h.0, h.1, record { units = us; said = said; cert = c; read = read; fault = h.2 }))
+stopped_fault workers bytes text us c r said read (inr (inl h)) = inl (inr (inr h))
+stopped_fault workers bytes text us c r said read (inr (inr h)) = inr (inr (inr (h.0, h.1, record { units = us; said = said; cert = c; read = read; fault = h.2 })))
 
 -- a text from which nothing comes
 pub stopped_text : (workers : ℕ) (bytes text : List ℕ) (us : Units) (r : Refusal) → reading bytes ≡ Ok (units_view us) → IsStoppedFrom workers us text r → IsResumeFault workers bytes text r
 stopped_text workers bytes text us r said (inl (inl memory)) = inl (inr (inl memory))
-stopped_text workers bytes text us r said (inl (inr fault)) = inr (inl fault)
+stopped_text workers bytes text us r said (inl (inr fault)) = inr (inr (inl fault))
 stopped_text workers bytes text us r said (inr h) = stopped_fault workers bytes text us h.0 r said h.1 h.2
 
 -- why there are no inputs is why nothing comes of it
 pub unresumed : (workers : ℕ) (bytes text : List ℕ) (r : Refusal) → IsInputFault bytes text r → IsResumeFault workers bytes text r
 unresumed workers bytes text r (inl (inl memory)) = inl (inr (inl memory))
-unresumed workers bytes text r (inl (inr room)) = inl (inr (inr (inl room)))
+unresumed workers bytes text r (inl (inr room)) = inr (inl room)
 unresumed workers bytes text r (inr (inl h)) = inl (inl h)
-unresumed workers bytes text r (inr (inr h)) = inr (inl (cert.TooLarge, h.2, too_long text h.3))
+unresumed workers bytes text r (inr (inr h)) = inr (inr (inl (cert.TooLarge, h.2, too_long text h.3)))
 
 -- an outcome of the text for the units that the bytes say
 pub resume_of : (workers nodes : ℕ) (bytes text : List ℕ) (us : Units) (o : Outcome) → AnswersUnits (Ok us) bytes → GoesOnFrom workers nodes us text o → IsResumeOf workers nodes bytes text us o

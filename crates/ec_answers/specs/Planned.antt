@@ -4,26 +4,29 @@ use Rattle.std.specs.Io.KnownBytes.{Appends}
 use Rattle.ec_wire.specs.declared.io.Io.{Io}
 use Rattle.ec_wire.specs.Stream.{stream, WritesFront}
 use Rattle.ec_units.specs.declared.units.Units.{Units}
+use Rattle.ec_units.specs.Load.{loads_of}
 use Rattle.ec_unit_text.specs.Reading.{reading}
 use Rattle.ec_units.specs.Views.{units_view}
-use Rattle.ec_loads.specs.Search.{node_count}
+use Rattle.ec_loads.specs.Shape.{open_leaf}
+use Rattle.ec_cert.specs.BestPlan.{value_of}
 use Rattle.ec_cert.specs.Shapes.{CertView, cert_view, shape_of}
 use Rattle.ec_cert_text.specs.Reading.{Fails, reading as cert_reading}
 use Rattle.ec_cert_text.specs.Text.{certificate_text}
 use Rattle.ec_cert_text.specs.declared.fault.CertFault.{CertFault}
 use Rattle.ec_checker.specs.Certified.{IsCertified, IsFaultOf}
 use Rattle.ec_checker.specs.declared.fault.CheckFault.{CheckFault}
+use Rattle.ec_checker.specs.declared.fault.Verdict.TheVariants as verdict
 use Rattle.ec_outcome.specs.declared.search.Outcome.{Outcome}
 use Rattle.ec_outcome.specs.declared.search.Outcome.TheVariants as outcome
 use Rattle.ec_outcome.specs.declared.search.SolveFault.{SolveFault}
-use Rattle.ec_workers.specs.Answers.{Asked, asked_beyond, IsOutcome, IsSolveFault, HasOrder}
-use Rattle.ec_workers.specs.Outcomes.{partial_for}
+use Rattle.ec_workers.specs.Answers.{Asked, asked_beyond, GoesBeyond, HasLevelFrom, IsOutcome, IsSolveFault, HasOrder, HasSearchOrder}
+use Rattle.ec_workers.specs.Outcomes.{partial_for, Shows}
 use Rattle.ec_refusals.specs.declared.refusal.Refusal.{Refusal}
 use Rattle.ec_refusals.specs.declared.refusal.Refusal.TheVariants as refusal
 use Rattle.ec_inputs.specs.Input.{IsUnitsFault}
 use Rattle.ec_lines.specs.Outcomes.{outcome_output, IsLevelOf}
 use Rattle.ec_lines.specs.Output.{Written, refused}
-use Rattle.ec_refusals.specs.Refusals.{out_of_memory, level_memory}
+use Rattle.ec_refusals.specs.Refusals.{out_of_memory, check_memory}
 
 -- the certificate that is written for an outcome of these units: its own, or that of a search without a proof, with its level
 abbrev pub outcome_cert : Units → Outcome → Option ℕ → Option (List ℕ)
@@ -34,17 +37,19 @@ outcome_cert us (outcome.Unproved best order tree why) level =
 
 -- ---- what comes of a search over the units that were read, and why nothing does
 
--- of a plan: what comes of a search over the units that the bytes say, with this budget
+-- of a plan: what comes of a search over the units that the bytes say, which begins afresh, within this budget and in the order of a search
 pub record IsPlanOf (asked : Asked) (bytes : List ℕ) (us : Units) (o : Outcome) : Type 0 where
   pub short : length bytes ≤ 1048576
   pub said : reading bytes ≡ Ok (units_view us)
   pub answer : IsOutcome us.units us.slots asked o
+  pub beyond : GoesBeyond open_leaf None asked.nodes o
+  pub order : HasSearchOrder (loads_of us.units) o
 
--- why a search by so many workers over the units that bytes say has no outcome: they give no units, memory ran out over them, over the level or over what is
--- written, or the search has none: memory ran out before it began, or none of several workers could be started
+-- why a search by so many workers over the units that bytes say has no outcome: they give no units, memory ran out over them, before the search or over the text
+-- that is written, or the search has none: memory ran out before it began, or none of several workers could be started
 abbrev pub IsSearchFault : ℕ → List ℕ → Refusal → Type 0
 IsSearchFault workers bytes r =
-    IsUnitsFault bytes r ⊎ ((r ≡ out_of_memory) ⊎ ((r ≡ level_memory) ⊎ ((f : SolveFault) × (r ≡ refusal.Solve f) × IsSolveFault workers f)))
+    IsUnitsFault bytes r ⊎ ((r ≡ out_of_memory) ⊎ ((f : SolveFault) × (r ≡ refusal.Solve f) × IsSolveFault workers f))
 
 abbrev pub IsPlanFault : Asked → List ℕ → Refusal → Type 0
 IsPlanFault asked bytes r = IsSearchFault asked.workers bytes r
@@ -56,10 +61,13 @@ IsProofBy c (outcome.NoPlan cert) = cert_view cert ≡ c
 IsProofBy c (outcome.Unproved best order tree why) = ⊥
 
 -- what comes of going on with a certificate to which the checker says yes: where it is a proof, that one; else what a search finds that goes on with its tree, in
--- its order of the units, where new nodes alone are counted
+-- its order of the units, where new nodes alone are counted. Its tree grows from the certificate's, its value is at most that of the
+-- certificate, and what it shows of every plan is at least the certificate's level
 pub record GoesOn (workers nodes : ℕ) (us : Units) (c : CertView) (o : Outcome) : Type 0 where
   pub right : IsCertified us.units us.slots c
-  pub answer : IsOutcome us.units us.slots (asked_beyond workers nodes (node_count c.tree)) o
+  pub answer : IsOutcome us.units us.slots (asked_beyond workers nodes c.tree) o
+  pub beyond : GoesBeyond c.tree (value_of c.best) nodes o
+  pub level : (l : ℕ) → c.level ≡ Some l → HasLevelFrom us.units us.slots l o
   pub proof : c.level ≡ None → IsProofBy c o
   pub order : HasOrder c.order o
 
@@ -98,12 +106,19 @@ pub record IsNoFor (bytes text : List ℕ) (f : CheckFault) : Type 0 where
   pub read : cert_reading text ≡ Ok cert
   pub fault : IsFaultOf units.units units.slots cert f
 
--- why there is no outcome of it: as of a plan, or the text has a fault, or the checker says no
+-- why there is no outcome of it: as of a plan, or memory ran out over the room for the check, or the text has a fault, or the checker says no
 abbrev pub IsResumeFault : ℕ → List ℕ → List ℕ → Refusal → Type 0
 IsResumeFault workers bytes text r =
-    IsSearchFault workers bytes r ⊎ (IsTextFault text r ⊎ ((f : CheckFault) × (r ≡ refusal.Check f) × IsNoFor bytes text f))
+    IsSearchFault workers bytes r ⊎ ((r ≡ check_memory) ⊎ (IsTextFault text r ⊎ ((f : CheckFault) × (r ≡ refusal.Check f) × IsNoFor bytes text f)))
 
 -- ---- what is written for it
+
+-- the certificate of a search without a proof is one to which the checker says yes with its level
+abbrev pub IsShownAt : Units → Outcome → Option ℕ → Type 0
+IsShownAt us (outcome.Optimal plan b cert) level = Unit {0}
+IsShownAt us (outcome.NoPlan cert) level = Unit {0}
+IsShownAt us (outcome.Unproved best order tree why) level =
+    (l : ℕ) × (level ≡ Some l) × Shows us.units us.slots (partial_for us.units us.slots order best l (shape_of tree)) (verdict.AtLeast l)
 
 -- written is the text of an outcome, and this is its certificate
 pub record IsOutcomeWritten (is : Units → Outcome → Type 0) (w : Written) (cert : Option (List ℕ)) : Type 0 where
@@ -114,6 +129,7 @@ pub record IsOutcomeWritten (is : Units → Outcome → Type 0) (w : Written) (c
   pub shown : IsLevelOf units.units units.slots found level
   pub text : w ≡ outcome_output units.units found level
   pub certificate : cert ≡ outcome_cert units found level
+  pub shows : IsShownAt units found level
 
 -- written is the line that says why there is no outcome, or that memory ran out over it, and no certificate
 pub record IsUnplanned (fault : Refusal → Type 0) (w : Written) (cert : Option (List ℕ)) : Type 0 where

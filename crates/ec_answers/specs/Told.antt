@@ -1,6 +1,10 @@
 -- What a job tells for what it has read: a text with its status, and the file that is written before it.
-use Rattle.std.specs.Prelude.{◌≡◌, ◌⊎◌, ℕ, true, Bool, List, Option, Some, None, Result, Ok, Err}
+use Rattle.std.specs.Prelude.{◌≡◌, ◌⊎◌, ℕ, true, Bool, List, Option, Some, None, Result, Ok, Err, option_map}
 use Rattle.ec_cert.specs.Shapes.{cert_view}
+use Rattle.ec_loads.specs.declared.plan.Plan.{Plan}
+use Rattle.ec_outcome.specs.declared.ending.Ending.{Ending}
+use Rattle.ec_outcome.specs.declared.search.Outcome.{Outcome}
+use Rattle.ec_outcome.specs.declared.search.Outcome.TheVariants as outcome
 use Rattle.ec_cert.specs.WellFormed.{IsWellFormed}
 use Rattle.ec_cert_text.specs.Text.{certificate_text}
 use Rattle.ec_refusals.specs.declared.refusal.Refusal.{Refusal}
@@ -33,6 +37,18 @@ HasText file.Nothing = Unit {0}
 HasText (file.Cert c) = IsWellFormed (cert_view c)
 HasText (file.Capture bytes) = Unit {0}
 
+-- the places of the plan of a certificate, else of the other plan
+abbrev pub plan_of : File → Option Plan → Option (List Place)
+plan_of file.Nothing plan = option_map (λ p. p.places) plan
+plan_of (file.Cert c) plan = option_map (λ b. b.plan.places) c.best
+plan_of (file.Capture bytes) plan = option_map (λ p. p.places) plan
+
+-- how a search ended without a proof, at the level that its tree shows
+abbrev pub ending_of : Outcome → Option ℕ → Option Ending
+ending_of (outcome.Optimal plan b cert) level = None
+ending_of (outcome.NoPlan cert) level = None
+ending_of (outcome.Unproved best order tree why) level = option_map (λ l. record { best = option_map (λ b. b.busiest) best; cut = why; level = l }) level
+
 -- what is written for what a job answers
 abbrev pub told : Result Told Refusal → Written
 told (Ok t) = shown t.answer
@@ -42,6 +58,10 @@ told (Err r) = refused r
 abbrev pub file_of : Result Told Refusal → Option (List ℕ)
 file_of (Ok t) = file_bytes t.file
 file_of (Err r) = None
+
+-- the places of the plan of which is told, if there is one: of a search that of its certificate
+abbrev pub plan_told : Told → Option (List Place)
+plan_told t = plan_of t.file t.plan
 
 -- a job without a file tells what is written for the bytes, or that memory ran out
 abbrev pub IsPlainTold : Job → List ℕ → Option (List ℕ) → Written → Option (List ℕ) → Type 0
@@ -59,11 +79,11 @@ IsTold job.Capture bytes cert w file = IsFramesWritten cert bytes w file
 IsTold job.PlanCost bytes cert w file = IsPlainTold job.PlanCost bytes cert w file
 IsTold job.Play bytes cert w file = IsPlainTold job.Play bytes cert w file
 
--- an answer is what is told, and where its file is wanted it has that file
-pub record TellsFor (wanted : Bool) (j : Job) (bytes : List ℕ) (cert : Option (List ℕ)) (answer : Result Told Refusal) : Type 0 where
+-- an answer is what is told, and has the file that is told
+pub record TellsFor (j : Job) (bytes : List ℕ) (cert : Option (List ℕ)) (answer : Result Told Refusal) : Type 0 where
   pub file : Option (List ℕ)
   pub is : IsTold j bytes cert (told answer) file
-  pub made : wanted ≡ true → file_of answer ≡ file
+  pub made : file_of answer ≡ file
 
 -- its certificate has a text
 abbrev pub IsWritable : Result Told Refusal → Type 0

@@ -1,6 +1,6 @@
 //! What each job tells of its inputs.
 
-ghost use Rattle.std.specs.Prelude.{◌≡◌, ◌≤◌, ℕ, List, Option, Ok as OkOf, Some};
+ghost use Rattle.std.specs.Prelude.{◌≡◌, ◌≤◌, ℕ, Bool, List, Option, Ok as OkOf, Some};
 ghost use Rattle.ec_units.specs.Load.{loads_of};
 ghost use Rattle.ec_loads.specs.Held.{no_places};
 ghost use Rattle.ec_command.specs.Words.{JobFits};
@@ -15,9 +15,10 @@ use crate::told::Told;
 use ec_command::Job;
 use ec_inputs::{Given, Inputs};
 use ec_lines::Together;
+use ec_loads::Loads;
 use ec_refusals::Refusal;
 use ec_units::Units;
-use ec_workers::{Gate, solve};
+use ec_workers::{Gate, lines_of, solve};
 use std::alloc::Global;
 use std::sync::Wait;
 use std::thread::Threads;
@@ -29,16 +30,17 @@ fn tell_plan_of<T: Threads + Wait + Sync, G: Gate + Sync>(
     workers: usize,
     nodes: u32,
     units: &Units,
-    is_wanted: bool,
     gate: &G,
 ) -> Result<Told, Refusal>
     requires workers { (1 ≤ workers) × (workers ≤ 16) }
     requires nodes { (1 ≤ nodes) × (nodes ≤ 10000000) }
-    ensures told { (bytes : List ℕ) (cert : Option (List ℕ)) → AnswersUnits (OkOf units.now) bytes → TellsFor is_wanted (Plan workers nodes) bytes cert result }
+    ensures told { (bytes : List ℕ) (cert : Option (List ℕ)) → AnswersUnits (OkOf units.now) bytes → TellsFor (Plan workers nodes) bytes cert result }
     ensures text { IsWritable result }
 {
+    let mut loads = Loads::new(alloc, units)?;
+    let lines = lines_of(alloc, units)?;
     let outcome = solve(rt, alloc, units, workers, nodes, gate)?;
-    tell_outcome(alloc, units, outcome, is_wanted)
+    tell_outcome(alloc, units, &mut loads, lines, outcome)
 }
 
 /// What a search tells that goes on with a certificate for the units.
@@ -49,23 +51,63 @@ fn tell_resumed<T: Threads + Wait + Sync, G: Gate + Sync>(
     nodes: u32,
     units: &Units,
     given: Given,
-    is_wanted: bool,
     gate: &G,
 ) -> Result<Told, Refusal>
     requires workers { (1 ≤ workers) × (workers ≤ 16) }
     requires nodes { (1 ≤ nodes) × (nodes ≤ 10000000) }
     requires room { given.loads ≡ record { loads = loads_of units.now.units; slots = units.now.slots; places = no_places (loads_of units.now.units) } }
-    ensures told { (bytes : List ℕ) → AnswersUnits (OkOf units.now) bytes → TellsFor is_wanted (Resume workers nodes) bytes (Some given.text.items) result }
+    ensures told { (bytes : List ℕ) → AnswersUnits (OkOf units.now) bytes → TellsFor (Resume workers nodes) bytes (Some given.text.items) result }
     ensures text { IsWritable result }
 {
     let Given { mut loads, text } = given;
-    let outcome = text_outcome(rt, alloc, workers, nodes, &mut loads, units, &text, gate)?;
-    tell_outcome(alloc, units, outcome, is_wanted)
+    let lines = lines_of(alloc, units)?;
+    let outcome = text_outcome(rt, alloc, workers, nodes, &mut loads, units, text, gate)?;
+    tell_outcome(alloc, units, &mut loads, lines, outcome)
+}
+
+/// What a search for a plan tells of its inputs.
+fn tell_plan<T: Threads + Wait + Sync, G: Gate + Sync>(
+    rt: &T,
+    alloc: Global,
+    workers: usize,
+    nodes: u32,
+    inputs: Inputs,
+    gate: &G,
+) -> Result<Told, Refusal>
+    requires workers { (1 ≤ workers) × (workers ≤ 16) }
+    requires nodes { (1 ≤ nodes) × (nodes ≤ 10000000) }
+    ensures told { (bytes : List ℕ) (cert : Option (List ℕ)) → Says bytes cert inputs → TellsFor (Plan workers nodes) bytes cert result }
+    ensures text { IsWritable result }
+{
+    tell_plan_of(rt, alloc, workers, nodes, &inputs.units, gate)
+}
+
+/// What a search tells of its inputs that goes on with the certificate in them.
+fn tell_resume<T: Threads + Wait + Sync, G: Gate + Sync>(
+    rt: &T,
+    alloc: Global,
+    workers: usize,
+    nodes: u32,
+    inputs: Inputs,
+    gate: &G,
+) -> Result<Told, Refusal>
+    requires workers { (1 ≤ workers) × (workers ≤ 16) }
+    requires nodes { (1 ≤ nodes) × (nodes ≤ 10000000) }
+    requires room { HasRoom inputs }
+    requires given { HasInput (Resume workers nodes) (text_given inputs) }
+    ensures told { (bytes : List ℕ) (cert : Option (List ℕ)) → Says bytes cert inputs → TellsFor (Resume workers nodes) bytes cert result }
+    ensures text { IsWritable result }
+{
+    let Inputs { units, given } = inputs;
+    match given {
+        Some(given) => tell_resumed(rt, alloc, workers, nodes, &units, given, gate),
+        None => unreachable!(),
+    }
 }
 
 /// What a job tells of its inputs. A search works with one worker in the calling thread or with 2 to 16 in threads of their
 /// own, and `gate` is told before each of its nodes; a play has a thread for each of at most 16 slaves. All that is told, the
-/// file that a job writes too where that is wanted, is made here: memory is wanted no more once a byte is written.
+/// file that a job writes too, is made here: memory is wanted no more once a byte is written.
 ///
 /// # Errors
 ///
@@ -75,28 +117,17 @@ pub fn answer<T: Threads + Wait + Sync, G: Gate + Sync>(
     alloc: Global,
     job: &Job,
     inputs: Inputs,
-    is_wanted: bool,
     gate: &G,
 ) -> Result<Told, Refusal>
     requires fits { JobFits job.now }
     requires room { HasRoom inputs }
     requires given { HasInput job.now (text_given inputs) }
-    ensures told { (bytes : List ℕ) (cert : Option (List ℕ)) → Says bytes cert inputs → TellsFor is_wanted job.now bytes cert result }
+    ensures told { (bytes : List ℕ) (cert : Option (List ℕ)) → Says bytes cert inputs → TellsFor job.now bytes cert result }
     ensures text { IsWritable result }
 {
     match job {
-        Job::Plan { workers, nodes } => {
-            tell_plan_of(rt, alloc, *workers, *nodes, &inputs.units, is_wanted, gate)
-        }
-        Job::Resume { workers, nodes } => {
-            let Inputs { units, given } = inputs;
-            match given {
-                Some(given) => tell_resumed(
-                    rt, alloc, *workers, *nodes, &units, given, is_wanted, gate,
-                ),
-                None => unreachable!(),
-            }
-        }
+        Job::Plan { workers, nodes } => tell_plan(rt, alloc, *workers, *nodes, inputs, gate),
+        Job::Resume { workers, nodes } => tell_resume(rt, alloc, *workers, *nodes, inputs, gate),
         Job::Cost | Job::Check | Job::Frames | Job::Capture | Job::Play | Job::PlanCost => {
             answer_plain(&Together(rt), alloc, job, inputs)
         }

@@ -1,13 +1,13 @@
 //! What jobs tell that search for nothing.
 
-ghost use Rattle.std.specs.Prelude.{◌≡◌, ℕ, Bool, List, Option};
+ghost use Rattle.std.specs.Prelude.{◌≡◌, ℕ, Bool, List, Option, Some, IfOk};
 ghost use Rattle.ec_units.specs.Load.{loads_of};
 ghost use Rattle.ec_units.specs.Views.{units_view};
 ghost use Rattle.ec_loads.specs.Held.{no_places};
 ghost use Rattle.ec_loads.specs.Legal.{IsLegal};
 ghost use Rattle.ec_command.specs.Words.{IsPlain};
 ghost use Rattle.ec_inputs.specs.Input.{Says, HasRoom, text_given};
-ghost use Rattle.ec_answers.specs.Told.{HasInput, IsCaptureTold, IsOfPlan, IsPlanTold, IsWritable, TellsFor};
+ghost use Rattle.ec_answers.specs.Told.{HasInput, IsCaptureTold, IsOfPlan, IsPlanTold, IsWritable, TellsFor, file_of, told as told_of};
 
 use crate::check::check_answer;
 use crate::plans::plan_for;
@@ -30,6 +30,8 @@ fn tell_capture(alloc: Global, units: &Units, plan: &Plan) -> Result<Told, Refus
     Ok(Told {
         answer: made.answer,
         file: File::Capture(made.file),
+        plan: None,
+        ending: None,
     })
 }
 
@@ -59,6 +61,24 @@ fn tell_plan<P: Player>(
     }
 }
 
+/// What is told, with the plan of which it is told.
+fn with_plan(told: Result<Told, Refusal>, plan: Plan) -> Result<Told, Refusal>
+    ensures text { told_of result ≡ told_of told }
+    ensures file { file_of result ≡ file_of told }
+    ensures formed { IsWritable told → IsWritable result }
+    ensures plan { IfOk result (λ t. t.plan ≡ Some plan) }
+{
+    match told {
+        Ok(told) => Ok(Told {
+            answer: told.answer,
+            file: told.file,
+            plan: Some(plan),
+            ending: None,
+        }),
+        Err(refusal) => Err(refusal),
+    }
+}
+
 /// What a job that searches for nothing tells of its inputs.
 ///
 /// # Errors
@@ -74,7 +94,7 @@ pub fn answer_plain<P: Player>(
     requires ready { P.ready player.now }
     requires room { HasRoom inputs }
     requires given { HasInput job.now (text_given inputs) }
-    ensures told { (wanted : Bool) (bytes : List ℕ) (cert : Option (List ℕ)) → Says bytes cert inputs → TellsFor wanted job.now bytes cert result }
+    ensures told { (bytes : List ℕ) (cert : Option (List ℕ)) → Says bytes cert inputs → TellsFor job.now bytes cert result }
     ensures text { IsWritable result }
 {
     let Inputs { units, given } = inputs;
@@ -91,7 +111,8 @@ pub fn answer_plain<P: Player>(
         Job::Resume { .. } => unreachable!(),
         Job::Frames | Job::Capture | Job::Play | Job::PlanCost => {
             let plan = plan_for(alloc, &units, given)?;
-            tell_plan(player, alloc, job, &units, &plan)
+            let told = tell_plan(player, alloc, job, &units, &plan);
+            with_plan(told, plan)
         }
     }
 }

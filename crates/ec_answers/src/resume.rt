@@ -1,6 +1,6 @@
 //! What comes of going on with the search of a certificate.
 
-ghost use Rattle.std.specs.Prelude.{◌≡◌, ◌≤◌, None, IfOk, IfErr};
+ghost use Rattle.std.specs.Prelude.{◌≡◌, ◌≤◌, None, IfOk, IfErr, OnOk};
 ghost use Rattle.ec_units.specs.Load.{loads_of};
 ghost use Rattle.ec_loads.specs.Held.{no_places};
 ghost use Rattle.ec_cert.specs.Shapes.{cert_view};
@@ -30,6 +30,7 @@ fn proof_of(alloc: Global, units: &Units, cert: Cert) -> Result<Outcome, AllocEr
     requires proof { cert.level ≡ None }
     ensures outcome { IfOk result (λ o. (asked : Asked) → IsOutcome units.now.units units.now.slots asked o) }
     ensures own { IfOk result (IsProofBy (cert_view cert)) }
+    ensures none { OnOk result (cert.level ≡ None) }
 {
     faults_refute();
     trees_bound();
@@ -46,7 +47,8 @@ fn proof_of(alloc: Global, units: &Units, cert: Cert) -> Result<Outcome, AllocEr
     })
 }
 
-/// What comes of going on with a certificate for the units. The loads are those of the units, with no place.
+/// What comes of going on with a certificate for the units. The loads are those of the units, with no place, and are so again
+/// afterwards.
 fn went_on<T: Threads + Wait + Sync, G: Gate + Sync>(
     rt: &T,
     alloc: Global,
@@ -61,17 +63,19 @@ fn went_on<T: Threads + Wait + Sync, G: Gate + Sync>(
     requires nodes { (1 ≤ nodes) × (nodes ≤ 10000000) }
     requires empty { loads.old ≡ record { loads = loads_of units.now.units; slots = units.now.slots; places = no_places (loads_of units.now.units) } }
     requires formed { IsWellFormed (cert_view cert) }
+    ensures same { loads.new ≡ loads.old }
     ensures ok { IfOk result (GoesOn workers nodes units.now (cert_view cert)) }
     ensures err { IfErr result (IsStopped workers units.now (cert_view cert)) }
 {
     match check_in(loads, units, &cert) {
-        Ok(Verdict::AtLeast(_)) => Ok(solve_from(rt, alloc, units, &cert, workers, nodes, gate)?),
+        Ok(Verdict::AtLeast(_)) => Ok(solve_from(rt, alloc, units, cert, workers, nodes, gate)?),
         Ok(_) => Ok(proof_of(alloc, units, cert)?),
         Err(fault) => Err(Refusal::Check(fault)),
     }
 }
 
-/// What comes of going on with a certificate's text for the units. The loads are those of the units, with no place.
+/// What comes of going on with a certificate's text for the units. The loads are those of the units, with no place, and are
+/// so again afterwards. The text is dropped once it is read, before the search.
 pub(crate) fn text_outcome<T: Threads + Wait + Sync, G: Gate + Sync>(
     rt: &T,
     alloc: Global,
@@ -79,15 +83,18 @@ pub(crate) fn text_outcome<T: Threads + Wait + Sync, G: Gate + Sync>(
     nodes: u32,
     loads: &mut Loads,
     units: &Units,
-    text: &[u8],
+    text: Vec<u8>,
     gate: &G,
 ) -> Result<Outcome, Refusal>
     requires workers { (1 ≤ workers) × (workers ≤ 16) }
     requires nodes { (1 ≤ nodes) × (nodes ≤ 10000000) }
     requires empty { loads.old ≡ record { loads = loads_of units.now.units; slots = units.now.slots; places = no_places (loads_of units.now.units) } }
-    ensures ok { IfOk result (GoesOnFrom workers nodes units.now text.now) }
-    ensures err { IfErr result (IsStoppedFrom workers units.now text.now) }
+    ensures same { loads.new ≡ loads.old }
+    ensures ok { IfOk result (GoesOnFrom workers nodes units.now text.items) }
+    ensures err { IfErr result (IsStoppedFrom workers units.now text.items) }
 {
-    let cert = read_cert(alloc, text)?;
+    let read = read_cert(alloc, text.as_slice());
+    drop(text);
+    let cert = read?;
     went_on(rt, alloc, workers, nodes, loads, units, cert, gate)
 }

@@ -1,11 +1,13 @@
 //! What a job tells.
 
-ghost use Rattle.std.specs.Prelude.{◌≡◌, None};
+ghost use Rattle.std.specs.Prelude.{◌≡◌, None, option_map};
 ghost use Rattle.ec_lines.specs.Output.{written_of};
-ghost use Rattle.ec_answers.specs.Told.{told, file_of};
+ghost use Rattle.ec_answers.specs.Told.{told, file_of, plan_told};
 
 use ec_cert::Cert;
 use ec_lines::Answer;
+use ec_loads::Plan;
+use ec_outcome::Ending;
 use ec_refusals::Refusal;
 
 /// The file that a job writes before its text.
@@ -24,6 +26,26 @@ pub enum File {
 pub struct Told {
     pub answer: Answer,
     pub file: File,
+    /// The plan of which a job tells that searches for nothing; none of the plan that the units' own costs are of, and of a
+    /// check.
+    pub plan: Option<Plan>,
+    /// How a search ended without a proof; none of a proof, and of other jobs.
+    pub ending: Option<Ending>,
+}
+
+impl Told {
+    /// The plan of which is told, if there is one here: of a search that of its certificate.
+    pub fn plan(&self) -> Option<&Plan>
+        ensures { option_map (λ plan. plan.now.places) result ≡ plan_told self.now }
+    {
+        match &self.file {
+            File::Cert(cert) => match &cert.best {
+                Some(best) => Some(&best.plan),
+                None => None,
+            },
+            File::Nothing | File::Capture(_) => self.plan.as_ref(),
+        }
+    }
 }
 
 /// What is told by a job that writes no file.
@@ -35,6 +57,8 @@ pub(crate) fn without_file(answer: Result<Answer, Refusal>) -> Result<Told, Refu
         Ok(answer) => Ok(Told {
             answer,
             file: File::Nothing,
+            plan: None,
+            ending: None,
         }),
         Err(refusal) => Err(refusal),
     }

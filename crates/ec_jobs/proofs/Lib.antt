@@ -1,3 +1,5 @@
+pub mod AgreeLemmas
+pub mod LineLemmas
 pub mod OneCapture
 pub mod OneCheck
 pub mod OneIllegal
@@ -6,3 +8,4 @@ pub mod PlanSound
 pub mod RunLemmas
 pub mod SoundLemmas
 pub mod TellLemmas
+pub mod TruthLemmas

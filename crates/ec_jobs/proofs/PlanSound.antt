@@ -1,5 +1,6 @@
 -- What a plan tells is true.
 use Rattle.std.proofs.Common.{◌≡◌, ℕ, ◌≤◌, List, length, Option, Some, Result, Ok, refl, ap, subst, sym, ◌∙◌, inl, inr, arith}
+use Rattle.std.specs.Prelude.{option_map}
 use Rattle.std.proofs.lemmas.List.{length-map}
 use Rattle.ec_units.specs.declared.slave.Place.{Place}
 use Rattle.ec_unit_text.specs.declared.fault.UnitFault.{UnitFault}
@@ -12,7 +13,7 @@ use Rattle.ec_units.proofs.Viewed.{loads_of-views}
 use Rattle.ec_loads.specs.Cost.{plan_items, tick_cost, IsBusiest}
 use Rattle.ec_loads.specs.Line.{turned_time, line_by}
 use Rattle.ec_loads.specs.Shape.{Shape}
-use Rattle.ec_loads.specs.Search.{BoundsAll, IsLeast, HasNoPlan, node_count}
+use Rattle.ec_loads.specs.Search.{BoundsAll, IsLeast, HasNoPlan}
 use Rattle.ec_loads.proofs.ItemLemmas.{AreLoads-loads_of}
 use Rattle.ec_cert.specs.declared.cert.Best.{Best}
 use Rattle.ec_cert.specs.BestPlan.{value_of}
@@ -27,12 +28,15 @@ use Rattle.ec_refusals.specs.declared.refusal.Refusal.{Refusal}
 use Rattle.ec_lines.specs.Outcomes.{outcome_output, optimal_text, unproved_text, IsLevelOf}
 use Rattle.ec_lines.specs.Output.{Written, refused}
 use Rattle.ec_refusals.specs.Refusals.{refusal_code}
-use Rattle.ec_answers.specs.Planned.{outcome_cert}
-use Rattle.ec_jobs.specs.Sound.{TellsOptimal, TellsWithoutPlan, TellsTruth, PlanIsTrue, ResumeIsTrue, IsSearchTold, OneLeastEach}
+use Rattle.ec_answers.specs.Planned.{IsShownAt, outcome_cert}
+use Rattle.ec_cert_text.specs.Text.{certificate_text}
+use Rattle.ec_checker.specs.declared.fault.Verdict.TheVariants as verdict
+use Rattle.ec_workers.specs.Outcomes.{Shows, partial_for}
+use Rattle.ec_jobs.specs.Sound.{IsShownBy, TellsOptimal, TellsWithoutPlan, TellsTruth, PlanIsTrue, ResumeIsTrue, IsSearchTold, OneLeastEach}
 use Rattle.ec_refusals.proofs.RefusalLemmas.{code_above}
 
 -- a refusal has another status
-refusal_true : (bytes : List ℕ) (w : Written) (cert : Option (List ℕ)) (r : Refusal) → w ≡ refused r → TellsTruth bytes w cert
+pub refusal_true : (bytes : List ℕ) (w : Written) (cert : Option (List ℕ)) (r : Refusal) → w ≡ refused r → TellsTruth bytes w cert
 refusal_true bytes w cert r is =
     let code : w.code ≡ refusal_code r = ap (λ (v : Written). v.code) is in (
       λ zero. absurd (omega (arith, code_above r, code, zero)),
@@ -46,22 +50,35 @@ level_bounds : LevelsBound → (us : Units) (order : List ℕ) (best : Option Be
 level_bounds levels us order best tree l is greatest =
     levels (line_by turned_time (loads_of us.units) us.slots) (value_of best) l tree order (AreLoads-loads_of us.units) (subst (λ k. IsOrder k order) (sym (length-map us.units load_of)) is) greatest.shows
 
+pub some_same : (b c : ℕ) → Some b ≡ Some c → b ≡ c
+some_same b c h = cc
+
+-- the certificate of a search without a proof shows its level
+shown_at : (us : Units) (order : List ℕ) (best : Option Best) (tree : Shape) (level : Option ℕ) (l : ℕ) (cert : Option (List ℕ)) → level ≡ Some l
+    → cert ≡ option_map (λ m. certificate_text (partial_for us.units us.slots order best m tree)) level
+    → (m : ℕ) × (level ≡ Some m) × Shows us.units us.slots (partial_for us.units us.slots order best m tree) (verdict.AtLeast m) → IsShownBy us (verdict.AtLeast l) cert
+shown_at us order best tree level l cert is kept (m, also, shows) = (
+  partial_for us.units us.slots order best l tree,
+  kept ∙ ap (λ (o : Option ℕ). option_map (λ m. certificate_text (partial_for us.units us.slots order best m tree)) o) is,
+  subst (λ (k : ℕ). Shows us.units us.slots (partial_for us.units us.slots order best k tree) (verdict.AtLeast k)) (some_same m l (sym also ∙ is)) shows,
+)
+
 -- the text of an outcome says what the outcome does
 outcome_true : LevelsBound → (asked : Asked) (bytes : List ℕ) (us : Units) (o : Outcome) (level : Option ℕ) (w : Written) (cert : Option (List ℕ)) → reading bytes ≡ Ok (units_view us) → IsOutcome us.units us.slots asked o → IsLevelOf us.units us.slots o level
-    → w ≡ outcome_output us.units o level → cert ≡ outcome_cert us o level → TellsTruth bytes w cert
-outcome_true levels asked bytes us (outcome.Optimal plan b c) level w cert said h proved is kept =
+    → w ≡ outcome_output us.units o level → cert ≡ outcome_cert us o level → IsShownAt us o level → TellsTruth bytes w cert
+outcome_true levels asked bytes us (outcome.Optimal plan b c) level w cert said h proved is kept shows =
     let code : w.code ≡ 0 = ap (λ (v : Written). v.code) is in (
       λ zero. (record { units = us; said = said; busiest = b; plan = plan.places; lines = ap (λ (v : Written). v.text) is; legal = h.legal; exact = h.busiest; bounds = h.bounds; shown = (cert_view c, kept, h.shows) }),
       λ one. absurd (omega (arith, code, one)),
       λ two. absurd (omega (arith, code, two)),
     )
-outcome_true levels asked bytes us (outcome.NoPlan c) level w cert said h proved is kept =
+outcome_true levels asked bytes us (outcome.NoPlan c) level w cert said h proved is kept shows =
     let code : w.code ≡ 1 = ap (λ (v : Written). v.code) is in (
       λ zero. absurd (omega (arith, code, zero)),
       λ one. (record { units = us; said = said; line = ap (λ (v : Written). v.text) is; none = h.none; shown = (cert_view c, kept, h.shows) }),
       λ two. absurd (omega (arith, code, two)),
     )
-outcome_true levels asked bytes us (outcome.Unproved best order tree why) level w cert said h proved is kept =
+outcome_true levels asked bytes us (outcome.Unproved best order tree why) level w cert said h proved is kept shows =
     let code : w.code ≡ 2 = ap (λ (v : Written). v.code) is in
     let text : w.text ≡ unproved_text us.units best why (Some proved.0) = ap (λ (v : Written). v.text) is ∙ ap (λ (o : Option ℕ). unproved_text us.units best why o) proved.1 in (
       λ zero. absurd (omega (arith, code, zero)),
@@ -75,38 +92,36 @@ outcome_true levels asked bytes us (outcome.Unproved best order tree why) level 
         lines = text;
         legal = h.best_is;
         bounds = level_bounds levels us order best (shape_of tree) proved.0 h.order_is proved.2;
+        shown = shown_at us order best (shape_of tree) level proved.0 cert proved.1 kept shows;
       }),
     )
 
 pub plan_true : LevelsBound → PlanIsTrue
-plan_true levels asked bytes w cert (inl h) = outcome_true levels asked bytes h.units h.found h.level w cert h.answer.said h.answer.answer h.shown h.text h.certificate
+plan_true levels asked bytes w cert (inl h) = outcome_true levels asked bytes h.units h.found h.level w cert h.answer.said h.answer.answer h.shown h.text h.certificate h.shows
 plan_true levels asked bytes w cert (inr h) = refusal_true bytes w cert h.refusal h.line
 
 pub resume_true : LevelsBound → ResumeIsTrue
 resume_true levels workers nodes bytes text w cert (inl h) =
-    outcome_true levels (asked_beyond workers nodes (node_count h.answer.cert.tree)) bytes h.units h.found h.level w cert h.answer.said h.answer.goes.answer h.shown h.text h.certificate
+    outcome_true levels (asked_beyond workers nodes h.answer.cert.tree) bytes h.units h.found h.level w cert h.answer.said h.answer.goes.answer h.shown h.text h.certificate h.shows
 resume_true levels workers nodes bytes text w cert (inr h) = refusal_true bytes w cert h.refusal h.line
 
 -- the certificate of what was told, and its truth
-told_true : LevelsBound → (bytes : List ℕ) (w : Written) → IsSearchTold bytes w → (cert : Option (List ℕ)) × TellsTruth bytes w cert
+pub told_true : LevelsBound → (bytes : List ℕ) (w : Written) → IsSearchTold bytes w → (cert : Option (List ℕ)) × TellsTruth bytes w cert
 told_true levels bytes w (inl (asked, cert, h)) = (cert, plan_true levels asked bytes w cert h)
 told_true levels bytes w (inr (workers, nodes, text, cert, h)) = (cert, resume_true levels workers nodes bytes text w cert h)
 
 -- units that the same bytes say
-same_ok : (r : Result UnitsView UnitFault) (u v : UnitsView) → r ≡ Ok u → r ≡ Ok v → u ≡ v
+pub same_ok : (r : Result UnitsView UnitFault) (u v : UnitsView) → r ≡ Ok u → r ≡ Ok v → u ≡ v
 same_ok r u v p q = cc
 
 -- the same of what was read
 least_view : (us : Units) (b : ℕ) → IsLeast (loads_of us.units) us.slots b → IsLeast (view_loads (units_view us).units) (units_view us).slots b
 least_view us b h = subst (λ (ls : List Load). IsLeast ls us.slots b) (loads_of-views us.units) h
 
-told_least : (bytes : List ℕ) (w : Written) (cert : Option (List ℕ)) (h : TellsOptimal bytes w cert) → IsLeast (view_loads (units_view h.units).units) (units_view h.units).slots h.busiest
+pub told_least : (bytes : List ℕ) (w : Written) (cert : Option (List ℕ)) (h : TellsOptimal bytes w cert) → IsLeast (view_loads (units_view h.units).units) (units_view h.units).slots h.busiest
 told_least bytes w cert h = least_view h.units h.busiest (record { plan = h.plan; legal = h.legal; busiest = h.exact; bounds = h.bounds })
 
 -- there is one least cost
-some_same : (b c : ℕ) → Some b ≡ Some c → b ≡ c
-some_same b c h = cc
-
 least_below : (ls : List Load) (n b c : ℕ) → IsLeast ls n b → IsLeast ls n c → b ≤ c
 least_below ls n b c p q =
     let at = p.bounds q.plan q.legal in

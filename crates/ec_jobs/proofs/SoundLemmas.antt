@@ -24,7 +24,7 @@ use Rattle.ec_lines.specs.Lines.{least_line, level_line, no_plan_line}
 use Rattle.ec_lines.specs.Output.{Written, IsUnitsOutput, IsCheckedOf, IsCheckedOutput, refused, verdict_output}
 use Rattle.ec_refusals.specs.Refusals.{refusal_code}
 use Rattle.ec_refusals.proofs.RefusalLemmas.{code_above}
-use Rattle.ec_jobs.specs.Sound.{TellsLeast, TellsNoPlan, TellsAtLeast, YesIsTrue}
+use Rattle.ec_jobs.specs.Sound.{TellsLeast, TellsNoPlan, TellsAtLeast, YesIsTrue, YesTellsTruth}
 
 -- what is told of units, by what is claimed of their loads
 record Told (loads : List Load) (n : ℕ) (w : Written) : Type 0 where
@@ -77,17 +77,14 @@ told_cert : TreesBound → LevelsBound → (v : UnitsView) (r : Result CertView 
 told_cert law levels v (Ok c) w h = told_view law levels v c w h
 told_cert law levels v (Err f) w h = told_refused (view_loads v.units) v.slots w (refusal.Cert f) h
 
-abbrev Truth : List ℕ → Written → Type 0
-Truth bytes w = (w.code ≡ 0 → TellsLeast bytes w) × (w.code ≡ 1 → TellsNoPlan bytes w) × (w.code ≡ 2 → TellsAtLeast bytes w)
-
-truth_of : (bytes : List ℕ) (v : UnitsView) (w : Written) → reading bytes ≡ Ok v → Told (view_loads v.units) v.slots w → Truth bytes w
+truth_of : (bytes : List ℕ) (v : UnitsView) (w : Written) → reading bytes ≡ Ok v → Told (view_loads v.units) v.slots w → YesTellsTruth bytes w
 truth_of bytes v w said told = (
   λ zero. (let h = told.least zero in record { units = v; said = said; busiest = h.0; line = h.1; least = h.2 }),
   λ one. (let h = told.none one in record { units = v; said = said; line = h.0; none = h.1 }),
   λ two. (let h = told.level two in record { units = v; said = said; level = h.0; line = h.1; bounds = h.2 }),
 )
 
-truth_refused : (bytes : List ℕ) (w : Written) (r : Refusal) → w ≡ refused r → Truth bytes w
+pub truth_refused : (bytes : List ℕ) (w : Written) (r : Refusal) → w ≡ refused r → YesTellsTruth bytes w
 truth_refused bytes w r is =
     let code : w.code ≡ refusal_code r = ap (λ (v : Written). v.code) is in (
       λ zero. absurd (omega (arith, code_above r, code, zero)),
@@ -95,7 +92,7 @@ truth_refused bytes w r is =
       λ two. absurd (omega (arith, code_above r, code, two)),
     )
 
-truth_read : TreesBound → LevelsBound → (bytes cert : List ℕ) (r : Result UnitsView UnitFault) (w : Written) → reading bytes ≡ r → MatchResult r (λ v. IsUnitsOutput job.Check (Some cert) v w) (λ f. w ≡ refused (refusal.Unit f)) → Truth bytes w
+truth_read : TreesBound → LevelsBound → (bytes cert : List ℕ) (r : Result UnitsView UnitFault) (w : Written) → reading bytes ≡ r → MatchResult r (λ v. IsUnitsOutput job.Check (Some cert) v w) (λ f. w ≡ refused (refusal.Unit f)) → YesTellsTruth bytes w
 truth_read law levels bytes cert (Ok v) w said h = truth_of bytes v w said (told_cert law levels v (cert_reading cert) w h)
 truth_read law levels bytes cert (Err f) w said h = truth_refused bytes w (refusal.Unit f) h
 

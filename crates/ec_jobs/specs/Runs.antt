@@ -1,5 +1,5 @@
 -- What a run does with the readers and writers that it is lent.
-use Rattle.std.specs.Prelude.{◌≡◌, ◌⊎◌, ℕ, false, List, Option, Some, None, Result, String, IfSome}
+use Rattle.std.specs.Prelude.{◌≡◌, ◌⊎◌, ℕ, true, false, List, Option, Some, None, Result, Ok, Err, String, IfSome}
 use Rattle.std.specs.Io.KnownBytes.{Appends}
 use Rattle.std.proofs.Common.{Global}
 use Rattle.ec_wire.specs.declared.io.Io.{Io}
@@ -8,11 +8,14 @@ use Rattle.ec_refusals.specs.declared.refusal.Refusal.{Refusal}
 use Rattle.ec_refusals.specs.declared.refusal.Refusal.TheVariants as refusal
 use Rattle.ec_command.specs.declared.job.Job.{Job}
 use Rattle.ec_command.specs.declared.job.Job.TheVariants as job
+use Rattle.ec_command.specs.declared.line.Line.{Line}
+use Rattle.ec_command.specs.Words.{cert_of, job_of, out_of}
+use Rattle.ec_files.specs.declared.fault.FileFault.{FileFault}
 use Rattle.ec_inputs.specs.Input.{ReadsBoth, ReadsUpTo, most_of_units}
 use Rattle.ec_inputs.specs.Use.{Use, before, after, IsSound, HasFailed, IsKept, Lent, IfLent, IsLeft}
-use Rattle.ec_lines.specs.Output.{Written, refused}
+use Rattle.ec_lines.specs.Output.{Written, refused, shown}
 use Rattle.ec_answers.specs.Planned.{Gets, GetsFront}
-use Rattle.ec_answers.specs.Told.{IsTold, file_of, told}
+use Rattle.ec_answers.specs.Told.{IsTold, TellsFor, file_of, told}
 use Rattle.ec_answers.specs.declared.told.Told.{Told}
 
 -- ---- what is written
@@ -67,7 +70,7 @@ pub record Does {R C O : Type 0} (j : Job) (units : Use R) (cert : Lent C) (out 
       (file : Option (List ℕ)) × IsTold j bytes text w file × IfLent out (Unit {0}) (λ o. Gets o.tells o.old o.new file)))
   pub front : IsSound units → HasNotFailed cert → IfSome (before units) (λ bytes. Given cert (λ text.
       IfLent out (Unit {0}) (λ o. (v : Written) × (file : Option (List ℕ)) × IsTold j bytes text v file × GetsFront o.tells o.old o.new file)))
-  pub some : IsSound units → IfLent cert (Unit {0}) (λ c. IfSome (before units) (λ bytes. (Refuses refusal.Read w ⊎ Refuses refusal.Write w) ⊎ ((text : List ℕ) × (file : Option (List ℕ)) × IsTold j bytes (Some text) w file)))
+  pub some : IsSound units → IfLent cert (Unit {0}) (λ c. IfSome (before units) (λ bytes. (Refuses refusal.Read w ⊎ Refuses refusal.Write w) ⊎ ((text : List ℕ) × (file : Option (List ℕ)) × IsTold j bytes (Some text) w file × IfLent out (Unit {0}) (λ o. IsSound o → Gets o.tells o.old o.new file))))
   pub unwritten : IfLent out (Unit {0}) (λ o. HasFailed o → Refuses refusal.Write w)
   pub unread : IfLent out (Unit {0}) (λ o. HasFailed units → IsKept o)
   pub cert_unread : IfLent cert (Unit {0}) (λ c. IfLent out (Unit {0}) (λ o. HasFailed c → IsKept o))
@@ -89,6 +92,17 @@ IsRun j units cert text out code = Tells (DoesWith j units cert out) text code
 
 -- ---- a command line, of whose files nothing is known
 
+-- an answer is what is told where the path of a certificate to read is this: of one whose file isn't known, what is told for some text, unless it couldn't be read
+abbrev pub AnswersLine : Job → Option (String Global) → List ℕ → Result Told Refusal → Type 0
+AnswersLine j None bytes answer = TellsFor j bytes None answer
+AnswersLine j (Some from) bytes answer = (answer ≡ Err refusal.Read) ⊎ ((text : List ℕ) × TellsFor j bytes (Some text) answer)
+
+-- what is written for an answer: where its file isn't at its path, the refusal of a failed write
+abbrev pub reported : Result Told Refusal → Option FileFault → Written
+reported (Ok t) None = shown t.answer
+reported (Ok t) (Some fault) = refused refusal.Write
+reported (Err r) fault = refused r
+
 -- what is told where the job, the path of a certificate to read and that of a file to write are these: of a certificate whose file isn't known, what is told for
 -- some text, unless a read or a write failed
 abbrev pub LineTold : Job → Option (String Global) → Option (String Global) → Written → List ℕ → Type 0
@@ -96,9 +110,9 @@ LineTold j None None w bytes = (file : Option (List ℕ)) × IsTold j bytes None
 LineTold j None (Some to) w bytes = Refuses refusal.Write w ⊎ ((file : Option (List ℕ)) × IsTold j bytes None w file)
 LineTold j (Some from) to w bytes = (Refuses refusal.Read w ⊎ Refuses refusal.Write w) ⊎ ((text : List ℕ) × (file : Option (List ℕ)) × IsTold j bytes (Some text) w file)
 
-pub record DoesLine {R : Type 0} (j : Job) (cert out : Option (String Global)) (units : Use R) (w : Written) : Type 0 where
+pub record DoesLine {R : Type 0} (line : Line) (units : Use R) (w : Written) : Type 0 where
   pub read : ReadsUpTo units most_of_units (Refuses refusal.Read w)
-  pub told : IsSound units → IfSome (before units) (LineTold j cert out w)
+  pub told : IsSound units → IfSome (before units) (LineTold (job_of line) (cert_of line) (out_of line) w)
 
 -- ---- words that are no command line
 

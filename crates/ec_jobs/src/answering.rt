@@ -26,18 +26,17 @@ pub(crate) fn answer_alone<R: Read, T: Threads + Wait + Sync, G: Gate + Sync>(
     alloc: Global,
     job: &Job,
     units: &mut Io<R>,
-    is_wanted: bool,
     gate: &G,
 ) -> Result<Told, Refusal>
     requires fits { JobFits job.now }
     requires given { HasInput job.now None }
     requires units { has_failed units.old ≡ false }
-    ensures told { has_failed units.new ≡ false → IfSome (R.remaining (stream units.old)) (λ bytes. TellsFor is_wanted job.now bytes None result) }
+    ensures told { has_failed units.new ≡ false → IfSome (R.remaining (stream units.old)) (λ bytes. TellsFor job.now bytes None result) }
     ensures read { ReadsUpTo (used R.remaining units.old units.new) most_of_units (result ≡ Err Refusal.Read) }
     ensures text { IsWritable result }
 {
     let inputs = read_alone(alloc, units)?;
-    answer(rt, alloc, job, inputs, is_wanted, gate)
+    answer(rt, alloc, job, inputs, gate)
 }
 
 /// What a job tells of the units and the certificate that the readers have.
@@ -47,7 +46,6 @@ pub(crate) fn answer_both<R: Read, C: Read, T: Threads + Wait + Sync, G: Gate + 
     job: &Job,
     units: &mut Io<R>,
     cert: &mut Io<C>,
-    is_wanted: bool,
     gate: &G,
 ) -> Result<Told, Refusal>
     requires fits { JobFits job.now }
@@ -55,13 +53,13 @@ pub(crate) fn answer_both<R: Read, C: Read, T: Threads + Wait + Sync, G: Gate + 
     requires units { has_failed units.old ≡ false }
     requires cert { has_failed cert.old ≡ false }
     ensures told { has_failed units.new ≡ false → has_failed cert.new ≡ false → IfSome (R.remaining (stream units.old)) (λ bytes.
-        IfSome (C.remaining (stream cert.old)) (λ text. TellsFor is_wanted job.now bytes (Some text) result)) }
-    ensures some { has_failed units.new ≡ false → IfSome (R.remaining (stream units.old)) (λ bytes. (result ≡ Err Refusal.Read) ⊎ ((text : List ℕ) × TellsFor is_wanted job.now bytes (Some text) result)) }
+        IfSome (C.remaining (stream cert.old)) (λ text. TellsFor job.now bytes (Some text) result)) }
+    ensures some { has_failed units.new ≡ false → IfSome (R.remaining (stream units.old)) (λ bytes. (result ≡ Err Refusal.Read) ⊎ ((text : List ℕ) × TellsFor job.now bytes (Some text) result)) }
     ensures read { ReadsBoth (used R.remaining units.old units.new) (used C.remaining cert.old cert.new) (result ≡ Err Refusal.Read) }
     ensures text { IsWritable result }
 {
     let inputs = read_both(alloc, units, cert)?;
-    answer(rt, alloc, job, inputs, is_wanted, gate)
+    answer(rt, alloc, job, inputs, gate)
 }
 
 /// What a job that searches for nothing and has no certificate tells of the units that the reader has.
@@ -73,7 +71,7 @@ pub(crate) fn plain_alone<R: Read>(
     requires plain { IsPlain job.now }
     requires given { HasInput job.now None }
     requires units { has_failed units.old ≡ false }
-    ensures told { has_failed units.new ≡ false → (wanted : Bool) → IfSome (R.remaining (stream units.old)) (λ bytes. TellsFor wanted job.now bytes None result) }
+    ensures told { has_failed units.new ≡ false → IfSome (R.remaining (stream units.old)) (λ bytes. TellsFor job.now bytes None result) }
     ensures read { ReadsUpTo (used R.remaining units.old units.new) most_of_units (result ≡ Err Refusal.Read) }
     ensures text { IsWritable result }
 {
@@ -92,9 +90,9 @@ pub(crate) fn plain_both<R: Read, C: Read>(
     requires given { ReadsSomeCert job.now }
     requires units { has_failed units.old ≡ false }
     requires cert { has_failed cert.old ≡ false }
-    ensures told { has_failed units.new ≡ false → has_failed cert.new ≡ false → (wanted : Bool) → IfSome (R.remaining (stream units.old)) (λ bytes.
-        IfSome (C.remaining (stream cert.old)) (λ text. TellsFor wanted job.now bytes (Some text) result)) }
-    ensures some { has_failed units.new ≡ false → (wanted : Bool) → IfSome (R.remaining (stream units.old)) (λ bytes. (result ≡ Err Refusal.Read) ⊎ ((text : List ℕ) × TellsFor wanted job.now bytes (Some text) result)) }
+    ensures told { has_failed units.new ≡ false → has_failed cert.new ≡ false → IfSome (R.remaining (stream units.old)) (λ bytes.
+        IfSome (C.remaining (stream cert.old)) (λ text. TellsFor job.now bytes (Some text) result)) }
+    ensures some { has_failed units.new ≡ false → IfSome (R.remaining (stream units.old)) (λ bytes. (result ≡ Err Refusal.Read) ⊎ ((text : List ℕ) × TellsFor job.now bytes (Some text) result)) }
     ensures read { ReadsBoth (used R.remaining units.old units.new) (used C.remaining cert.old cert.new) (result ≡ Err Refusal.Read) }
     ensures text { IsWritable result }
 {

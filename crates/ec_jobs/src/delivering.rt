@@ -15,7 +15,7 @@ use ec_wire::{Io, WriteFault};
 use std::io::Write;
 
 /// Writes a file whole, if there is one.
-fn write_file<O: Write>(file: &File, out: &mut Io<O>) -> Result<(), WriteFault>
+pub(crate) fn write_file<O: Write>(file: &File, out: &mut Io<O>) -> Result<(), WriteFault>
     requires fresh { has_failed out.old ≡ false }
     requires text { HasText file.now }
     ensures ok { IfOk result (λ _. (has_failed out.new ≡ false) × Gets O.contents out.old out.new (file_bytes file.now)) }
@@ -30,13 +30,13 @@ fn write_file<O: Write>(file: &File, out: &mut Io<O>) -> Result<(), WriteFault>
 }
 
 /// Writes what is told without its file: its text or the refusal, whole, with its status.
-pub(crate) fn deliver<W: Write>(told: Result<Told, Refusal>, text: &mut Io<W>) -> Status
+pub(crate) fn deliver<W: Write>(told: &Result<Told, Refusal>, text: &mut Io<W>) -> Status
     requires { has_failed text.old ≡ false }
-    ensures { Tells (λ w. w ≡ told_of told) (used W.contents text.old text.new) result.code }
+    ensures { Tells (λ w. w ≡ told_of told.now) (used W.contents text.old text.new) result.code }
 {
     match told {
         Ok(told) => write_status(text, told.answer.text.as_bytes(), told.answer.code),
-        Err(refusal) => refuse(refusal, text),
+        Err(refusal) => refuse(*refusal, text),
     }
 }
 

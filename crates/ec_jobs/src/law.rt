@@ -1,6 +1,6 @@
 //! Laws of what is written.
 
-ghost use Rattle.ec_jobs.specs.Sound.{CaptureTellsFrames, OneCaptureEach, OneLeastEach, OneOutputEach, PlanIsTrue, ResumeIsTrue, YesIsTrue};
+ghost use Rattle.ec_jobs.specs.Sound.{AnswersAgree, CaptureTellsFrames, OneCaptureEach, OneLeastEach, OneOutputEach, PlanIsTrue, ResumeIsTrue, YesIsTrue};
 
 use ec_tree::{levels_bound, trees_bound};
 
@@ -50,5 +50,16 @@ pub fn a_resumed_plan_is_true()
 pub fn one_least_each()
     ensures { OneLeastEach }
 {
+    levels_bound();
+}
+
+/// What searches and checks tell of the same units agrees, whatever was asked for and whatever certificates there were:
+/// what one tells every legal plan costs at least (`optimal L`, `least L`, `at least L`) is at most what the plan costs of
+/// which another tells (`optimal B`, `least B`, `unproved B`). So all of `optimal B` and `least B` name one number. Where one
+/// is `no plan`, none tells of a plan.
+pub fn answers_agree()
+    ensures { AnswersAgree }
+{
+    trees_bound();
     levels_bound();
 }

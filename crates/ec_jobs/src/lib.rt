@@ -5,7 +5,6 @@ mod answering;
 mod delivering;
 mod doing;
 mod job;
-mod late;
 mod law;
 mod plain;
 mod plain_steps;
@@ -13,12 +12,11 @@ mod running;
 mod steps;
 mod usage;
 
-pub use doing::do_line;
+pub use doing::{Report, do_line};
 pub use job::{Status, refuse};
-pub use late::Late;
 pub use law::{
-    a_plan_is_true, a_resumed_plan_is_true, a_yes_is_true, one_capture_each, one_least_each,
-    one_output_each,
+    a_plan_is_true, a_resumed_plan_is_true, a_yes_is_true, answers_agree, one_capture_each,
+    one_least_each, one_output_each,
 };
 pub use plain::run_plain;
 pub use running::run;

@@ -29,7 +29,7 @@ pub(crate) fn do_alone<R: Read, W: Write>(
     ensures { Tells (Does {C = Empty} {O = Sink} job.now (used R.remaining units.old units.new) nobody nobody) (used W.contents text.old text.new) result.code }
 {
     let told = plain_alone(alloc, job, units);
-    deliver(told, text)
+    deliver(&told, text)
 }
 
 /// Does a job that reads units alone, and may write a file.
@@ -67,7 +67,7 @@ pub(crate) fn do_both<R: Read, C: Read, W: Write>(
     ensures { Tells (Does {O = Sink} job.now (used R.remaining units.old units.new) (here (used C.remaining cert.old cert.new)) nobody) (used W.contents text.old text.new) result.code }
 {
     let told = plain_both(alloc, job, units, cert);
-    deliver(told, text)
+    deliver(&told, text)
 }
 
 /// Does a job that reads units and a certificate, and may write a file.

@@ -3,12 +3,14 @@
 ghost use Rattle.std.specs.Prelude.{◌≡◌, false, option_map};
 ghost use Rattle.ec_wire.specs.Stream.{has_failed};
 ghost use Rattle.ec_inputs.specs.Use.{used, lent};
-ghost use Rattle.ec_jobs.specs.Runs.{HasCert, IsRun, NoneFailed};
+ghost use Rattle.ec_jobs.specs.Runs.{HasCert, NoneFailed};
+ghost use Rattle.ec_jobs.specs.Sound.{IsTrueRun};
 ghost use Rattle.ec_command.specs.Words.{JobFits};
 
 use crate::job::Status;
 use crate::steps::{run_alone, run_alone_to, run_both, run_both_to};
 use ec_command::Job;
+use ec_tree::{levels_bound, trees_bound};
 use ec_wire::Io;
 use ec_workers::Gate;
 use std::alloc::Global;
@@ -36,8 +38,10 @@ pub fn run<R: Read, C: Read, W: Write, O: Write, T: Threads + Wait + Sync, G: Ga
     requires cert { HasCert job.now (option_map (λ r. r.now) cert) }
     requires text { has_failed text.old ≡ false }
     requires out { NoneFailed (option_map (λ r. r.now) out) }
-    ensures { IsRun job.now (used R.remaining units.old units.new) (lent C.remaining cert.entry cert.exit) (used W.contents text.old text.new) (lent O.contents out.entry out.exit) result.code }
+    ensures { IsTrueRun job.now (used R.remaining units.old units.new) (lent C.remaining cert.entry cert.exit) (used W.contents text.old text.new) (lent O.contents out.entry out.exit) result.code }
 {
+    trees_bound();
+    levels_bound();
     match job {
         Job::Cost => run_alone(rt, alloc, job, units, text, gate),
         Job::Check => match cert {

@@ -33,8 +33,8 @@ pub(crate) fn run_alone<R: Read, W: Write, T: Threads + Wait + Sync, G: Gate + S
     requires text { has_failed text.old ≡ false }
     ensures { Tells (Does {C = Empty} {O = Sink} job.now (used R.remaining units.old units.new) nobody nobody) (used W.contents text.old text.new) result.code }
 {
-    let told = answer_alone(rt, alloc, job, units, false, gate);
-    deliver(told, text)
+    let told = answer_alone(rt, alloc, job, units, gate);
+    deliver(&told, text)
 }
 
 /// Does a job that reads units alone, and may write a file.
@@ -54,7 +54,7 @@ pub(crate) fn run_alone_to<R: Read, W: Write, O: Write, T: Threads + Wait + Sync
     requires out { has_failed out.old ≡ false }
     ensures { Tells (Does {C = Empty} job.now (used R.remaining units.old units.new) nobody (here (used O.contents out.old out.new))) (used W.contents text.old text.new) result.code }
 {
-    let told = answer_alone(rt, alloc, job, units, true, gate);
+    let told = answer_alone(rt, alloc, job, units, gate);
     deliver_to(told, out, text)
 }
 
@@ -75,8 +75,8 @@ pub(crate) fn run_both<R: Read, C: Read, W: Write, T: Threads + Wait + Sync, G: 
     requires text { has_failed text.old ≡ false }
     ensures { Tells (Does {O = Sink} job.now (used R.remaining units.old units.new) (here (used C.remaining cert.old cert.new)) nobody) (used W.contents text.old text.new) result.code }
 {
-    let told = answer_both(rt, alloc, job, units, cert, false, gate);
-    deliver(told, text)
+    let told = answer_both(rt, alloc, job, units, cert, gate);
+    deliver(&told, text)
 }
 
 /// Does a job that reads units and a certificate, and may write a file.
@@ -105,6 +105,6 @@ pub(crate) fn run_both_to<
     requires out { has_failed out.old ≡ false }
     ensures { Tells (Does job.now (used R.remaining units.old units.new) (here (used C.remaining cert.old cert.new)) (here (used O.contents out.old out.new))) (used W.contents text.old text.new) result.code }
 {
-    let told = answer_both(rt, alloc, job, units, cert, true, gate);
+    let told = answer_both(rt, alloc, job, units, cert, gate);
     deliver_to(told, out, text)
 }

@@ -1,13 +1,14 @@
-//! A reader or a writer that keeps a front of what passes through it, for what is told afterwards.
+//! A reader that keeps a front of what passes through it, for what is told afterwards.
 
 use std::alloc::Global;
 use std::io;
-use std::io::{ErrorKind, Read, Write};
+use std::io::{ErrorKind, Read};
 
-/// The front of some bytes that pass, of at most so many. Where memory runs out it keeps nothing any more.
+/// The front of some bytes, up to a limit. Where memory runs out it keeps nothing any more.
 #[derive(Drop)]
 struct Front {
     bytes: Vec<u8>,
+    /// How many more bytes are kept.
     room: usize,
 }
 
@@ -25,26 +26,21 @@ impl Front {
     }
 }
 
-/// A reader or a writer of std, what passed through it first, and why it failed at last. It does and tells what the one
-/// inside does and tells.
+/// A reader of std, the front of what passed through it, and why it failed at last. It reads and tells what the one inside
+/// does.
 #[derive(Drop)]
-pub(crate) struct Kept<T> {
-    inner: T,
+pub(crate) struct Kept<R> {
+    inner: R,
     front: Front,
-    tried: Front,
     fault: Option<ErrorKind>,
 }
 
-impl<T> Kept<T> {
-    /// This reader or writer, of which at most so many bytes are kept.
-    pub(crate) fn new(alloc: Global, inner: T, room: usize) -> Kept<T> {
+impl<R> Kept<R> {
+    /// This reader, of which at most so many bytes are kept.
+    pub(crate) fn new(alloc: Global, inner: R, room: usize) -> Kept<R> {
         Kept {
             inner,
             front: Front {
-                bytes: Vec::new(alloc),
-                room,
-            },
-            tried: Front {
                 bytes: Vec::new(alloc),
                 room,
             },
@@ -57,16 +53,7 @@ impl<T> Kept<T> {
         self.front.bytes.as_slice()
     }
 
-    /// What was kept; of a writer to which nothing could be written, what was first to be.
-    pub(crate) fn meant(&self) -> &[u8] {
-        if self.front.bytes.is_empty() {
-            self.tried.bytes.as_slice()
-        } else {
-            self.front()
-        }
-    }
-
-    /// Why a read or a write failed last, if one did.
+    /// Why a read failed last, if one did.
     pub(crate) fn fault(&self) -> Option<ErrorKind> {
         self.fault
     }
@@ -86,27 +73,5 @@ impl<R: Read> Read for Kept<R> {
                 Err(error)
             }
         }
-    }
-}
-
-impl<W: Write> Write for Kept<W> {
-    ghost contents = { λ kept. W.contents kept.inner };
-
-    fn write(&mut self, bytes: &[u8]) -> io::Result<usize> {
-        match self.inner.write(bytes) {
-            Ok(count) => {
-                self.front.keep(&bytes[..count]);
-                Ok(count)
-            }
-            Err(error) => {
-                self.tried.keep(bytes);
-                self.fault = Some(error.kind());
-                Err(error)
-            }
-        }
-    }
-
-    fn flush(&mut self) -> io::Result<()> {
-        self.inner.flush()
     }
 }

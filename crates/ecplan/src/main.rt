@@ -2,15 +2,14 @@
 //! are, and the text goes to standard output. What a refusal means is told on standard error.
 #![tactic(auto)]
 
+mod after;
 mod again;
-mod aside;
-mod drawing;
-mod filling;
-mod guard;
+mod faults;
 mod job;
 mod kept;
 mod progress;
 mod remark;
+mod targets;
 mod telling;
 
 use crate::job::do_words;
@@ -55,7 +54,7 @@ fn main(rt: HostRuntime) -> ExitCode {
                 let _ = rt.eprint(WAITING);
             }
             let is_terminal = rt.stderr().is_terminal();
-            ExitCode::from(do_words(&rt, words, is_terminal))
+            ExitCode::from(do_words(&rt, &words, is_terminal))
         }
         Err(LineFault::Memory) => ExitCode::from(refuse_memory(&mut out).code),
         Err(LineFault::Refused { text }) => {

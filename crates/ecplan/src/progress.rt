@@ -1,7 +1,7 @@
 //! The progress of a search, told on standard error while it runs.
 
 use crossbeam_utils::CachePadded;
-use ec_command::Job;
+use ec_command::{Effort, Line};
 use ec_workers::Gate;
 use std::alloc::{AllocError, Global};
 use std::io;
@@ -32,11 +32,11 @@ pub(crate) enum Telling {
 }
 
 impl Telling {
-    /// How the progress of a job is told: of a search alone, on a terminal, or where it is asked for.
-    pub(crate) fn of(job: &Job, is_terminal: bool, is_asked: bool) -> Telling {
-        match job {
-            Job::Plan { .. } | Job::Resume { .. } if is_terminal => Telling::Over,
-            Job::Plan { .. } | Job::Resume { .. } if is_asked => Telling::Lines,
+    /// How the progress of a line is told: of a search alone, on a terminal, or where it is asked for.
+    pub(crate) fn of(line: &Line, is_terminal: bool, is_asked: bool) -> Telling {
+        match line {
+            Line::Plan { .. } | Line::Resume { .. } if is_terminal => Telling::Over,
+            Line::Plan { .. } | Line::Resume { .. } if is_asked => Telling::Lines,
             _ => Telling::Nothing,
         }
     }
@@ -57,6 +57,8 @@ pub(crate) struct Progress<'a, H> {
     telling: Telling,
     /// The nodes that the search may visit.
     budget: u32,
+    /// The milliseconds that it may take; none where time doesn't end it.
+    most: Option<u64>,
     began: Option<Instant>,
     /// How many nodes each worker has visited.
     counts: Vec<CachePadded<AtomicU64>>,
@@ -76,21 +78,32 @@ fn new_counts(alloc: Global, telling: Telling) -> Vec<CachePadded<AtomicU64>> {
     counts
 }
 
-/// The nodes that a job may visit.
-fn budget_of(job: &Job) -> u32 {
-    match job {
-        Job::Plan { nodes, .. } | Job::Resume { nodes, .. } => *nodes,
-        _ => 0,
+/// What the search of a line may take, if it searches.
+fn effort_of(line: &Line) -> Option<Effort> {
+    match line {
+        Line::Plan { effort, .. } | Line::Resume { effort, .. } => Some(*effort),
+        _ => None,
     }
 }
 
+/// The milliseconds that a search may take, if time ends it.
+fn most_millis(effort: Option<Effort>) -> Option<u64> {
+    let minutes = effort?.minutes?;
+    Some(u64::from(minutes).saturating_mul(60_000))
+}
+
 impl<'a, H: AllocGlobal + Eprint + Clock> Progress<'a, H> {
-    /// The progress of a job, of which nothing was told yet.
-    pub(crate) fn new(rt: &'a H, job: &Job, telling: Telling) -> Progress<'a, H> {
+    /// The progress of a line, of which nothing was told yet.
+    pub(crate) fn new(rt: &'a H, line: &Line, telling: Telling) -> Progress<'a, H> {
+        let effort = effort_of(line);
         Progress {
             rt,
             telling,
-            budget: budget_of(job),
+            budget: match effort {
+                Some(effort) => effort.nodes,
+                None => 0,
+            },
+            most: most_millis(effort),
             began: Instant::now(rt).ok(),
             counts: new_counts(rt.alloc(), telling),
             told_at: AtomicU64::new(0),
@@ -168,6 +181,16 @@ impl<'a, H: AllocGlobal + Eprint + Clock> Gate for Progress<'a, H> {
         let before = count.fetch_add(1, Ordering::SeqCst);
         if before % EVERY == EVERY - 1 {
             self.look(value);
+        }
+    }
+
+    fn is_over(&self) -> bool {
+        let Some(most) = self.most else {
+            return false;
+        };
+        match self.millis() {
+            Some(millis) => millis >= most,
+            None => false,
         }
     }
 }

@@ -1,21 +1,28 @@
 //! What is told on standard error, after the job.
 
 use crate::again::cert_at;
-use crate::telling::tell_reason;
+use crate::faults::tell_fault;
+use crate::targets::{Target, targets_of};
+use crate::telling::{UNTOLD, tell_reason, tell_text};
+use ec_answers::Told;
+use ec_cert_text::CertFault;
+use ec_checker::CheckFault;
 use ec_command::Line;
 use ec_explain::{Inputs, Written, advice, explain};
+use ec_files::FileFault;
+use ec_jobs::Report;
+use ec_refusals::Refusal;
 use std::alloc::{AllocError, Global};
 use std::io::{ErrorKind, Read};
-use std::path::Path;
 use std::rt::Files;
 use std::{fs, io};
 
-/// What a job left: the front of the units that it read, why their reading failed, and the front of its text.
+/// What is left of the units: their path if they have one, the front of what was read, and why their reading failed.
 #[derive(Clone, Copy)]
 pub(crate) struct Left<'a> {
+    pub path: Option<&'a str>,
     pub units: &'a [u8],
     pub fault: Option<ErrorKind>,
-    pub text: &'a [u8],
 }
 
 /// Whether what stands at a path can be opened without waiting: a file or a folder.
@@ -33,27 +40,6 @@ fn try_read<R: Files>(files: &R, path: &str) -> io::Result<()> {
     Ok(())
 }
 
-/// Opens for writing what stands at a path, and changes nothing, to see why that fails. Where nothing stands there, it is
-/// the folder that is looked for.
-fn try_write<R: Files>(files: &R, path: &str) -> io::Result<()> {
-    match is_ready(files, path) {
-        Ok(true) => {
-            fs::OpenOptions::new().write(true).open(files, path)?;
-            Ok(())
-        }
-        Ok(false) => Ok(()),
-        Err(error) if error.kind() == ErrorKind::NotFound => match Path::new(path).parent() {
-            Some(folder) if !folder.as_str().is_empty() => {
-                fs::metadata(files, folder)?;
-                Ok(())
-            }
-            Some(_) => Ok(()),
-            None => Err(error),
-        },
-        Err(error) => Err(error),
-    }
-}
-
 /// Why something failed, in the system's words; empty where it didn't fail now.
 fn reason_of(alloc: Global, tried: io::Result<()>) -> Result<String, AllocError> {
     match tried {
@@ -62,36 +48,42 @@ fn reason_of(alloc: Global, tried: io::Result<()>) -> Result<String, AllocError>
     }
 }
 
-/// Why the system refused a stream or a path, for the lines that say so.
+/// Why the system refused a stream or a path of a line, for the lines that say so; else empty.
 fn reason_for<R: Files + AllocGlobal>(
     rt: &R,
-    code: &str,
+    refusal: &Refusal,
     line: &Line,
     fault: Option<ErrorKind>,
 ) -> Result<String, AllocError> {
-    match (code, fault, &line.cert, &line.out) {
-        ("E3", Some(kind), _, _) => kind.to_string(rt.alloc()),
-        ("E3", None, Some(path), _) => reason_of(rt.alloc(), try_read(rt, path.as_str())),
-        ("E4", _, _, Some(path)) => reason_of(rt.alloc(), try_write(rt, path.as_str())),
-        _ => Ok(String::new(rt.alloc())),
+    let alloc = rt.alloc();
+    match (refusal, fault, line.cert()) {
+        (Refusal::Read, Some(kind), _) => kind.to_string(alloc),
+        (Refusal::Read, None, Some(path)) => reason_of(alloc, try_read(rt, path.as_str())),
+        _ => Ok(String::new(alloc)),
     }
 }
 
-/// Whether a code is of what stands in a certificate.
-fn is_of_cert(code: &str) -> bool {
-    match code {
-        "C1" | "C9" | "K1" => false,
-        "E5" => true,
-        _ => code.starts_with('C') || code.starts_with('K'),
+/// Whether a refusal is of what stands in a certificate.
+fn is_of_cert(refusal: &Refusal) -> bool {
+    match refusal {
+        Refusal::Cert(fault) => !matches!(fault, CertFault::OutOfMemory | CertFault::TooLarge),
+        Refusal::Check(fault) => !matches!(fault, CheckFault::OutOfMemory),
+        Refusal::CertHasNoPlan => true,
+        Refusal::Unit(_)
+        | Refusal::Illegal(_)
+        | Refusal::TooLarge
+        | Refusal::NoPlace(_)
+        | Refusal::Read
+        | Refusal::Solve(_)
+        | Refusal::Write
+        | Refusal::Play(_) => false,
     }
 }
 
-/// The certificate that a line that refuses is about, if it can be read again.
-fn cert_for<R: Files + AllocGlobal>(rt: &R, code: &str, line: &Line) -> Option<Vec<u8>> {
-    let Some(path) = &line.cert else {
-        return None;
-    };
-    if !is_of_cert(code) {
+/// The certificate that a refusal is about, if it can be read again.
+fn cert_for<R: Files + AllocGlobal>(rt: &R, refusal: &Refusal, line: &Line) -> Option<Vec<u8>> {
+    let path = line.cert()?;
+    if !is_of_cert(refusal) {
         return None;
     }
     match cert_at(rt, path.as_str()) {
@@ -100,24 +92,23 @@ fn cert_for<R: Files + AllocGlobal>(rt: &R, code: &str, line: &Line) -> Option<V
     }
 }
 
-/// The text behind a path of the line.
-fn path_of(path: &Option<String>) -> Option<&str> {
+/// The text behind a path.
+fn text_of(path: Option<&String>) -> Option<&str> {
     match path {
         Some(path) => Some(path.as_str()),
         None => None,
     }
 }
 
-/// What there is to tell of a line that refuses.
+/// What there is to tell of a refusal.
 fn refusal_text<'x, R: Files + AllocGlobal>(
     rt: &R,
-    refused: &str,
+    refusal: &Refusal,
     line: &'x Line,
     left: Left<'x>,
 ) -> Result<String, AllocError> {
-    let code = refused.split(' ').nth(1).unwrap_or("");
-    let reason = reason_for(rt, code, line, left.fault)?;
-    let cert = cert_for(rt, code, line);
+    let reason = reason_for(rt, refusal, line, left.fault)?;
+    let cert = cert_for(rt, refusal, line);
     let inputs = Inputs {
         units: left.units,
         cert: match &cert {
@@ -127,35 +118,42 @@ fn refusal_text<'x, R: Files + AllocGlobal>(
         cert_path: if left.fault.is_some() {
             None
         } else {
-            path_of(&line.cert)
+            text_of(line.cert())
         },
-        out_path: path_of(&line.out),
+        out_path: text_of(line.out()),
         reason: if reason.is_empty() {
             None
         } else {
             Some(reason.as_str())
         },
     };
-    explain(rt.alloc(), refused, &inputs)
+    explain(rt.alloc(), refusal, &inputs)
 }
 
-/// Tells that the units at a path couldn't be read, if they have a path and that is what failed; else false.
-fn tells_units<R: AllocGlobal + Eprint>(
+/// Tells what a refusal means.
+fn tell_refusal<'x, R: Files + AllocGlobal + Eprint>(
     rt: &R,
-    path: &Option<String>,
-    fault: Option<ErrorKind>,
-) -> bool {
-    let (Some(path), Some(kind)) = (path, fault) else {
-        return false;
-    };
-    let error = io::Error::from(kind);
-    tell_reason(rt, "The units cannot be read from", path.as_str(), error);
-    true
+    refusal: &Refusal,
+    line: &'x Line,
+    left: Left<'x>,
+) {
+    if let (Some(path), Some(kind)) = (left.path, left.fault) {
+        tell_reason(
+            rt,
+            "The units cannot be read from",
+            path,
+            io::Error::from(kind),
+        );
+        return;
+    }
+    if let Ok(told) = refusal_text(rt, refusal, line, left) {
+        let _ = rt.eprint(told.as_str());
+    }
 }
 
 /// The certificate that a search wrote to the path of its line.
 fn written_to<'x, R: Files>(files: &R, line: &'x Line) -> Option<Written<'x>> {
-    let path = path_of(&line.out)?;
+    let path = text_of(line.out())?;
     let bytes = match fs::metadata(files, path) {
         Ok(found) => found.len(),
         Err(_) => 0,
@@ -163,28 +161,51 @@ fn written_to<'x, R: Files>(files: &R, line: &'x Line) -> Option<Written<'x>> {
     Some(Written { path, bytes })
 }
 
-/// Tells on standard error what a refusal of the units at a path, or on standard input, means, what would help a search
-/// that ended without a proof, or that its certificate is too large to be read. Where that can't be written or made, nothing is told.
+/// Tells what would help a search that ended without a proof, or that its certificate is too large to be read.
+fn tell_advice<R: Files + AllocGlobal + Eprint>(rt: &R, line: &Line, told: &Told, is_there: bool) {
+    let (Line::Plan { .. } | Line::Resume { .. }) = line else {
+        return;
+    };
+    let written = if is_there { written_to(rt, line) } else { None };
+    if let Ok(text) = advice(rt.alloc(), told.ending, written) {
+        let _ = rt.eprint(text.as_str());
+    }
+}
+
+/// Tells what a search found, where standard output hasn't got it.
+fn tell_found<R: AllocGlobal + Eprint>(rt: &R, line: &Line, told: &Told) {
+    if let Line::Plan { .. } | Line::Resume { .. } = line {
+        tell_text(rt, UNTOLD, told.answer.text.as_str());
+    }
+}
+
+/// Tells why the file of a job isn't at its path.
+fn tell_file<R: AllocGlobal + Eprint>(rt: &R, line: &Line, fault: &FileFault) {
+    let [target, _] = targets_of(line);
+    if let Some(target) = target {
+        let Target { path, content } = target;
+        tell_fault(rt, Target { path, content }, fault);
+    }
+}
+
+/// Tells on standard error what came of a line: what a refusal means, why a file isn't at its path, what was found where
+/// standard output hasn't got it, and what would help a search that ended without a proof. Where that can't be written or
+/// made, nothing is told.
 pub(crate) fn remark<'x, R: Files + AllocGlobal + Eprint>(
     rt: &R,
     line: &'x Line,
-    path: &Option<String>,
     left: Left<'x>,
+    report: &Report,
 ) {
-    let Ok(text) = std::str::from_utf8(left.text) else {
-        return;
+    let told = match &report.told {
+        Ok(told) => told,
+        Err(refusal) => return tell_refusal(rt, refusal, line, left),
     };
-    let first = text.lines().next().unwrap_or("");
-    if !first.starts_with("refused ") {
-        if let Ok(told) = advice(rt.alloc(), text, written_to(rt, line)) {
-            let _ = rt.eprint(told.as_str());
-        }
-        return;
+    if let Some(fault) = &report.fault {
+        tell_file(rt, line, fault);
     }
-    if tells_units(rt, path, left.fault) {
-        return;
+    if report.status.code == 4 {
+        tell_found(rt, line, told);
     }
-    if let Ok(told) = refusal_text(rt, first, line, left) {
-        let _ = rt.eprint(told.as_str());
-    }
+    tell_advice(rt, line, told, report.fault.is_none());
 }

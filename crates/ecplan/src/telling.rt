@@ -11,6 +11,13 @@ pub(crate) const WAITING: &str =
 pub(crate) const NO_FORM: &str =
     "Each unit of the text has to begin with a line [[unit]], and each key to have a line of its own";
 
+/// What is told of a file of units that isn't written over.
+pub(crate) const CHANGED: &str =
+    "It holds other units than those that the search began with, and is left as it is. The plan was told";
+
+/// What is told before what was found, where standard output hasn't got it.
+pub(crate) const UNTOLD: &str = "What was found:";
+
 /// A sentence about a path, and on a line of its own why.
 fn sentence(alloc: Global, words: &str, path: &str, why: &str) -> Result<String, AllocError> {
     let text = format!(in alloc; "{words} \"{path}\".\n{why}.\n")?;
@@ -34,4 +41,11 @@ pub(crate) fn tell_reason<R: AllocGlobal + Eprint>(
     if let Ok(why) = reason.to_string(rt.alloc()) {
         tell_path(rt, words, path, why.as_str());
     }
+}
+
+/// Tells a text, and before it on a line of its own what it is. It takes no memory.
+pub(crate) fn tell_text<R: Eprint>(rt: &R, words: &str, text: &str) {
+    let _ = rt.eprint(words);
+    let _ = rt.eprint("\n");
+    let _ = rt.eprint(text);
 }

@@ -6,12 +6,12 @@ use Rattle.ec_jobs.proofs.answering.answer_both.Goals as goal
 pub returns-in_err-inputs-clause-told : goal.returns-in_err-inputs-clause-told
 returns-in_err-inputs-clause-told g c = λ sound cert.
     let p = err_from_is_err_and c.from_residual.result c.from_residual.ensures.1 in
-    both_unread c.args.is_wanted c.args.job.now _ _ c.in_err-inputs.field-0.0 c.from_residual.result c.requires.given (p.1 ∙ ap (λ e. Err e) p.2) (c.in_err-inputs.ensures.told sound cert)
+    both_unread c.args.job.now _ _ c.in_err-inputs.field-0.0 c.from_residual.result c.requires.given (p.1 ∙ ap (λ e. Err e) p.2) (c.in_err-inputs.ensures.told sound cert)
 
 pub returns-in_err-inputs-clause-some : goal.returns-in_err-inputs-clause-some
 returns-in_err-inputs-clause-some g c = λ sound.
     let p = err_from_is_err_and c.from_residual.result c.from_residual.ensures.1 in
-    some_untold c.args.is_wanted c.args.job.now _ c.in_err-inputs.field-0.0 c.from_residual.result c.requires.given (p.1 ∙ ap (λ e. Err e) p.2) (c.in_err-inputs.ensures.some sound)
+    some_untold c.args.job.now _ c.in_err-inputs.field-0.0 c.from_residual.result c.requires.given (p.1 ∙ ap (λ e. Err e) p.2) (c.in_err-inputs.ensures.some sound)
 
 pub returns-clause-some : goal.returns-clause-some
-returns-clause-some g c = λ sound. some_told c.args.is_wanted c.args.job.now _ c.in_ok-inputs.inputs c.answer.result c.answer.ensures.told (c.in_ok-inputs.ensures.some sound)
+returns-clause-some g c = λ sound. some_told c.args.job.now _ c.in_ok-inputs.inputs c.answer.result c.answer.ensures.told (c.in_ok-inputs.ensures.some sound)

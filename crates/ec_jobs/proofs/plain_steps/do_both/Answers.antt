@@ -1,8 +1,7 @@
-use Rattle.std.proofs.Common.{true, false}
 use Rattle.ec_jobs.proofs.RunLemmas.{does_both, tells_more}
 use Rattle.ec_jobs.proofs.plain_steps.do_both.Goals as goal
 
 pub returns : goal.returns
 returns g c =
     let a = c.plain_both-told.ensures in
-    tells_more (does_both c.args.job.now _ _ c.plain_both-told.result (λ units cert. a.told units cert false) (λ units. a.some units false) a.read) c.deliver.ensures
+    tells_more (does_both c.args.job.now _ _ c.plain_both-told.result a.told a.some a.read) c.deliver.ensures

@@ -1,19 +1,19 @@
 //! Files that are left as they are: the one that standard output goes to, and one that holds something else than what
 //! would be written there.
 
-use ec_command::Job;
 use ec_unit_text::read_units;
+use std::alloc::Global;
 use std::io::Read;
 use std::os::unix::fs::MetadataExt;
 use std::rt::Files;
 use std::{fs, io};
 
 /// The most bytes of a unit text, and one.
-const MOST_UNITS: u64 = 1_048_577;
+const MOST_TEXT: u64 = 1_048_577;
 
 /// What a path is written with.
-#[derive(Clone, Copy)]
-pub(crate) enum Content {
+#[derive(Clone, Copy, Debug, PartialEq, Eq)]
+pub enum Content {
     Certificate,
     Capture,
     Picture,
@@ -21,14 +21,6 @@ pub(crate) enum Content {
 }
 
 impl Content {
-    /// What a job writes to a path.
-    pub(crate) fn of(job: &Job) -> Content {
-        match job {
-            Job::Capture => Content::Capture,
-            _ => Content::Certificate,
-        }
-    }
-
     /// How it begins; a unit text may begin in any way.
     fn front(self) -> &'static [u8] {
         match self {
@@ -38,14 +30,28 @@ impl Content {
             Content::Units => b"",
         }
     }
+}
 
-    /// What is told before the path of a file that is left as it is.
-    pub(crate) fn refusal(self) -> &'static str {
+/// Why what stands at a path is left as it is.
+#[derive(Clone, Copy, Debug, PartialEq, Eq)]
+pub enum KeepReason {
+    /// Standard output goes to it.
+    IsOutput,
+    /// It holds something else than what would be written there.
+    HoldsElse,
+    /// What it holds can't be read.
+    Unreadable,
+}
+
+impl KeepReason {
+    /// What is told of it, with what to do.
+    pub fn as_str(self) -> &'static str {
         match self {
-            Content::Certificate => "The certificate is not written over the file",
-            Content::Capture => "The capture is not written over the file",
-            Content::Picture => "The picture is not written over the file",
-            Content::Units => "The units are not written over the file",
+            KeepReason::IsOutput => "Standard output goes to it: give another path",
+            KeepReason::HoldsElse => {
+                "It holds something else: give another path, or take the file away first"
+            }
+            KeepReason::Unreadable => "What it holds cannot be read: give another path",
         }
     }
 }
@@ -66,46 +72,45 @@ fn begins<F: Files>(files: &F, path: &str, content: Content) -> io::Result<bool>
 }
 
 /// Whether the file at a path is a unit text.
-fn are_units<R: Files + AllocGlobal>(rt: &R, path: &str) -> io::Result<bool> {
-    let mut bytes = Vec::new(rt.alloc());
-    fs::open(rt, path)?
-        .take(MOST_UNITS)
+fn are_units<F: Files>(files: &F, alloc: Global, path: &str) -> io::Result<bool> {
+    let mut bytes = Vec::new(alloc);
+    fs::open(files, path)?
+        .take(MOST_TEXT)
         .read_to_end(&mut bytes)?;
-    Ok(read_units(rt.alloc(), &bytes).is_ok())
+    Ok(read_units(alloc, &bytes).is_ok())
 }
 
 /// Whether the file at a path holds such content.
-fn holds<R: Files + AllocGlobal>(rt: &R, path: &str, content: Content) -> io::Result<bool> {
+fn holds<F: Files>(files: &F, alloc: Global, path: &str, content: Content) -> io::Result<bool> {
     match content {
-        Content::Units => are_units(rt, path),
-        _ => begins(rt, path, content),
+        Content::Units => are_units(files, alloc, path),
+        _ => begins(files, path, content),
     }
 }
 
 /// Why what stands at a path is left as it is and not written over. None where nothing is lost: where nothing stands
-/// there, an empty file, one that holds such content, or what is no file, as a pipe.
-pub(crate) fn reason_to_keep<R: Files + AllocGlobal>(
-    rt: &R,
+/// there, an empty file, one that holds such content, or what is no file, as a pipe (own profile).
+pub fn reason_to_keep<F: Files>(
+    files: &F,
+    alloc: Global,
     path: &str,
     content: Content,
-) -> Option<&'static str> {
-    let Ok(found) = fs::metadata(rt, path) else {
+) -> Option<KeepReason> {
+    let Ok(found) = fs::metadata(files, path) else {
         return None;
     };
     if !found.is_file() {
         return None;
     }
-    if is_output(rt, &found) {
-        return Some("Standard output goes to it: give another path");
+    if is_output(files, &found) {
+        return Some(KeepReason::IsOutput);
     }
     if found.len() == 0 {
         return None;
     }
-    match holds(rt, path, content) {
+    match holds(files, alloc, path, content) {
         Ok(true) => None,
-        Ok(false) => Some(
-            "It holds something else: give another path, or take the file away first",
-        ),
-        Err(_) => Some("What it holds cannot be read: give another path"),
+        Ok(false) => Some(KeepReason::HoldsElse),
+        Err(_) => Some(KeepReason::Unreadable),
     }
 }

@@ -1,0 +1,16 @@
+//! Files that are written whole or not at all: each is made beside its path, and takes its place there once it is whole.
+//!
+//! Nothing that stood there before is lost: it is kept where it holds something else than what is written, and it stands
+//! until a whole file takes its place.
+#![tactic(auto)]
+
+mod fault;
+mod guard;
+mod late;
+mod place;
+mod settling;
+
+pub use fault::FileFault;
+pub use guard::{Content, KeepReason, reason_to_keep};
+pub use late::{Late, write_whole};
+pub use place::are_one;

@@ -1,0 +1,101 @@
+//! Where the bytes for a path go.
+
+use std::alloc::Global;
+use std::io::ErrorKind;
+use std::path::Path;
+use std::rt::Files;
+use std::{fs, io};
+
+/// Where the bytes for a path go.
+#[derive(Drop)]
+pub(crate) enum Place {
+    /// Into a new file beside this path, which takes its place once it is whole.
+    Beside { path: String },
+    /// Straight to what stands at this path and is no file, as a pipe.
+    Straight { path: String },
+    /// Nowhere: nothing can be written there.
+    Nowhere { why: io::Error },
+}
+
+/// The path of the file that a path or a link leads to, where one stands there or may be made there, and what else stands
+/// there.
+fn find_place<F: Files>(files: &F, alloc: Global, path: &str) -> io::Result<Place> {
+    if path.is_empty() {
+        return Err(io::Error::from(ErrorKind::NotFound));
+    }
+    let named = String::from_str(alloc, path)?;
+    let itself = match fs::symlink_metadata(files, path) {
+        Ok(found) => found,
+        Err(error) if error.kind() == ErrorKind::NotFound => {
+            return Ok(Place::Beside { path: named });
+        }
+        Err(error) => return Err(error),
+    };
+    let found = fs::metadata(files, path)?;
+    if found.is_dir() {
+        return Err(io::Error::from(ErrorKind::IsADirectory));
+    }
+    if !found.is_file() {
+        return Ok(Place::Straight { path: named });
+    }
+    fs::OpenOptions::new().write(true).open(files, path)?;
+    if itself.is_symlink() {
+        let path = files.canonicalize(alloc, path)?.into_string();
+        return Ok(Place::Beside { path });
+    }
+    Ok(Place::Beside { path: named })
+}
+
+impl Place {
+    /// Where the bytes for a path go. A link to a file stands for the file that it leads to; one that leads nowhere, a
+    /// folder, and a file that may not be written can't be written.
+    pub(crate) fn of<F: Files>(files: &F, alloc: Global, path: &str) -> Place {
+        match find_place(files, alloc, path) {
+            Ok(place) => place,
+            Err(why) => Place::Nowhere { why },
+        }
+    }
+}
+
+/// The folder of a path.
+pub(crate) fn folder_of(path: &str) -> &str {
+    match Path::new(path).parent() {
+        Some(folder) if !folder.as_str().is_empty() => folder.as_str(),
+        _ => ".",
+    }
+}
+
+/// The one name of the file at a path, or of one that would be made there, whatever links lead to its folder.
+fn true_path<F: Files>(files: &F, alloc: Global, path: &str) -> io::Result<String> {
+    if let Ok(found) = files.canonicalize(alloc, path) {
+        return Ok(found.into_string());
+    }
+    let mut found = files.canonicalize(alloc, folder_of(path))?;
+    if let Some(name) = Path::new(path).file_name() {
+        found.push(name)?;
+    }
+    Ok(found.into_string())
+}
+
+/// Whether what stands at a path is there and is no file, as a pipe or a device.
+fn is_no_file<F: Files>(files: &F, path: &str) -> bool {
+    match fs::metadata(files, path) {
+        Ok(found) => !found.is_file(),
+        Err(_) => false,
+    }
+}
+
+/// Whether two paths to write are one file, however they are spelled and whatever links lead there; where the system
+/// doesn't tell that, or memory is wanting, whether they are spelled alike. What is no file may be written with both (own
+/// profile).
+pub fn are_one<F: Files>(files: &F, alloc: Global, one: &str, other: &str) -> bool {
+    if is_no_file(files, one) {
+        return false;
+    }
+    let one_true = true_path(files, alloc, one);
+    let other_true = true_path(files, alloc, other);
+    match (one_true, other_true) {
+        (Ok(one), Ok(other)) => one.as_str() == other.as_str(),
+        _ => one == other,
+    }
+}

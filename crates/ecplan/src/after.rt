@@ -1,0 +1,174 @@
+//! What is written after the text of a job: the picture of costs, and the units with the places of a plan.
+
+use crate::faults::tell_fault;
+use crate::targets::Target;
+use crate::telling::{CHANGED, NO_FORM, tell_path};
+use ec_command::Line;
+use ec_files::{Content, FileFault, are_one, write_whole};
+use ec_lines::placed_plan;
+use ec_loads::Plan;
+use ec_picture::picture;
+use ec_placing::{PlacingFault, place_text};
+use ec_unit_text::read_units;
+use std::alloc::{AllocError, Global};
+use std::io::{ErrorKind, Read};
+use std::os::unix::fs::MetadataExt;
+use std::rt::Files;
+use std::{fs, io};
+
+/// Why what is written after the job isn't at its path.
+#[derive(Drop)]
+enum AfterFault {
+    File(FileFault),
+    /// The places can't be filled into this text.
+    Form,
+    /// The units were changed in their file since they were read.
+    Changed,
+}
+
+impl From<FileFault> for AfterFault {
+    fn from(fault: FileFault) -> AfterFault {
+        AfterFault::File(fault)
+    }
+}
+
+/// Want of memory.
+fn no_memory() -> FileFault {
+    FileFault::Unwritten {
+        why: io::Error::from(ErrorKind::OutOfMemory),
+    }
+}
+
+/// Whether two paths lead to one file that is there.
+fn is_there_twice(files: &impl Files, one: &str, other: &str) -> bool {
+    match (fs::metadata(files, one), fs::metadata(files, other)) {
+        (Ok(one), Ok(other)) => one.dev() == other.dev() && one.ino() == other.ino(),
+        _ => false,
+    }
+}
+
+/// Whether the units with their places go over the file of the units themselves: the one at this path, else the one that
+/// standard input comes from.
+pub(crate) fn is_own_file<R: Files + AllocGlobal>(
+    rt: &R,
+    line: &Line,
+    units: &Option<String>,
+) -> bool {
+    let (Line::Plan { places, .. } | Line::Resume { places, .. }) = line else {
+        return false;
+    };
+    match (places, units) {
+        (Some(places), Some(units)) => are_one(rt, rt.alloc(), places.as_str(), units.as_str()),
+        (Some(places), None) => is_there_twice(rt, places.as_str(), "/dev/stdin"),
+        (None, _) => false,
+    }
+}
+
+/// Whether the file at a path still holds these units.
+fn holds_still<R: Files + AllocGlobal>(rt: &R, path: &str, units: &[u8]) -> io::Result<bool> {
+    if !fs::metadata(rt, path)?.is_file() {
+        return Ok(false);
+    }
+    let mut bytes = Vec::new(rt.alloc());
+    let most = (units.len() as u64).saturating_add(1);
+    fs::open(rt, path)?.take(most).read_to_end(&mut bytes)?;
+    Ok(bytes.as_slice() == units)
+}
+
+/// The picture of a unit text that was found right, and of the plan whose costs were told, else of the units' own places:
+/// only memory may be wanting.
+fn picture_of(alloc: Global, units: &[u8], plan: Option<&Plan>) -> Result<String, AllocError> {
+    let Ok(units) = read_units(alloc, units) else {
+        return Err(AllocError);
+    };
+    if let Some(plan) = plan {
+        return picture(alloc, &units, plan);
+    }
+    match placed_plan(alloc, &units) {
+        Ok(plan) => picture(alloc, &units, &plan),
+        Err(_) => Err(AllocError),
+    }
+}
+
+/// Writes the picture of a unit text whose costs were told.
+fn draw<R: Files + AllocGlobal>(
+    rt: &R,
+    units: &[u8],
+    plan: Option<&Plan>,
+    path: &str,
+) -> Result<(), AfterFault> {
+    let Ok(drawn) = picture_of(rt.alloc(), units, plan) else {
+        return Err(AfterFault::File(no_memory()));
+    };
+    write_whole(rt, rt.alloc(), path, Content::Picture, drawn.as_bytes())?;
+    Ok(())
+}
+
+/// Writes a unit text with the places of a plan. Where it goes over the units' own file, that file must hold the text still.
+fn fill<R: Files + AllocGlobal>(
+    rt: &R,
+    units: &[u8],
+    plan: &Plan,
+    path: &str,
+    is_own: bool,
+) -> Result<(), AfterFault> {
+    if units.is_empty() {
+        return Err(AfterFault::File(no_memory()));
+    }
+    let placed = match place_text(rt.alloc(), units, plan.places.as_slice()) {
+        Ok(placed) => placed,
+        Err(PlacingFault::OutOfMemory) => return Err(AfterFault::File(no_memory())),
+        Err(_) => return Err(AfterFault::Form),
+    };
+    if is_own && !matches!(holds_still(rt, path, units), Ok(true)) {
+        return Err(AfterFault::Changed);
+    }
+    write_whole(rt, rt.alloc(), path, Content::Units, placed.as_bytes())?;
+    Ok(())
+}
+
+/// Tells why what is written after the job isn't at its path.
+fn tell_after<R: AllocGlobal + Eprint>(rt: &R, path: &str, content: Content, fault: &AfterFault) {
+    match fault {
+        AfterFault::Form => tell_path(rt, "The places are not written to", path, NO_FORM),
+        AfterFault::Changed => tell_path(rt, "The places are not written to", path, CHANGED),
+        AfterFault::File(fault) => tell_fault(rt, Target { path, content }, fault),
+    }
+}
+
+/// Writes what a line wants after the text of its job, which told of this plan: the picture of costs, and the units with the
+/// places of a plan that was found. Whether nothing is missing; tells what is.
+pub(crate) fn write_after<R: Files + AllocGlobal + Eprint>(
+    rt: &R,
+    line: &Line,
+    units: &[u8],
+    plan: Option<&Plan>,
+    is_own: bool,
+) -> bool {
+    let (path, content, written) = match line {
+        Line::Cost {
+            svg: Some(path),
+            ..
+        } => (path, Content::Picture, draw(rt, units, plan, path.as_str())),
+        Line::Plan {
+            places: Some(path),
+            ..
+        }
+        | Line::Resume {
+            places: Some(path),
+            ..
+        } => match plan {
+            Some(plan) => (
+                path,
+                Content::Units,
+                fill(rt, units, plan, path.as_str(), is_own),
+            ),
+            None => return true,
+        },
+        _ => return true,
+    };
+    if let Err(fault) = &written {
+        tell_after(rt, path.as_str(), content, fault);
+    }
+    written.is_ok()
+}

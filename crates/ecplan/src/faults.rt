@@ -1,0 +1,95 @@
+//! What is told of a file that isn't at its path.
+
+use crate::targets::Target;
+use crate::telling::{tell_path, tell_reason};
+use ec_files::{Content, FileFault, KeepReason};
+use std::alloc::{AllocError, Global};
+use std::io;
+
+/// What is told before a path that couldn't be written.
+fn unwritten(content: Content) -> &'static str {
+    match content {
+        Content::Certificate => "The certificate cannot be written to",
+        Content::Capture => "The capture cannot be written to",
+        Content::Picture => "The picture cannot be written to",
+        Content::Units => "The units cannot be written to",
+    }
+}
+
+/// What is told before the path at which a whole file lies.
+fn whole(content: Content) -> &'static str {
+    match content {
+        Content::Certificate => "The certificate is whole and lies at",
+        Content::Capture => "The capture is whole and lies at",
+        Content::Picture => "The picture is whole and lies at",
+        Content::Units => "The units with their places are whole and lie at",
+    }
+}
+
+/// Why a file couldn't take its place at a path.
+fn aside(alloc: Global, path: &str, why: io::Error) -> Result<String, AllocError> {
+    let why = why.to_string(alloc)?;
+    format!(in alloc; "It cannot take the place of \"{path}\": {why}")
+}
+
+/// Why a file doesn't take the place of what stands at a path.
+fn kept(alloc: Global, path: &str, why: KeepReason) -> Result<String, AllocError> {
+    let why = why.as_str();
+    format!(in alloc; "It does not take the place of \"{path}\".\n{why}")
+}
+
+/// Why a certificate doesn't take its place at a path.
+fn too_large(alloc: Global, path: &str, bytes: u64) -> Result<String, AllocError> {
+    format!(in alloc;
+        "It has {bytes} bytes, and at most 67108864 are read.\nIt does not take the place of \"{path}\". A smaller --nodes gives a smaller one"
+    )
+}
+
+/// Why it isn't known whether a file lasts.
+fn unsynced(alloc: Global, why: io::Error) -> Result<String, AllocError> {
+    let why = why.to_string(alloc)?;
+    format!(in alloc;
+        "It may be lost if the power fails now, since its folder cannot be synced: {why}"
+    )
+}
+
+/// Tells where a file lies, and why.
+fn tell_lies<R: AllocGlobal + Eprint>(
+    rt: &R,
+    words: &str,
+    at: &str,
+    why: Result<String, AllocError>,
+) {
+    if let Ok(why) = why {
+        tell_path(rt, words, at, why.as_str());
+    }
+}
+
+/// Tells why a file isn't at its path, and where it lies.
+pub(crate) fn tell_fault<R: AllocGlobal + Eprint>(rt: &R, target: Target<'_>, fault: &FileFault) {
+    let Target { path, content } = target;
+    let alloc = rt.alloc();
+    match fault {
+        FileFault::Unwritten { why } => {
+            tell_reason(rt, unwritten(content), path, *why);
+        }
+        FileFault::Aside { at, why } => {
+            tell_lies(rt, whole(content), at.as_str(), aside(alloc, path, *why));
+        }
+        FileFault::Kept { at, why } => {
+            let why = kept(alloc, path, *why);
+            tell_lies(rt, whole(content), at.as_str(), why);
+        }
+        FileFault::TooLarge { at, bytes } => {
+            tell_lies(
+                rt,
+                whole(content),
+                at.as_str(),
+                too_large(alloc, path, *bytes),
+            );
+        }
+        FileFault::Unsynced { why } => {
+            tell_lies(rt, "It is whole at", path, unsynced(alloc, *why));
+        }
+    }
+}

@@ -1,0 +1,131 @@
+//! What a line writes to paths, looked at before the job.
+
+use crate::telling::{tell_path, tell_reason};
+use ec_command::Line;
+use ec_files::{Content, Late, are_one, reason_to_keep};
+use std::alloc::AllocError;
+use std::rt::Files;
+
+/// A path to write, and what is written there.
+#[derive(Clone, Copy)]
+pub(crate) struct Target<'a> {
+    pub path: &'a str,
+    pub content: Content,
+}
+
+/// What is told before the path of a file that is left as it is.
+fn kept(content: Content) -> &'static str {
+    match content {
+        Content::Certificate => "The certificate is not written over the file",
+        Content::Capture => "The capture is not written over the file",
+        Content::Picture => "The picture is not written over the file",
+        Content::Units => "The units are not written over the file",
+    }
+}
+
+/// What is told before a path that can't be written, while the job goes on.
+fn unwritable(content: Content) -> &'static str {
+    match content {
+        Content::Certificate =>
+            "The search goes on and tells its plan, but the certificate cannot be written to",
+        Content::Capture => "The capture cannot be written to",
+        Content::Picture => "The picture cannot be written to",
+        Content::Units =>
+            "The search goes on and tells its plan, but the units cannot be written to",
+    }
+}
+
+/// A path of a line, if it is there.
+fn target_at(path: &Option<String>, content: Content) -> Option<Target<'_>> {
+    match path {
+        Some(path) => Some(Target {
+            path: path.as_str(),
+            content,
+        }),
+        None => None,
+    }
+}
+
+/// What a line writes: the file of its job, and what is written after its text.
+pub(crate) fn targets_of(line: &Line) -> [Option<Target<'_>>; 2] {
+    match line {
+        Line::Cost { svg, .. } => [None, target_at(svg, Content::Picture)],
+        Line::Plan { out, places, .. } | Line::Resume { out, places, .. } => [
+            target_at(out, Content::Certificate),
+            target_at(places, Content::Units),
+        ],
+        Line::Frames { pcap, .. } => [target_at(pcap, Content::Capture), None],
+        Line::Check { .. } | Line::Play { .. } => [None, None],
+    }
+}
+
+/// Whether what stands at a path is left as it is; tells why.
+fn is_kept<H: Files + AllocGlobal + Eprint>(rt: &H, target: Option<Target<'_>>) -> bool {
+    let Some(Target { path, content }) = target else {
+        return false;
+    };
+    match reason_to_keep(rt, rt.alloc(), path, content) {
+        Some(why) => {
+            tell_path(rt, kept(content), path, why.as_str());
+            true
+        }
+        None => false,
+    }
+}
+
+/// Whether two paths to write are one file; tells that.
+fn are_same<H: Files + AllocGlobal + Eprint>(
+    rt: &H,
+    one: Option<Target<'_>>,
+    other: Option<Target<'_>>,
+) -> bool {
+    let (Some(one), Some(other)) = (one, other) else {
+        return false;
+    };
+    let is_one = are_one(rt, rt.alloc(), one.path, other.path);
+    if is_one {
+        tell_path(
+            rt,
+            "Two files are to be written to one path,",
+            one.path,
+            "Give each a path of its own",
+        );
+    }
+    is_one
+}
+
+/// Whether a line may write what it says: none of its paths is one whose file is left as it is, and no two are one. Tells
+/// what is wrong.
+pub(crate) fn may_write<H: Files + AllocGlobal + Eprint>(rt: &H, line: &Line) -> bool {
+    let [one, other] = targets_of(line);
+    !is_kept(rt, one) && !is_kept(rt, other) && !are_same(rt, one, other)
+}
+
+/// Tells that a path can't be written, if it can't.
+fn try_target<H: Files + AllocGlobal + Eprint>(
+    rt: &H,
+    target: Option<Target<'_>>,
+) -> Result<(), AllocError> {
+    let Some(Target { path, content }) = target else {
+        return Ok(());
+    };
+    let mut late = Late::new(rt, rt.alloc(), path, content)?;
+    if let Err(error) = late.try_path() {
+        tell_reason(rt, unwritable(content), path, error);
+    }
+    Ok(())
+}
+
+/// Tells which paths of a search can't be written, before it begins.
+pub(crate) fn try_targets<H: Files + AllocGlobal + Eprint>(
+    rt: &H,
+    line: &Line,
+) -> Result<(), AllocError> {
+    let (Line::Plan { .. } | Line::Resume { .. }) = line else {
+        return Ok(());
+    };
+    for target in targets_of(line) {
+        try_target(rt, target)?;
+    }
+    Ok(())
+}
