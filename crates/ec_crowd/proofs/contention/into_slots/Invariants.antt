@@ -1,5 +1,0 @@
-use Rattle.std.proofs.Common.{◌≡◌, vec_len, length}
-use Rattle.ec_crowd.proofs.contention.into_slots.Given as goal
-
-abbrev pub invariant-loop-seat : goal.invariant-loop-seat
-invariant-loop-seat g l = vec_len l.slots ≡ length l.yielded

@@ -1,0 +1,308 @@
+//! The command line.
+
+ghost use Rattle.std.specs.Prelude.{IfOk};
+ghost use Rattle.ec_command.specs.Words.{JobFits, job_of};
+
+use ec_command::{Job, Line};
+use ec_drafts::Draft;
+use ec_words::{LineFault, Words, read_words};
+use std::alloc::{AllocError, Global};
+
+/// Adds words as the command line gives them, out of a text with one space between two words.
+fn add_words(words: &mut Vec<String>, alloc: Global, text: &str) -> Result<(), AllocError> {
+    if text.is_empty() {
+        return Ok(());
+    }
+    for word in text.split(' ') {
+        words.push(String::from_str(alloc, word)?)?;
+    }
+    Ok(())
+}
+
+/// What the words of a text ask for.
+pub(super) fn asked(alloc: Global, text: &str) -> Result<Words, LineFault>
+    ensures { IfOk result (λ words. JobFits (job_of words.line)) }
+{
+    let mut words = Vec::new(alloc);
+    match add_words(&mut words, alloc, text) {
+        Ok(()) => read_words(alloc, &words),
+        Err(AllocError) => Err(LineFault::Memory),
+    }
+}
+
+/// A path of a line, or a dash.
+fn path_of(path: Option<&String>) -> &str {
+    match path {
+        Some(path) => path.as_str(),
+        None => "-",
+    }
+}
+
+/// Adds a job, with its numbers.
+fn add_job(out: &mut Draft, job: Job) {
+    match job {
+        Job::Cost => out.add("<cost"),
+        Job::Plan { workers, nodes } => out.add(format_args!("<plan {workers} {nodes}")),
+        Job::Resume { workers, nodes } => out.add(format_args!("<resume {workers} {nodes}")),
+        Job::Check => out.add("<check"),
+        Job::Frames => out.add("<frames"),
+        Job::Capture => out.add("<capture"),
+        Job::Play => out.add("<play"),
+        Job::PlanCost => out.add("<plan cost"),
+    }
+}
+
+/// The path of a picture and that of the units with their places, where a line has them.
+fn after(line: &Line) -> (Option<&String>, Option<&String>) {
+    match line {
+        Line::Cost { svg, .. } => (svg.as_ref(), None),
+        Line::Plan { places, .. } | Line::Resume { places, .. } => (None, places.as_ref()),
+        _ => (None, None),
+    }
+}
+
+/// Adds after how many minutes a search ends, where time ends it.
+fn add_minutes(out: &mut Draft, line: &Line) {
+    let (Line::Plan { effort, .. } | Line::Resume { effort, .. }) = line else {
+        return;
+    };
+    if let Some(minutes) = effort.minutes {
+        out.add(format_args!(" minutes {minutes}"));
+    }
+}
+
+/// Adds the line of some words, which is its job, the path of a certificate to read and that of a file to write. Behind it
+/// stand the paths of the units and of the picture, where one is given, that of the units with their places and whether the
+/// progress is told, where either is asked for, and after how many minutes a search ends.
+fn add_line(out: &mut Draft, words: &Words) {
+    let line = &words.line;
+    let (picture, places) = after(line);
+    add_job(out, line.job());
+    out.add(format_args!(" {} {}>", path_of(line.cert()), path_of(line.out())));
+    if words.units.is_some() || picture.is_some() {
+        out.add(format_args!(" {} {}", path_of(words.units.as_ref()), path_of(picture)));
+    }
+    if places.is_some() || words.progress {
+        out.add(format_args!(" places {} {}", path_of(places), words.progress));
+    }
+    add_minutes(out, line);
+}
+
+/// Adds what the words of a text are answered with: their line, or the text of their refusal.
+fn add_answer(out: &mut Draft, alloc: Global, text: &str) {
+    match asked(alloc, text) {
+        Ok(words) => add_line(out, &words),
+        Err(LineFault::Refused { text }) => out.add(format_args!("<{text}>")),
+        Err(LineFault::Memory) => out.give_up(),
+    }
+}
+
+/// What the words of a text are answered with.
+fn answer_to(alloc: Global, text: &str) -> Result<String, AllocError> {
+    let mut out = Draft::new(alloc);
+    add_answer(&mut out, alloc, text);
+    out.finish()
+}
+
+/// Adds a row of which this isn't the answer.
+fn add_unlike(out: &mut Draft, row: &str, part: &str, answer: &str) {
+    if !answer.contains(part) {
+        out.add(format_args!("{row} : {answer}\n"));
+    }
+}
+
+/// Adds a row whose words are not answered so. In it stand the words and, after ` : `, a part of the answer.
+fn add_wrong(out: &mut Draft, alloc: Global, row: &str) {
+    let (words, part) = row.split_once(" : ").unwrap_or((row, "no row"));
+    match answer_to(alloc, words) {
+        Ok(answer) => add_unlike(out, row, part, answer.as_str()),
+        Err(AllocError) => out.give_up(),
+    }
+}
+
+/// Adds the rows of a table, separated by `|`, whose words are not answered so.
+fn add_wrong_rows(out: &mut Draft, alloc: Global, table: &str) {
+    for row in table.split('|') {
+        add_wrong(out, alloc, row);
+    }
+}
+
+/// The rows of some tables whose words are not answered so.
+fn wrong_rows(alloc: Global, tables: &[&str]) -> Result<String, AllocError> {
+    let mut out = Draft::new(alloc);
+    for table in tables {
+        add_wrong_rows(&mut out, alloc, table);
+    }
+    out.finish()
+}
+
+/// Words that are a command, with their line.
+const LINES: &str = "cost : <cost - ->|\
+    check --cert line.cert : <check line.cert ->|\
+    check --cert=line.cert : <check line.cert ->|\
+    frames : <frames - ->|\
+    frames --cert line.cert : <frames line.cert ->|\
+    frames --pcap line.pcap : <capture - line.pcap>|\
+    frames --pcap=p --cert q : <capture q p>|\
+    frames --cert=p --pcap=q : <capture p q>|\
+    play : <play - ->|\
+    play --cert line.cert : <play line.cert ->|\
+    play --cert=p q : <play p -> q -|\
+    play - : <play - ->|\
+    plan : <plan 1 1000000 - ->|\
+    plan --workers 1 : <plan 1 1000000 - ->|\
+    plan --workers 16 : <plan 16 1000000 - ->|\
+    plan --nodes 1 : <plan 1 1 - ->|\
+    plan --nodes=5 : <plan 1 5 - ->|\
+    plan --nodes 10000000 : <plan 1 10000000 - ->|\
+    plan --out line.cert : <plan 1 1000000 - line.cert>|\
+    plan --workers 1 --nodes 8 --out p : <plan 1 8 - p>|\
+    plan --out p --nodes 8 --workers 1 : <plan 1 8 - p>|\
+    plan --nodes 8 --out=p --workers=1 : <plan 1 8 - p>|\
+    cost line.toml : <cost - -> line.toml -|\
+    cost - : <cost - ->|\
+    cost --svg p.svg : <cost - -> - p.svg|\
+    cost --svg=p.svg line.toml : <cost - -> line.toml p.svg|\
+    cost line.toml --svg p.svg : <cost - -> line.toml p.svg|\
+    cost --svg - - : <cost - -> - -|\
+    cost cost : <cost - -> cost -|\
+    cost --cert p : <plan cost p ->|\
+    cost --cert=p q : <plan cost p -> q -|\
+    cost --svg p --cert q r : <plan cost q -> r p|\
+    plan --places p : <plan 1 1000000 - -> places p false|\
+    plan --progress : <plan 1 1000000 - -> places - true|\
+    plan --out p --places q --progress r : <plan 1 1000000 - p> r - places q true|\
+    plan --minutes 1 : <plan 1 10000000 - -> minutes 1|\
+    plan --minutes 10000 --nodes 7 : <plan 1 7 - -> minutes 10000|\
+    resume --minutes=60 --cert p --out q --workers 3 : <resume 3 10000000 p q> minutes 60|\
+    resume --places=p --cert q : <resume 1 1000000 q -> places p false|\
+    resume --cert p --progress - : <resume 1 1000000 p -> places - true|\
+    plan line.toml : <plan 1 1000000 - -> line.toml -|\
+    plan 5 : <plan 1 1000000 - -> 5 -|\
+    plan --out p --nodes 8 line.toml : <plan 1 8 - p> line.toml -|\
+    plan - --nodes 8 : <plan 1 8 - ->|\
+    check p --cert q : <check q -> p -|\
+    check --cert q - : <check q ->|\
+    frames p : <frames - -> p -|\
+    frames --cert q p : <frames q -> p -|\
+    frames --pcap p q : <capture - p> q -|\
+    resume --cert p : <resume 1 1000000 p ->|\
+    resume --cert=p --out=q : <resume 1 1000000 p q>|\
+    resume --cert p --out p : <resume 1 1000000 p p>|\
+    resume --workers 16 --nodes 10000000 --cert p : <resume 16 10000000 p ->|\
+    resume --out q --nodes 8 --cert p --workers 2 r : <resume 2 8 p q> r -|\
+    resume r --cert p : <resume 1 1000000 p -> r -|\
+    resume --cert p - : <resume 1 1000000 p ->";
+
+/// Words that are no command, with a part of what is told; of two the whole text.
+const REFUSED: &str = " : requires a subcommand|\
+    costs : unrecognized subcommand 'costs'|\
+    resumes : unrecognized subcommand 'resumes'|\
+    resume : --cert <PATH>|\
+    resume --nodes 5 : --cert <PATH>|\
+    resume p --out q : --cert <PATH>|\
+    resume --cert : a value is required for '--cert <PATH>'|\
+    resume --cert p --cert q : '--cert <PATH>' cannot be used multiple times|\
+    resume --cert p --out : a value is required for '--out <PATH>'|\
+    resume --cert p --out q --out q : '--out <PATH>' cannot be used multiple times|\
+    resume --cert p --workers 0 : invalid value '0' for '--workers <N>'|\
+    resume --cert p --workers 17 : invalid value '17' for '--workers <N>'|\
+    resume --cert p --nodes 0 : invalid value '0' for '--nodes <N>'|\
+    resume --cert p --nodes 10000001 : invalid value '10000001' for '--nodes <N>'|\
+    resume --cert p --pcap q : unexpected argument '--pcap'|\
+    resume --cert p --svg q : unexpected argument '--svg'|\
+    resume --cert p q r : unexpected argument 'r'|\
+    frames --cert : a value is required for '--cert <PATH>'|\
+    frames --out p : unexpected argument '--out'|\
+    frames --pcap : a value is required for '--pcap <PATH>'|\
+    frames --pcap p --pcap q : '--pcap <PATH>' cannot be used multiple times|\
+    cost --pcap p : unexpected argument '--pcap'|\
+    check --cert p --pcap q : unexpected argument '--pcap'|\
+    plan --pcap p : unexpected argument '--pcap'|\
+    frames p q : unexpected argument 'q'|\
+    play p q : unexpected argument 'q'|\
+    play --cert : a value is required for '--cert <PATH>'|\
+    play --cert p --cert q : '--cert <PATH>' cannot be used multiple times|\
+    play --pcap p : unexpected argument '--pcap'|\
+    play --workers 2 : unexpected argument '--workers'|\
+    frames --svg p : unexpected argument '--svg'|\
+    cost p q : unexpected argument 'q'|\
+    cost --svg : a value is required for '--svg <PATH>'|\
+    cost --svg p --svg q : '--svg <PATH>' cannot be used multiple times|\
+    cost --out p : unexpected argument '--out'|\
+    cost --cert : a value is required for '--cert <PATH>'|\
+    cost --cert p --cert q : '--cert <PATH>' cannot be used multiple times|\
+    cost --places p : unexpected argument '--places'|\
+    cost --progress : unexpected argument '--progress'|\
+    check --cert p --places q : unexpected argument '--places'|\
+    check --cert p --progress : unexpected argument '--progress'|\
+    frames --places p : unexpected argument '--places'|\
+    play --progress : unexpected argument '--progress'|\
+    plan --places : a value is required for '--places <PATH>'|\
+    plan --places p --places q : '--places <PATH>' cannot be used multiple times|\
+    plan --progress=yes : unexpected value 'yes' for '--progress'|\
+    plan --progress --progress : '--progress' cannot be used multiple times|\
+    check : --cert <PATH>|\
+    check --cert : a value is required for '--cert <PATH>'|\
+    check p --cert : a value is required for '--cert <PATH>'|\
+    check p : --cert <PATH>|\
+    check --cert p more again : unexpected argument 'again'|\
+    check --cert p --out q : unexpected argument '--out'|\
+    check --cert p --cert p : '--cert <PATH>' cannot be used multiple times|\
+    plan --cert p : unexpected argument '--cert'|\
+    plan --workers 0 : invalid value '0' for '--workers <N>'|\
+    plan --workers 17 : invalid value '17' for '--workers <N>'|\
+    plan --workers 1 --workers 1 : '--workers <N>' cannot be used multiple times|\
+    plan --nodes 0 : invalid value '0' for '--nodes <N>'|\
+    plan --nodes 10000001 : invalid value '10000001' for '--nodes <N>'|\
+    plan --nodes 4294967297 : invalid value '4294967297' for '--nodes <N>'|\
+    plan --nodes -1 : unexpected argument '-1'|\
+    plan --nodes x : invalid value 'x' for '--nodes <N>'|\
+    plan --nodes 5 --nodes 5 : '--nodes <N>' cannot be used multiple times|\
+    plan --minutes 0 : invalid value '0' for '--minutes <M>'|\
+    plan --minutes 10001 : invalid value '10001' for '--minutes <M>'|\
+    check --cert p --minutes 5 : unexpected argument '--minutes'|\
+    plan --out : a value is required for '--out <PATH>'|\
+    plan --out p --out q : '--out <PATH>' cannot be used multiple times|\
+    plan 5 6 : unexpected argument '6'|\
+    plan --svg p : unexpected argument '--svg'|\
+    plan --workers 17 : <error: invalid value '17' for '--workers <N>': 17 is not in 1..=16\n\nFor more information, try '--help'.\n>|\
+    solve : <error: unrecognized subcommand 'solve'\n\nUsage: ecplan <COMMAND>\n\nFor more information, try '--help'.\n>";
+
+/// Words that ask for help, with a part of it.
+const HELP: &str = "--help : Usage: ecplan <COMMAND>|\
+    -h : Usage: ecplan <COMMAND>|\
+    help : Usage: ecplan <COMMAND>|\
+    --help : Finds a plan whose busiest tick is least|\
+    --version : <ecplan 0.4.0\n>|\
+    -V : <ecplan 0.4.0\n>|\
+    --help : The units are read from FILE, or from standard input|\
+    --help : 3 refused input|\
+    --help : FORMATS.md describes|\
+    --help : share/doc/ecplan/ of an installation|\
+    cost --help : Usage: ecplan cost [OPTIONS] [FILE]|\
+    cost --help : The certificate whose plan is told|\
+    plan --help : Where to write the unit text again, with the places of the plan|\
+    resume --help : Tell the progress on standard error also where that is no terminal|\
+    plan --help : Usage: ecplan plan [OPTIONS] [FILE]|\
+    plan --help : without it 1000000, with --minutes 10000000|\
+    plan --workers 1 --help : nodes of the search tree|\
+    plan --help : How many workers search, 1 to 16|\
+    check --help : Usage: ecplan check --cert <PATH> [FILE]|\
+    resume --help : Usage: ecplan resume [OPTIONS] --cert <PATH> [FILE]|\
+    resume --help : without it 1000000, with --minutes 10000000|\
+    frames --help : Usage: ecplan frames [OPTIONS] [FILE]|\
+    frames --help : Where to write the frames as a capture file|\
+    play --help : Usage: ecplan play [OPTIONS] [FILE]|\
+    play --help : The certificate whose plan is played";
+
+/// A row that is answered otherwise.
+const WRONG: &str = "cost : <cost p ->";
+
+/// The rows are answered as they say, and a wrong one is told.
+#[test]
+fn words_and_their_answers(rt: HostRuntime) -> Result<(), AllocError> {
+    let wrong = wrong_rows(rt.alloc(), &[LINES, REFUSED, HELP, WRONG])?;
+    assert_eq!(rt; wrong.as_str(), "cost : <cost p -> : <cost - ->\n");
+    Ok(())
+}
