@@ -1,7 +1,7 @@
 """Where the programs stand that the tests and measures run.
 
 `program(told)` is the planner: the one that a script was told, else the one that `tools/build --ready` names, which is
-there for the sources of this tree, released, kept or built. `scripts_program(told)` is the program of `crates/ec_scripts`,
+there for the sources of this tree, released, kept or built. `scripts_program(told)` is the program of `crates/test_scripts`,
 whose scripts of calls `tests/refused_calls` gives to it. Nothing is proved or built here. Where there is no planner, one
 line on standard error says what to do, and the status is 4.
 """
@@ -18,8 +18,8 @@ EXAMPLES = os.path.join(TOP, "examples")
 REFERENCE = os.path.join(TOP, "bench", "reference")
 # What a script ends with that has nothing to run.
 NO_PROGRAM = 4
-SCRIPTS_CRATE = "ec_scripts"
-NO_SCRIPTS = "there is no built ec_scripts of these sources: `rt run` in crates/ec_scripts proves and builds it"
+SCRIPTS_CRATE = "test_scripts"
+NO_SCRIPTS = "there is no built test_scripts of these sources: `rt run` in crates/test_scripts proves and builds it"
 
 
 def stop(why):
