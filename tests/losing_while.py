@@ -133,7 +133,9 @@ BECOMES = {"something else": lambda trial: trial.put("of-run", NOTES), "a folder
 
 
 def try_becomes(output, put, is_older, trial):
-    """A path becomes something else: that is left, and the whole file lies beside it."""
+    """A path becomes something else: that is left, and the whole file lies beside it. Over a folder no places are made, since
+    the text has them."""
+    is_made = output.option != "--places" or put is not put_a_folder
     output.put(trial)
     if is_older:
         trial.put("of-run", output.older)
@@ -142,10 +144,10 @@ def try_becomes(output, put, is_older, trial):
         change(trial, before, put, "of-run")
         done = go_on(trial, child)
     output.ends_unwritten(trial, done)
-    trial.tells(done, "of-run.part")
+    trial.tells(done, "of-run.part" if is_made else "of-run")
     if output.option == "--out":
         tells_plan(trial, done, output)
-    trial.left(before, {"of-run.part": output.whole})
+    trial.left(before, {"of-run.part": output.whole} if is_made else {})
 
 
 def put_link_to_notes(trial):

@@ -3,7 +3,7 @@
 use crate::telling::{tell_path, tell_reason};
 use ec_command::Line;
 use ec_files::{Content, Late, are_one, reason_to_keep};
-use std::alloc::AllocError;
+use std::alloc::{AllocError, Global};
 use std::rt::Files;
 
 /// A path to write, and what is written there.
@@ -73,6 +73,26 @@ fn is_kept<H: Files + AllocGlobal + Eprint>(rt: &H, target: Option<Target<'_>>) 
     }
 }
 
+/// What is told of a path that leads to the same file as another one.
+fn same_words(alloc: Global, one: &str, other: &str) -> Result<String, AllocError> {
+    if one == other {
+        return String::from_str(alloc, "Give each a path of its own");
+    }
+    format!(in alloc; "\"{other}\" is the same file: give each a path of its own")
+}
+
+/// Tells that two paths to write are one file.
+fn tell_same<H: AllocGlobal + Eprint>(rt: &H, one: &str, other: &str) {
+    if let Ok(why) = same_words(rt.alloc(), one, other) {
+        tell_path(
+            rt,
+            "Two files are to be written to one path,",
+            one,
+            why.as_str(),
+        );
+    }
+}
+
 /// Whether two paths to write are one file; tells that.
 fn are_same<H: Files + AllocGlobal + Eprint>(
     rt: &H,
@@ -84,12 +104,7 @@ fn are_same<H: Files + AllocGlobal + Eprint>(
     };
     let is_one = are_one(rt, rt.alloc(), one.path, other.path);
     if is_one {
-        tell_path(
-            rt,
-            "Two files are to be written to one path,",
-            one.path,
-            "Give each a path of its own",
-        );
+        tell_same(rt, one.path, other.path);
     }
     is_one
 }
