@@ -6,14 +6,20 @@ use Rattle.ec_loads.specs.Cost.{raw_cost, tick_cost}
 use Rattle.ec_loads.specs.Held.{Held, AreLoads}
 use Rattle.ec_loads.specs.Legal.{IsLegal}
 use Rattle.ec_loads.specs.Line.{Line}
+use Rattle.ec_loads.specs.Rooms.{IsInFirstSlot}
 use Rattle.ec_loads.specs.Search.{Prefix, Extends, FullHolds, LeafHolds, HasTick, IsAtMost}
-use Rattle.ec_loads.specs.Shape.{Leaf}
+use Rattle.ec_loads.specs.Shape.{Leaf, merging}
 
--- where a leaf holds, every legal plan that extends the prefix has a tick that costs at least the value; at no value, none is legal
+-- of which plans a leaf speaks: of each that extends its prefix; a merge of those alone that have all units in slot 0, since such a plan stands for the others
+abbrev pub SpeaksOf : Leaf → List Place → Type 0
+SpeaksOf merging plan = IsInFirstSlot plan
+SpeaksOf _ plan = Unit {0}
+
+-- where a leaf holds, every legal plan that extends the prefix and of which it speaks has a tick that costs at least the value; at no value, none is legal
 abbrev pub LeavesBound : Type 0
 LeavesBound =
     (line : Line) (v : Option ℕ) (ps : Prefix) (l : Leaf) (plan : List Place) → AreLoads line.loads → Extends ps (map Some plan) → IsLegal line.loads line.slots plan →
-    LeafHolds line v ps l → HasTick line.loads line.slots v plan
+    SpeaksOf l plan → LeafHolds line v ps l → HasTick line.loads line.slots v plan
 
 -- a leaf that holds at a value holds at every smaller one
 abbrev pub LeavesFall : Type 0

@@ -4,7 +4,8 @@ ghost use Rattle.ec_bounds.specs.Laws.{LeavesBound, LeavesFall, RawAtMostCost};
 ghost use Rattle.ec_bounds.specs.RoomLaws.{RoomsBound, CountsBound, GroupsBound, MergesFall, CountsFall, GroupsFall};
 
 /// Every legal plan that extends a prefix at which a leaf holds has a tick that costs at least the value; at no
-/// value, no plan that extends it is legal. A slot that is too full holds at every value, and at none, too.
+/// value, no plan that extends it is legal. A slot that is too full holds at every value, and at none, too. Of a merge
+/// this is said of plans that have all units in slot 0: it closes a prefix because such a plan stands for the others.
 pub fn leaves_bound()
     ensures { LeavesBound }
 {}

@@ -15,6 +15,12 @@ abbrev pub rules_if : Bool → Rules
 rules_if false = slots_alone
 rules_if true = turned_time
 
+-- whether these are the strong rules, by which a tree may have three more kinds of leaf
+abbrev pub IsStrong : Rules → Type 0
+IsStrong slots_alone = ⊥
+IsStrong turned_time = ⊥
+IsStrong strong = Unit {0}
+
 -- the units in file order, the slot count, and the rules
 pub record Line : Type 0 where
   pub loads : List Load

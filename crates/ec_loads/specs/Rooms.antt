@@ -1,6 +1,6 @@
 -- What room the classes of ticks have below a value, and what it shows of a prefix. The class of a period and a phase is the ticks in which what has them travels.
 use Rattle.std.specs.Prelude.{◌≡◌, ℕ, zero, suc, ◌+◌, ◌-◌, ◌*◌, ◌/◌, ◌<◌, ◌≤◌, ◌==◌, ◌&&◌, nat_lt, nat_le, max, if◌then◌else◌, Bool, true, false, List, [], ◌∷◌, length, filter, sum_by, count_by, Option, Some, None}
-use Rattle.std.specs.List.{AllZip, list_any, range_with_len}
+use Rattle.std.specs.List.{All, AllZip, list_any, range_with_len}
 use Rattle.ec_hyper.specs.Lcm.{lcm_of}
 use Rattle.ec_hyper.specs.Travel.{travels}
 use Rattle.ec_units.specs.declared.slave.Place.{Place}
@@ -42,6 +42,10 @@ unplaced (l ∷ ls) (Some p ∷ places) = unplaced ls places
 abbrev pub is_above_slot_0 : Option Place → Bool
 is_above_slot_0 None = false
 is_above_slot_0 (Some p) = nat_lt 0 p.slot
+
+-- a plan has all its units in slot 0
+abbrev pub IsInFirstSlot : List Place → Type 0
+IsInFirstSlot plan = All (λ p. p.slot ≡ 0) plan
 
 -- some unit has a place in a slot above 0, at a value of at most 1579: up to there a plan below the value can have all its units in slot 0
 abbrev pub MergeHolds : Option ℕ → List (Option Place) → Type 0

@@ -9,10 +9,10 @@ use Rattle.ec_units.specs.declared.slave.Place.{Place}
 use Rattle.ec_units.specs.declared.unit.Load.{Load}
 use Rattle.ec_loads.specs.declared.item.Item.{Item}
 use Rattle.ec_loads.specs.Cost.{item, plan_items, is_sent, group, same_group, has_group, payload, slot_cost, tick_cost, added}
+use Rattle.ec_loads.specs.Rooms.{IsInFirstSlot}
 use Rattle.ec_loads.specs.Search.{nobody, nowhere}
 use Rattle.ec_loads.proofs.CostLemmas.{sum_below-agree}
 use Rattle.ec_loads.proofs.PayloadLemmas.{payload-cons}
-use Rattle.ec_symmetry.specs.StrongReach.{IsInFirstSlot}
 use Rattle.ec_symmetry.proofs.UsedLemmas.{or_swap}
 
 -- the plan where units i and j have exchanged their places

@@ -12,10 +12,10 @@ use Rattle.ec_units.specs.declared.slave.Place.{Place}
 use Rattle.ec_units.specs.declared.unit.Load.{Load}
 use Rattle.ec_loads.specs.Held.{AreLoads}
 use Rattle.ec_loads.specs.Legal.{IsLegal}
+use Rattle.ec_loads.specs.Rooms.{IsInFirstSlot}
 use Rattle.ec_loads.specs.Search.{Prefix, nobody, nowhere}
 use Rattle.ec_loads.specs.Strong.{gcd, placed_periods, strong_phases}
 use Rattle.ec_symmetry.specs.Reached.{In}
-use Rattle.ec_symmetry.specs.StrongReach.{IsInFirstSlot}
 use Rattle.ec_symmetry.specs.Turned.{earlier, earlier_place, earlier_plan}
 use Rattle.ec_symmetry.proofs.CanonLemmas.{phase_at}
 use Rattle.ec_symmetry.proofs.GcdLemmas.{gcd-reached, gcd-range}

@@ -8,10 +8,10 @@ use Rattle.ec_units.specs.declared.slave.Place.{Place}
 use Rattle.ec_units.specs.declared.unit.Load.{Load}
 use Rattle.ec_loads.specs.Held.{no_places}
 use Rattle.ec_loads.specs.Legal.{IsLegal}
+use Rattle.ec_loads.specs.Rooms.{IsInFirstSlot}
 use Rattle.ec_loads.specs.Search.{Prefix, nowhere}
 use Rattle.ec_symmetry.specs.Orders.{has_repeat, IsOrder}
 use Rattle.ec_symmetry.specs.Reached.{In, here, there, CostsWithin}
-use Rattle.ec_symmetry.specs.StrongReach.{IsInFirstSlot}
 use Rattle.ec_symmetry.proofs.DescentLemmas.{IsBefore, descend}
 use Rattle.ec_symmetry.proofs.InLemmas.{In-cases}
 use Rattle.ec_symmetry.proofs.UsedLemmas.{member}

@@ -1,17 +1,14 @@
 -- What the strong children reach, and plans in one slot.
-use Rattle.std.specs.Prelude.{◌≡◌, ℕ, ◌≤◌, List, length, map, All}
+use Rattle.std.specs.Prelude.{ℕ, ◌≤◌, List, length, map}
 use Rattle.ec_units.specs.declared.slave.Place.{Place}
 use Rattle.ec_units.specs.declared.unit.Load.{Load}
 use Rattle.ec_loads.specs.Cost.{plan_items, tick_cost}
 use Rattle.ec_loads.specs.Held.{AreLoads}
 use Rattle.ec_loads.specs.Legal.{IsLegal}
 use Rattle.ec_loads.specs.Line.{strong, line_by}
+use Rattle.ec_loads.specs.Rooms.{IsInFirstSlot}
 use Rattle.ec_symmetry.specs.Orders.{IsOrder}
 use Rattle.ec_symmetry.specs.Reached.{CostsWithin, IsReached}
-
--- the plan uses slot 0 alone
-abbrev pub IsInFirstSlot : List Place → Type 0
-IsInFirstSlot plan = All (λ p. p.slot ≡ 0) plan
 
 -- for every legal plan and every order of the units there is a legal plan that the strong children reach in that order, and each of its ticks costs what
 -- some tick of the plan costs; where the plan uses slot 0 alone, so does that one

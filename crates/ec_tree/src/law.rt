@@ -2,7 +2,8 @@
 
 ghost use Rattle.ec_tree.specs.Trees.{TreesBound, LevelsBound};
 
-use ec_symmetry::every_plan_is_reached_by;
+use ec_loads::ticks_repeat;
+use ec_symmetry::{every_plan_is_reached_by, slots_merge, strong_children_reach};
 
 /// By any rules a tree for the empty prefix at a value, in any order of the units, gives every legal plan a tick that costs
 /// at least the value; at no value, no plan is legal.
@@ -10,6 +11,9 @@ pub fn trees_bound()
     ensures { TreesBound }
 {
     every_plan_is_reached_by();
+    strong_children_reach();
+    slots_merge();
+    ticks_repeat();
 }
 
 /// By any rules a tree with open leaves for the empty prefix, in any order of the units, gives every legal plan a tick that
@@ -19,4 +23,7 @@ pub fn levels_bound()
     ensures { LevelsBound }
 {
     every_plan_is_reached_by();
+    strong_children_reach();
+    slots_merge();
+    ticks_repeat();
 }

@@ -1,4 +1,4 @@
-use Rattle.std.proofs.Common.{◌≡◌, ◌*◌, ◌≤◌, ◌<◌, Bool, cond, length, get_or, false, ap, ◌∙◌, arith, mul-le-mul}
+use Rattle.std.proofs.Common.{◌≡◌, ◌*◌, ◌≤◌, ◌<◌, Bool, cond, length, get_or, false, ap, arith, mul-le-mul}
 use Rattle.std.proofs.lemmas.List.Elements.{All-get_or}
 use Rattle.ec_units.specs.declared.unit.Load.{Load}
 use Rattle.ec_loads.specs.Search.{nobody}
