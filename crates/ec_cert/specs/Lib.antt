@@ -1,4 +1,5 @@
 pub mod BestPlan
+pub mod LeafKinds
 pub mod Shapes
 pub mod Versions
 pub mod WellFormed

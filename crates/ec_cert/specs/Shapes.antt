@@ -1,6 +1,6 @@
 -- Trees and certificates as plain data, without where they lie in memory.
 use Rattle.std.specs.Prelude.{ℕ, List, [], ◌∷◌, map, Option}
-use Rattle.ec_loads.specs.Shape.{tick, full, average, weighted, Shape, split, leaf, open_leaf, Shapes, no_shapes, more}
+use Rattle.ec_loads.specs.Shape.{tick, full, average, weighted, merging, counted, grouped, Shape, split, leaf, open_leaf, Shapes, no_shapes, more}
 use Rattle.ec_cert.specs.declared.tree.Tree.{Tree, fold-Tree}
 use Rattle.ec_cert.specs.declared.tree.Tree.TheOpen.{Tree-F}
 use Rattle.ec_cert.specs.declared.lists.UnitLine.{UnitLine}
@@ -18,6 +18,9 @@ shape_step (Tree-F.FullLeaf t s) = leaf (full t s)
 shape_step Tree-F.Average = leaf average
 shape_step (Tree-F.Weights w) = leaf (weighted w)
 shape_step Tree-F.OpenLeaf = open_leaf
+shape_step Tree-F.Merge = leaf merging
+shape_step (Tree-F.Count p c) = leaf (counted p c)
+shape_step (Tree-F.Groups pairs) = leaf (grouped pairs)
 
 -- what a tree says
 abbrev pub shape_of : Tree → Shape

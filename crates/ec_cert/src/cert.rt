@@ -13,8 +13,9 @@ pub struct Best {
 }
 
 /// A certificate (own profile): for which units, slots and order of the units which tree shows that no legal plan
-/// is better than the best one, or without a best one, that no plan is legal. One of version 3 is partial: its tree may
+/// is better than the best one, or without a best one, that no plan is legal. One with a level is partial: its tree may
 /// have open leaves, and shows no more than that each legal plan has a tick that costs at least the level, in wire bytes.
+/// Those of version 3 have a level, those of version 4 may have one; the trees of version 4 are by the strong rules.
 #[derive(Debug, Drop)]
 pub struct Cert {
     pub version: u8,

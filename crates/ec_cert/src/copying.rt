@@ -3,6 +3,7 @@
 ghost use Rattle.std.specs.Prelude.{◌≡◌, IfOk};
 ghost use Rattle.ec_cert.specs.Shapes.{shape_of};
 
+use crate::pairs::Pairs;
 use crate::splitting::split_of;
 use crate::tree::Tree;
 use crate::weights::Weights;
@@ -28,5 +29,14 @@ pub fn copy_of(alloc: Global, tree: &Tree) -> Result<Tree, AllocError>
             Ok(Tree::Weights(Weights::new(alloc, copy)?))
         }
         Tree::OpenLeaf => Ok(Tree::OpenLeaf),
+        Tree::Merge => Ok(Tree::Merge),
+        Tree::Count { period, bytes } => Ok(Tree::Count {
+            period: *period,
+            bytes: *bytes,
+        }),
+        Tree::Groups(pairs) => {
+            let copy = Vec::from_slice(alloc, pairs.as_slice())?;
+            Ok(Tree::Groups(Pairs::new(alloc, copy)?))
+        }
     }
 }

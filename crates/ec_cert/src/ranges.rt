@@ -2,12 +2,15 @@
 
 ghost use Rattle.std.specs.Prelude.{◌≡◌, ℕ, ◌<◌, ◌≤◌, ◌↔◌, length, IsTrue};
 ghost use Rattle.std.specs.List.{All};
+ghost use Rattle.ec_loads.specs.Search.{IsShortPair};
 ghost use Rattle.ec_cert.specs.Shapes.{shape_of, shapes_of, cert_view};
-ghost use Rattle.ec_cert.specs.WellFormed.{HasLevels, HaveLevels, IsUnitLine, IsPlaceLine, AreWeights, IsBest, IsBestOrNone, IsLevelLine, IsWellFormed};
+ghost use Rattle.ec_cert.specs.WellFormed.{HasLevels, HaveLevels, IsUnitLine, IsPlaceLine, AreWeights, IsCountLine, ArePairs, IsBest, IsBestOrNone, IsLevelLine, IsWellFormed};
 
 use crate::cert::{Best, Cert};
+use crate::kinds::{Kinds, kinds_of};
 use crate::lists::UnitLine;
 use crate::tree::Tree;
+use ec_loads::Pair;
 use ec_units::{Place, is_name};
 
 /// The most levels of a tree: no node has more than 48 splits above it.
@@ -55,7 +58,7 @@ fn is_level(version: u8, level: Option<u64>) -> bool
     ensures { IsTrue result ↔ IsLevelLine version level }
 {
     match level {
-        None => version <= 2,
+        None => version <= 2 || 4 <= version,
         Some(level) => 3 <= version && level <= 12304,
     }
 }
@@ -73,11 +76,38 @@ fn are_weights(weights: &[u16]) -> bool
     1 <= weights.len() && weights.len() <= 1024
 }
 
-/// Whether the numbers of a tree are in range, certificates of this version have such leaves, and it has at most so
-/// many levels.
+/// Whether units that are counted have a period of 1 to 60 ticks and 1 to 1486 bytes.
+fn is_count(period: u16, bytes: u16) -> bool
+    ensures { IsTrue result ↔ IsCountLine period bytes }
+{
+    1 <= period && period <= 60 && 1 <= bytes && bytes <= 1486
+}
+
+/// Whether the room of a pair is at most 12304 bytes.
+fn is_pair(pair: &Pair) -> bool
+    ensures { IsTrue result ↔ IsShortPair pair.now }
+{
+    let pair = *pair;
+    pair.room <= 12304
+}
+
+fn are_short(pairs: &[Pair]) -> bool
+    ensures { IsTrue result ↔ All IsShortPair pairs.now }
+{
+    pairs.iter().all(is_pair)
+}
+
+/// Whether there are 1 to 48 pairs, in range.
+fn are_pairs(pairs: &[Pair]) -> bool
+    ensures { IsTrue result ↔ ArePairs pairs.now }
+{
+    1 <= pairs.len() && pairs.len() <= 48 && are_short(pairs)
+}
+
+/// Whether the numbers of a tree are in range, there may be leaves of their kinds, and it has at most so many levels.
 #[cycle(levels)]
-fn has_levels(version: u8, tree: &Tree, levels: u8) -> bool
-    ensures { IsTrue result ↔ HasLevels version levels (shape_of tree.now) }
+fn has_levels(kinds: Kinds, tree: &Tree, levels: u8) -> bool
+    ensures { IsTrue result ↔ HasLevels kinds levels (shape_of tree.now) }
 {
     if levels == 0 {
         return false;
@@ -85,22 +115,25 @@ fn has_levels(version: u8, tree: &Tree, levels: u8) -> bool
     match tree {
         Tree::Split(trees) => {
             let trees = trees.as_ref();
-            is_child_count(trees.len()) && have_levels(version, trees, levels - 1)
+            is_child_count(trees.len()) && have_levels(kinds, trees, levels - 1)
         }
         Tree::TickLeaf(tick) => *tick <= 1023,
         Tree::FullLeaf(tick, slot) => *tick <= 1023 && *slot <= 7,
         Tree::Average => true,
-        Tree::Weights(weights) => 2 <= version && are_weights(weights.as_slice()),
-        Tree::OpenLeaf => 3 <= version,
+        Tree::Weights(weights) => kinds.weights && are_weights(weights.as_slice()),
+        Tree::OpenLeaf => kinds.left_open,
+        Tree::Merge => kinds.rooms,
+        Tree::Count { period, bytes } => kinds.rooms && is_count(*period, *bytes),
+        Tree::Groups(pairs) => kinds.rooms && are_pairs(pairs.as_slice()),
     }
 }
 
 #[cycle(levels)]
-fn have_levels(version: u8, trees: &Vec<Tree>, levels: u8) -> bool
-    ensures { IsTrue result ↔ HaveLevels version levels (shapes_of trees.now.items) }
+fn have_levels(kinds: Kinds, trees: &Vec<Tree>, levels: u8) -> bool
+    ensures { IsTrue result ↔ HaveLevels kinds levels (shapes_of trees.now.items) }
 {
     'children: for tree in trees {
-        if !has_levels(version, tree, levels) {
+        if !has_levels(kinds, tree, levels) {
             return false;
         }
     }
@@ -118,8 +151,9 @@ pub fn well_formed(cert: &Cert) -> bool
         None => true,
         Some(best) => is_best(best, units.len()),
     };
+    let kinds = kinds_of(cert.version, cert.level);
     1 <= cert.version
-        && cert.version <= 3
+        && cert.version <= 4
         && 1 <= cert.slots
         && cert.slots <= 8
         && 1 <= units.len()
@@ -129,5 +163,5 @@ pub fn well_formed(cert: &Cert) -> bool
         && are_below(order, units.len())
         && is_best_right
         && is_level(cert.version, cert.level)
-        && has_levels(cert.version, &cert.tree, LEVELS)
+        && has_levels(kinds, &cert.tree, LEVELS)
 }
