@@ -1,5 +1,5 @@
 -- The texts of certificates have no byte but line feeds and those from the space to `~`.
-use Rattle.std.proofs.Common.{◌≡◌, ℕ, zero, suc, ◌^◌, ◌<◌, ◌≤◌, Bool, true, false, nat_lt, List, [], ◌∷◌, ◌++◌, length, codes, Option, Some, None, Result, Ok, Err, IfOk, refl, arith}
+use Rattle.std.proofs.Common.{◌≡◌, ℕ, zero, suc, ◌^◌, ◌<◌, ◌≤◌, Bool, true, false, cond, nat_le, nat_lt, List, [], ◌∷◌, ◌++◌, length, codes, Option, Some, None, Result, Ok, Err, IfOk, refl, arith}
 use Rattle.std.specs.List.{flat_map, AllByRecursion, list_all}
 use Rattle.std.specs.Str.{all_ascii_digits}
 use Rattle.std.specs.Fmt.{decimal}
@@ -8,15 +8,19 @@ use Rattle.std.proofs.lemmas.Bool.{and_parts}
 use Rattle.std.proofs.lemmas.Bool.Decides.{nat_tests}
 use Rattle.ec_units.specs.Names.{is_name_byte}
 use Rattle.ec_units.specs.declared.slave.Place.{Place}
-use Rattle.ec_loads.specs.Shape.{Leaf, tick, full, average, weighted, Shape, split, leaf, open_leaf, Shapes, no_shapes, more, shape_count}
+use Rattle.ec_loads.specs.declared.pair.Pair.{Pair}
+use Rattle.ec_loads.specs.Search.{IsShortPair}
+use Rattle.ec_loads.specs.Shape.{Leaf, tick, full, average, weighted, merging, counted, grouped, Shape, split, leaf, open_leaf, Shapes, no_shapes, more, shape_count}
 use Rattle.ec_cert_text.specs.declared.fault.CertFault.{CertFault}
 use Rattle.ec_cert.specs.declared.lists.UnitLine.{UnitLine}
 use Rattle.ec_cert.specs.declared.cert.Best.{Best}
 use Rattle.ec_cert.specs.declared.cert.Cert.{Cert}
+use Rattle.ec_cert.specs.declared.kinds.Kinds.{Kinds}
+use Rattle.ec_cert.specs.LeafKinds.{kinds_in}
 use Rattle.ec_cert.specs.Shapes.{CertView, cert_view}
 use Rattle.ec_cert_text.specs.Reading.{Gives, is_text_byte, reading}
 use Rattle.ec_cert.specs.WellFormed.{IsLeafLine, HasLevels, HaveLevels, IsUnitLine, IsPlaceLine, IsBestOrNone, IsLevelLine, IsWellFormed}
-use Rattle.ec_cert_text.specs.Text.{version_line, slots_line, unit_line, index_word, order_line, value_line, place_line, best_lines, level_line, split_line, leaf_line, node_lines, row_lines, tree_lines, certificate_text}
+use Rattle.ec_cert_text.specs.Text.{version_line, slots_line, unit_line, index_word, order_line, value_line, place_line, best_lines, level_line, pair_words, split_line, leaf_line, node_lines, row_lines, tree_lines, certificate_text}
 use Rattle.ec_cert_text.proofs.WordLaws.{own, if_err, if_ok}
 use Rattle.ec_cert_text.proofs.ManyLaws.{Rec-from_All}
 use Rattle.ec_cert_text.proofs.TextLaws.{body_found, body_again}
@@ -72,34 +76,44 @@ text-best units None f = refl
 text-best units (Some b) f =
     text-append (value_line b.busiest) _ (text-number b.busiest _ (omega (arith, f.most)) refl) (text-flat_map place_line IsPlaceLine text-place b.plan.places (Rec-from_All IsPlaceLine b.plan.places f.places))
 
-text-level : (version : ℕ) (o : Option ℕ) → IsLevelLine version o → are_text (level_line o) ≡ true
-text-level version None f = refl
+text-no_level : (b : Bool) → are_text (cond b (codes "level none\n") []) ≡ true
+text-no_level true = refl
+text-no_level false = refl
+
+text-level : (version : ℕ) (o : Option ℕ) → IsLevelLine version o → are_text (level_line version o) ≡ true
+text-level version None f = text-no_level (nat_le 4 version)
 text-level version (Some n) f = text-number n _ (omega (arith, f.1)) refl
 
-text-leaf : (version : ℕ) (l : Leaf) → IsLeafLine version l → are_text (leaf_line l) ≡ true
-text-leaf version (tick t) f = text-number t _ (omega arith) refl
-text-leaf version (full t s) f = text-number t _ (omega (arith, f.0)) (text-number s _ (omega (arith, f.1)) refl)
-text-leaf version average f = refl
-text-leaf version (weighted w) f = text-append (flat_map index_word w) _ (text-flat_map index_word (λ i. i ≤ 65535) text-weight w (Rec-from_All (λ i. i ≤ 65535) w f.1.each)) refl
+text-pair : (pair : Pair) → IsShortPair pair → are_text (pair_words pair) ≡ true
+text-pair pair f = text-append (index_word pair.count) (index_word pair.room) (text-weight pair.count f.0) (text-weight pair.room (omega (arith, f.1)))
+
+text-leaf : (kinds : Kinds) (l : Leaf) → IsLeafLine kinds l → are_text (leaf_line l) ≡ true
+text-leaf kinds (tick t) f = text-number t _ (omega arith) refl
+text-leaf kinds (full t s) f = text-number t _ (omega (arith, f.0)) (text-number s _ (omega (arith, f.1)) refl)
+text-leaf kinds average f = refl
+text-leaf kinds (weighted w) f = text-append (flat_map index_word w) _ (text-flat_map index_word (λ i. i ≤ 65535) text-weight w (Rec-from_All (λ i. i ≤ 65535) w f.1.each)) refl
+text-leaf kinds merging f = refl
+text-leaf kinds (counted p c) f = text-number p _ (omega (arith, f.1.0.1)) (text-number c _ (omega (arith, f.1.1.1)) refl)
+text-leaf kinds (grouped pairs) f = text-append (flat_map pair_words pairs) _ (text-flat_map pair_words IsShortPair text-pair pairs (Rec-from_All IsShortPair pairs f.1.each)) refl
 
 mutual
-  text-nodes : (version d : ℕ) (s : Shape) → HasLevels version d s → are_text (node_lines s) ≡ true
-  text-nodes version zero s f = absurd f
-  text-nodes version (suc d) (split ss) f = text-append (split_line (shape_count ss)) (row_lines ss) (text-number (shape_count ss) _ (omega (arith, f.1)) refl) (text-row version d ss f.2)
-  text-nodes version (suc d) (leaf l) f = text-leaf version l f
-  text-nodes version (suc d) open_leaf f = refl
+  text-nodes : (kinds : Kinds) (d : ℕ) (s : Shape) → HasLevels kinds d s → are_text (node_lines s) ≡ true
+  text-nodes kinds zero s f = absurd f
+  text-nodes kinds (suc d) (split ss) f = text-append (split_line (shape_count ss)) (row_lines ss) (text-number (shape_count ss) _ (omega (arith, f.1)) refl) (text-row kinds d ss f.2)
+  text-nodes kinds (suc d) (leaf l) f = text-leaf kinds l f
+  text-nodes kinds (suc d) open_leaf f = refl
 
-  text-row : (version d : ℕ) (ss : Shapes) → HaveLevels version d ss → are_text (row_lines ss) ≡ true
-  text-row version d no_shapes f = refl
-  text-row version d (more s ss) f = text-append (node_lines s) (row_lines ss) (text-nodes version d s f.0) (text-row version d ss f.1)
+  text-row : (kinds : Kinds) (d : ℕ) (ss : Shapes) → HaveLevels kinds d ss → are_text (row_lines ss) ≡ true
+  text-row kinds d no_shapes f = refl
+  text-row kinds d (more s ss) f = text-append (node_lines s) (row_lines ss) (text-nodes kinds d s f.0) (text-row kinds d ss f.1)
 
 text-order : (units : ℕ) (order : List ℕ) → units ≤ 48 → AllByRecursion (λ i. i < units) order → are_text (order_line order) ≡ true
 text-order units order few h = text-append (flat_map index_word order) _ (text-flat_map index_word (λ i. i < units) (text-index units (omega arith)) order h) refl
 
 pub text-certificate : (c : CertView) → IsWellFormed c → are_text (certificate_text c) ≡ true
 text-certificate c f =
-    let tree = text-append (node_lines c.tree) (codes "end\n") (text-nodes c.version 49 c.tree f.tree) refl in
-    let level = text-append (level_line c.level) (tree_lines c.tree) (text-level c.version c.level f.level) tree in
+    let tree = text-append (node_lines c.tree) (codes "end\n") (text-nodes (kinds_in c.version c.level) 49 c.tree f.tree) refl in
+    let level = text-append (level_line c.version c.level) (tree_lines c.tree) (text-level c.version c.level f.level) tree in
     let best = text-append (best_lines c.best) _ (text-best (length c.units) c.best f.best) level in
     let order = text-append (order_line c.order) _ (text-order (length c.units) c.order f.most_units (Rec-from_All (λ i. i < length c.units) c.order f.order)) best in
     let units = text-append (flat_map unit_line c.units) _ (text-flat_map unit_line IsUnitLine text-unit c.units (Rec-from_All IsUnitLine c.units f.units)) order in

@@ -18,7 +18,7 @@ use Rattle.ec_cert_text.proofs.FrontLemmas.{at}
 use Rattle.ec_cert_text.proofs.PartLaws.{starts_front, parts_closed}
 
 abbrev IsKnown : ℕ → Type 0
-IsKnown k = (k ≡ 1) ⊎ ((k ≡ 2) ⊎ (k ≡ 3))
+IsKnown k = (k ≡ 1) ⊎ ((k ≡ 2) ⊎ ((k ≡ 3) ⊎ (k ≡ 4)))
 
 -- the first line of a text of version k
 abbrev first_line : ℕ → List ℕ
@@ -35,11 +35,12 @@ body_after : (k : ℕ) (rest : List ℕ) → IsKnown k → body (first_line k ++
 unfolding version_at
 body_after k rest (inl is) = rw is refl
 body_after k rest (inr (inl is)) = rw is refl
-body_after k rest (inr (inr is)) = rw is refl
+body_after k rest (inr (inr (inl is))) = rw is refl
+body_after k rest (inr (inr (inr is))) = rw is refl
 
-body_without : (text : List ℕ) → starts_with nat_eq text (first_line 1) ≡ false → starts_with nat_eq text (first_line 2) ≡ false → starts_with nat_eq text (first_line 3) ≡ false → body text ≡ Err fault.Version
+body_without : (text : List ℕ) → starts_with nat_eq text (first_line 1) ≡ false → starts_with nat_eq text (first_line 2) ≡ false → starts_with nat_eq text (first_line 3) ≡ false → starts_with nat_eq text (first_line 4) ≡ false → body text ≡ Err fault.Version
 unfolding version_at
-body_without text one two three = rw (one, two, three) refl
+body_without text one two three four = rw (one, two, three, four) refl
 
 -- ---- faults that stay
 
@@ -66,10 +67,14 @@ begun_2 a s some = starts_front (10 ∷ []) (λ b l r. refl) a s (codes "ecplan 
 begun_3 : (a s : List ℕ) → 1 ≤ feed_count a → starts_with nat_eq (a ++ s) (first_line 3) ≡ starts_with nat_eq a (first_line 3)
 begun_3 a s some = starts_front (10 ∷ []) (λ b l r. refl) a s (codes "ecplan 3") refl some
 
+begun_4 : (a s : List ℕ) → 1 ≤ feed_count a → starts_with nat_eq (a ++ s) (first_line 4) ≡ starts_with nat_eq a (first_line 4)
+begun_4 a s some = starts_front (10 ∷ []) (λ b l r. refl) a s (codes "ecplan 4") refl some
+
 feeds : (k : ℕ) (r : List ℕ) → IsKnown k → feed_count (first_line k ++ r) ≡ 1 + feed_count r
 feeds k r (inl is) = rw is refl
 feeds k r (inr (inl is)) = rw is refl
-feeds k r (inr (inr is)) = rw is refl
+feeds k r (inr (inr (inl is))) = rw is refl
+feeds k r (inr (inr (inr is))) = rw is refl
 
 stays_after : (k : ℕ) (a x y : List ℕ) (f : CertFault) → IsKnown k → starts_with nat_eq a (first_line k) ≡ true → fault_line f ≤ feed_count a → body (a ++ x) ≡ Err f → body (a ++ y) ≡ Err f
 stays_after k a x y f known is low h =
@@ -78,15 +83,18 @@ stays_after k a x y f known is low h =
     let before : body (first_line k ++ (drop 9 a ++ x)) ≡ Err f = subst (λ l. body (l ++ x) ≡ Err f) front h in
     subst (λ l. body (l ++ y) ≡ Err f) (sym front) (rest_stays k (drop 9 a) x y f known (omega arith) before)
 
-body_stays_by : (a x y : List ℕ) (f : CertFault) (b c d : Bool) → starts_with nat_eq a (first_line 1) ≡ b → starts_with nat_eq a (first_line 2) ≡ c → starts_with nat_eq a (first_line 3) ≡ d → 1 ≤ feed_count a → fault_line f ≤ feed_count a → body (a ++ x) ≡ Err f → body (a ++ y) ≡ Err f
-body_stays_by a x y f true c d one two three some low h = stays_after 1 a x y f (inl refl) one low h
-body_stays_by a x y f false true d one two three some low h = stays_after 2 a x y f (inr (inl refl)) two low h
-body_stays_by a x y f false false true one two three some low h = stays_after 3 a x y f (inr (inr refl)) three low h
-body_stays_by a x y f false false false one two three some low h =
-    body_without (a ++ y) (begun_1 a y some ∙ one) (begun_2 a y some ∙ two) (begun_3 a y some ∙ three) ∙ sym (body_without (a ++ x) (begun_1 a x some ∙ one) (begun_2 a x some ∙ two) (begun_3 a x some ∙ three)) ∙ h
+body_stays_by : (a x y : List ℕ) (f : CertFault) (b c d e : Bool) → starts_with nat_eq a (first_line 1) ≡ b → starts_with nat_eq a (first_line 2) ≡ c → starts_with nat_eq a (first_line 3) ≡ d → starts_with nat_eq a (first_line 4) ≡ e
+    → 1 ≤ feed_count a → fault_line f ≤ feed_count a → body (a ++ x) ≡ Err f → body (a ++ y) ≡ Err f
+body_stays_by a x y f true c d e one two three four some low h = stays_after 1 a x y f (inl refl) one low h
+body_stays_by a x y f false true d e one two three four some low h = stays_after 2 a x y f (inr (inl refl)) two low h
+body_stays_by a x y f false false true e one two three four some low h = stays_after 3 a x y f (inr (inr (inl refl))) three low h
+body_stays_by a x y f false false false true one two three four some low h = stays_after 4 a x y f (inr (inr (inr refl))) four low h
+body_stays_by a x y f false false false false one two three four some low h =
+    body_without (a ++ y) (begun_1 a y some ∙ one) (begun_2 a y some ∙ two) (begun_3 a y some ∙ three) (begun_4 a y some ∙ four)
+    ∙ sym (body_without (a ++ x) (begun_1 a x some ∙ one) (begun_2 a x some ∙ two) (begun_3 a x some ∙ three) (begun_4 a x some ∙ four)) ∙ h
 
 pub fault_stays : (a x y : List ℕ) (f : CertFault) → 1 ≤ fault_line f → fault_line f ≤ feed_count a → reading (a ++ x) ≡ Err f → IsReadable (a ++ y) → reading (a ++ y) ≡ Err f
-fault_stays a x y f some low h readable = reading_body (a ++ y) readable ∙ body_stays_by a x y f (starts_with nat_eq a (first_line 1)) (starts_with nat_eq a (first_line 2)) (starts_with nat_eq a (first_line 3)) refl refl refl (omega arith) low (body_fault (a ++ x) f some h)
+fault_stays a x y f some low h readable = reading_body (a ++ y) readable ∙ body_stays_by a x y f (starts_with nat_eq a (first_line 1)) (starts_with nat_eq a (first_line 2)) (starts_with nat_eq a (first_line 3)) (starts_with nat_eq a (first_line 4)) refl refl refl refl (omega arith) low (body_fault (a ++ x) f some h)
 
 -- ---- texts that were cut off
 
@@ -109,7 +117,7 @@ short_front k a true is short =
 pub no_version : (c : CertView) (a b : List ℕ) → IsWellFormed c → certificate_text c ≡ a ++ b → length a < 9 → reading a ≡ Err fault.Version
 no_version c a b f same short =
     reading_body a (front_readable c a b f same (omega arith))
-    ∙ body_without a (short_front 1 a (starts_with nat_eq a (first_line 1)) refl short) (short_front 2 a (starts_with nat_eq a (first_line 2)) refl short) (short_front 3 a (starts_with nat_eq a (first_line 3)) refl short)
+    ∙ body_without a (short_front 1 a (starts_with nat_eq a (first_line 1)) refl short) (short_front 2 a (starts_with nat_eq a (first_line 2)) refl short) (short_front 3 a (starts_with nat_eq a (first_line 3)) refl short) (short_front 4 a (starts_with nat_eq a (first_line 4)) refl short)
 
 starts_whole : (k : ℕ) (a s : List ℕ) → 9 ≤ length a → starts_with nat_eq (a ++ s) (first_line k) ≡ starts_with nat_eq a (first_line k)
 starts_whole k a s long = rw take-append-le refl
@@ -126,7 +134,10 @@ body_starts text c h =
       | inl y ↦ (1, inl refl, y.0)
       | inr y ↦ elim (chosen (starts_with nat_eq text (first_line 2)) _ _ _ y.1) [
         | inl z ↦ (2, inr (inl refl), z.0)
-        | inr z ↦ (3, inr (inr refl), (if_ok (starts_with nat_eq text (first_line 3)) _ _ v z.1).0)
+        | inr z ↦ elim (chosen (starts_with nat_eq text (first_line 3)) _ _ _ z.1) [
+          | inl w ↦ (3, inr (inr (inl refl)), w.0)
+          | inr w ↦ (4, inr (inr (inr refl)), (if_ok (starts_with nat_eq text (first_line 4)) _ _ v w.1).0)
+        ]
       ]
     ]
 

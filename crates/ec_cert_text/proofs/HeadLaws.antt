@@ -1,5 +1,5 @@
 -- The lines before the tree: what is read is spelled so, and is read again.
-use Rattle.std.proofs.Common.{◌≡◌, ℕ, zero, suc, ◌+◌, ◌-◌, ◌^◌, ◌<◌, ◌≤◌, Bool, true, false, ◌==◌, nat_eq, nat_le, List, [], ◌∷◌, ◌++◌, length, drop, codes, Option, Some, None, Ok, refl, ap, sym, subst, ◌∙◌, arith, inl, inr, append_assoc, append-nil}
+use Rattle.std.proofs.Common.{◌≡◌, ◌⊎◌, cond, ℕ, zero, suc, ◌+◌, ◌-◌, ◌^◌, ◌<◌, ◌≤◌, Bool, true, false, ◌==◌, nat_eq, nat_le, List, [], ◌∷◌, ◌++◌, length, drop, codes, Option, Some, None, Ok, refl, ap, sym, subst, ◌∙◌, arith, inl, inr, append_assoc, append-nil}
 use Rattle.std.specs.List.{starts_with, flat_map, AllByRecursion, list_all}
 use Rattle.std.specs.Str.{bytes_eq, all_ascii_digits}
 use Rattle.std.specs.Fmt.{decimal}
@@ -11,7 +11,7 @@ use Rattle.ec_units.specs.Names.{is_name, is_name_byte}
 use Rattle.ec_units.specs.declared.slave.Place.{Place}
 use Rattle.ec_cert.specs.declared.lists.UnitLine.{UnitLine}
 use Rattle.ec_cert.specs.declared.cert.Best.{Best}
-use Rattle.ec_cert_text.specs.Reading.{At, cut, line_at, number_in, pair_in, on_line, with_front, slots_in, slots_at, unit_from, unit_in, unit_at, is_unit_next, units_from, first_unit_at, units_at, are_numbers, many_from, index_from, index_in, indexes_in, order_in, order_at, place_in, place_at, value_in, best_with, best_at, level_in, level_line_at, level_at, start_at}
+use Rattle.ec_cert_text.specs.Reading.{At, cut, line_at, number_in, pair_in, ok_map, on_line, with_front, slots_in, slots_at, unit_from, unit_in, unit_at, is_unit_next, units_from, first_unit_at, units_at, are_numbers, many_from, index_from, index_in, indexes_in, order_in, order_at, place_in, place_at, value_in, best_with, best_at, level_in, level_line_at, level_or_none_in, level_or_none_at, level_at, start_at}
 use Rattle.ec_cert.specs.WellFormed.{IsUnitLine, IsPlaceLine, IsBestOrNone, IsLevelLine}
 use Rattle.ec_cert_text.specs.Text.{slots_line, unit_line, index_word, order_line, value_line, place_line, best_lines, level_line}
 use Rattle.ec_cert_text.proofs.WordLaws.{own, if_ok, bind_ok, chosen, ok_map_ok, on_line_ok, lacks, lacks-append, cut_found, cut_again, decimal_lacks, number_found, is_number-decimal, number_again, pair_found, pair_again, begins, same_bytes, line_found, line_again, one_line_found, one_line_again}
@@ -396,47 +396,108 @@ level_in_found line n h =
     let (text, low, high) = number_found 0 12304 (drop 6 line) n (omega arith) read in
     (begins line (codes "level ") starts ∙ ap (λ l. codes "level " ++ l) text, high)
 
-level_line_found : (p : At) (x : ℕ × At) → level_line_at p ≡ Ok x → (x.0 ≤ 12304) × (p.rest ≡ level_line (Some x.0) ++ x.1.rest)
+level_line_found : (p : At) (x : ℕ × At) → level_line_at p ≡ Ok x → (x.0 ≤ 12304) × (p.rest ≡ codes "level " ++ (decimal x.0 ++ 10 ∷ x.1.rest))
 unfolding level_line_at
 level_line_found p x h =
     let (line, said, is) = one_line_found level_in p x h in
     let (text, high) = level_in_found line x.0 said in
-    (high, is ∙ ap (λ l. l ++ 10 ∷ x.1.rest) text ∙ ap (λ l. codes "level " ++ l) (regroup_1 (decimal x.0) x.1.rest))
+    (high, is ∙ ap (λ l. l ++ 10 ∷ x.1.rest) text)
 
-pub level_found : (version : ℕ) (p : At) (x : Option ℕ × At) → level_at version p ≡ Ok x → IsLevelLine version x.0 × (p.rest ≡ level_line x.0 ++ x.1.rest)
+level_text : (version n : ℕ) (rest : List ℕ) → codes "level " ++ (decimal n ++ 10 ∷ rest) ≡ level_line version (Some n) ++ rest
+level_text version n rest = ap (λ l. codes "level " ++ l) (regroup_1 (decimal n) rest)
+
+-- from version 4 on there is such a line without a level, too
+pub none_line : (version : ℕ) → 4 ≤ version → level_line version None ≡ codes "level none\n"
+none_line version late = let fourth : nat_le 4 version ≡ true = grind (arith, nat_tests, late) in rw fourth refl
+
+no_line : (version : ℕ) → version ≤ 2 → level_line version None ≡ []
+no_line version early = let third : nat_le 4 version ≡ false = grind (arith, nat_tests, early) in rw third refl
+
+level_or_none_found : (version : ℕ) (p : At) (x : Option ℕ × At) → 4 ≤ version → level_or_none_at p ≡ Ok x → IsLevelLine version x.0 × (p.rest ≡ level_line version x.0 ++ x.1.rest)
+unfolding level_or_none_at level_or_none_in
+level_or_none_found version p x late h =
+    let (l, read, then) = bind_ok (line_at p) _ x h in
+    let (o, said, last) = bind_ok (on_line p.line (cond (bytes_eq l.0 (codes "level none")) (Ok None) (ok_map Some (level_in l.0)))) (λ n. Ok (n, l.1)) x then in
+    let is : (o, l.1) ≡ x = cc (last) in
+    let whole = line_found p l read in
+    elim (chosen (bytes_eq l.0 (codes "level none")) _ _ _ (on_line_ok p.line _ o said)) [
+      | inl y ↦
+          let none : None ≡ o = cc (y.1) in
+          let text : p.rest ≡ level_line version None ++ l.1.rest = whole ∙ ap (λ t. t ++ 10 ∷ l.1.rest) (same_bytes l.0 (codes "level none") y.0) ∙ ap (λ t. t ++ l.1.rest) (sym (none_line version late)) in
+          rw (← is, ← none) (inr late, text)
+      | inr y ↦
+          let (n, some, one) = ok_map_ok Some (level_in l.0) o y.1 in
+          let (text, high) = level_in_found l.0 n some in
+          let third : 3 ≤ version = omega (arith, late) in
+          rw (← is, ← one) ((third, high), whole ∙ ap (λ t. t ++ 10 ∷ l.1.rest) text ∙ level_text version n l.1.rest)
+    ]
+
+pub level_found : (version : ℕ) (p : At) (x : Option ℕ × At) → level_at version p ≡ Ok x → IsLevelLine version x.0 × (p.rest ≡ level_line version x.0 ++ x.1.rest)
 unfolding level_at
 level_found version p x h =
-    elim (chosen (nat_le 3 version) _ _ _ h) [
-      | inl y ↦
-          let (n, read, last) = bind_ok (level_line_at p) (λ n. Ok (Some n.0, n.1)) x y.1 in
-          let is : (Some n.0, n.1) ≡ x = cc (last) in
-          let (high, text) = level_line_found p n read in
-          let third : 3 ≤ version = grind (arith, nat_tests, y.0) in
-          rw (← is) ((third, high), text)
-      | inr y ↦
-          let is : (None, p) ≡ x = cc (y.1) in
-          let early : version ≤ 2 = grind (arith, nat_tests, y.0) in
-          rw (← is) (early, refl)
+    elim (chosen (nat_le 4 version) _ _ _ h) [
+      | inl z ↦ let late : 4 ≤ version = grind (arith, nat_tests, z.0) in level_or_none_found version p x late z.1
+      | inr z ↦ elim (chosen (nat_le 3 version) _ _ _ z.1) [
+        | inl y ↦
+            let (n, read, last) = bind_ok (level_line_at p) (λ n. Ok (Some n.0, n.1)) x y.1 in
+            let is : (Some n.0, n.1) ≡ x = cc (last) in
+            let (high, text) = level_line_found p n read in
+            let third : 3 ≤ version = grind (arith, nat_tests, y.0) in
+            rw (← is) ((third, high), text ∙ level_text version n.0 n.1.rest)
+        | inr y ↦
+            let is : (None, p) ≡ x = cc (y.1) in
+            let early : version ≤ 2 = grind (arith, nat_tests, y.0) in
+            rw (← is) (inl early, ap (λ t. t ++ p.rest) (sym (no_line version early)))
+      ]
     ]
+
+cond_same : {A : Type 0} (b : Bool) (x : A) → cond b x x ≡ x
+cond_same true x = refl
+cond_same false x = refl
 
 level_in_again : (n : ℕ) → n ≤ 12304 → level_in (codes "level " ++ decimal n) ≡ Ok n
 unfolding level_in
 level_in_again n h = number_again 0 12304 n (omega arith) (omega arith) h
 
-level_line_again : (k n : ℕ) (rest : List ℕ) → n ≤ 12304 → level_line_at (record { line = k; rest = level_line (Some n) ++ rest }) ≡ Ok (n, record { line = k + 1; rest = rest })
+level_line_again : (k n : ℕ) (rest : List ℕ) → n ≤ 12304 → level_line_at (record { line = k; rest = codes "level " ++ (decimal n ++ 10 ∷ rest) }) ≡ Ok (n, record { line = k + 1; rest = rest })
 unfolding level_line_at
-level_line_again k n rest h =
-    let text : codes "level " ++ (decimal n ++ 10 ∷ rest) ≡ level_line (Some n) ++ rest = ap (λ l. codes "level " ++ l) (regroup_1 (decimal n) rest) in
-    rw (← text) (one_line_again level_in k (codes "level " ++ decimal n) n rest (decimal_lacks 10 n (omega arith) (omega arith)) (level_in_again n h))
+level_line_again k n rest h = one_line_again level_in k (codes "level " ++ decimal n) n rest (decimal_lacks 10 n (omega arith) (omega arith)) (level_in_again n h)
 
-pub level_again : (k version : ℕ) (o : Option ℕ) (rest : List ℕ) → IsLevelLine version o → (m : ℕ) × (level_at version (record { line = k; rest = level_line o ++ rest }) ≡ Ok (o, record { line = m; rest = rest }))
+-- a number isn't the word for none
+no_number : (n : ℕ) → n < 2 ^ 64 → bytes_eq (codes "level " ++ decimal n) (codes "level none") ≡ false
+no_number n fits =
+    not_true (bytes_eq (codes "level " ++ decimal n) (codes "level none")) (λ h.
+    let same : decimal n ≡ codes "none" = ap (drop 6) (same_bytes (codes "level " ++ decimal n) (codes "level none") h) in
+    let digits : all_ascii_digits (decimal n) ≡ true = digits_decimal own n fits in
+    false≢true (sym (ap all_ascii_digits same) ∙ digits))
+
+level_or_none_again : (k n : ℕ) (rest : List ℕ) → n ≤ 12304 → level_or_none_at (record { line = k; rest = codes "level " ++ (decimal n ++ 10 ∷ rest) }) ≡ Ok (Some n, record { line = k + 1; rest = rest })
+unfolding level_or_none_at level_or_none_in
+level_or_none_again k n rest h = rw (line_again k (codes "level " ++ decimal n) rest (decimal_lacks 10 n (omega arith) (omega arith)), no_number n (omega (arith, h)), level_in_again n h) refl
+
+no_level_again : (k : ℕ) (rest : List ℕ) → level_or_none_at (record { line = k; rest = codes "level none\n" ++ rest }) ≡ Ok (None, record { line = k + 1; rest = rest })
+unfolding level_or_none_at level_or_none_in
+no_level_again k rest = rw (line_again k (codes "level none") rest refl) refl
+
+none_again : (k version : ℕ) (rest : List ℕ) → (version ≤ 2) ⊎ (4 ≤ version) → (m : ℕ) × (level_at version (record { line = k; rest = level_line version None ++ rest }) ≡ Ok (None, record { line = m; rest = rest }))
 unfolding level_at
-level_again k version None rest f =
-    let early : nat_le 3 version ≡ false = grind (arith, nat_tests, f) in
-    (k, rw early refl)
-level_again k version (Some n) rest f =
-    let later : nat_le 3 version ≡ true = grind (arith, nat_tests, f.0) in
-    (k + 1, rw (later, level_line_again k n rest f.1) refl)
+none_again k version rest (inl early) =
+    let fourth : nat_le 4 version ≡ false = grind (arith, nat_tests, early) in
+    let third : nat_le 3 version ≡ false = grind (arith, nat_tests, early) in
+    (k, rw (fourth, third) refl)
+none_again k version rest (inr late) =
+    let fourth : nat_le 4 version ≡ true = grind (arith, nat_tests, late) in
+    (k + 1, rw (fourth, no_level_again k rest) refl)
+
+some_again : (k version n : ℕ) (rest : List ℕ) → 3 ≤ version → n ≤ 12304 → level_at version (record { line = k; rest = codes "level " ++ (decimal n ++ 10 ∷ rest) }) ≡ Ok (Some n, record { line = k + 1; rest = rest })
+unfolding level_at
+some_again k version n rest third high =
+    let later : nat_le 3 version ≡ true = grind (arith, nat_tests, third) in
+    rw (level_or_none_again k n rest high, later, level_line_again k n rest high) (cond_same (nat_le 4 version) _)
+
+pub level_again : (k version : ℕ) (o : Option ℕ) (rest : List ℕ) → IsLevelLine version o → (m : ℕ) × (level_at version (record { line = k; rest = level_line version o ++ rest }) ≡ Ok (o, record { line = m; rest = rest }))
+level_again k version None rest f = none_again k version rest f
+level_again k version (Some n) rest f = (k + 1, rw (← level_text version n rest) (some_again k version n rest f.0 f.1))
 
 -- ---- the line before the tree
 

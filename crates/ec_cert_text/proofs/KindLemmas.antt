@@ -7,7 +7,7 @@ use Rattle.ec_units.specs.Names.{is_name}
 use Rattle.ec_cert_text.specs.declared.words.Wrong.{Wrong}
 use Rattle.ec_cert_text.specs.declared.words.Wrong.TheVariants as wrong
 use Rattle.ec_cert_text.specs.declared.nodes.Node.TheVariants as node
-use Rattle.ec_cert_text.specs.Reading.{number_in, pair_in, ok_map, cut, is_number, unit_in, place_in, node_in}
+use Rattle.ec_cert_text.specs.Reading.{number_in, pair_in, ok_map, cut, is_number, unit_in, place_in, node_in, room_in}
 use Rattle.ec_cert_text.specs.Views.{unit_view}
 
 pub says_split : (line : List ℕ) (r : Result ℕ Wrong) → starts_with nat_eq line (codes "S ") ≡ true → r ≡ number_in 1 480 (take (length line - 2) (drop 2 line)) → ok_map node.Split r ≡ node_in line
@@ -26,6 +26,18 @@ says_full line r no_split no_tick begins is = rw (no_split, no_tick, begins) (ap
 pub says_none : (line : List ℕ) → starts_with nat_eq line (codes "S ") ≡ false → starts_with nat_eq line (codes "T ") ≡ false → starts_with nat_eq line (codes "F ") ≡ false → bytes_eq line (codes "A") ≡ false → Err wrong.Words ≡ node_in line
 unfolding node_in
 says_none line no_split no_tick no_full no_average = rw (no_split, no_tick, no_full, no_average) refl
+
+pub says_count : (line : List ℕ) (r : Result (ℕ × ℕ) Wrong) → starts_with nat_eq line (codes "N ") ≡ true → r ≡ pair_in 1 60 1486 (take (length line - 2) (drop 2 line)) → ok_map (λ n. node.Count n.0 n.1) r ≡ room_in line
+unfolding room_in
+says_count line r begins is = rw begins (ap (ok_map (λ n. node.Count n.0 n.1)) (is ∙ ap (pair_in 1 60 1486) (take_rest line 2)))
+
+pub says_merge : (line : List ℕ) → starts_with nat_eq line (codes "N ") ≡ false → bytes_eq line (codes "M") ≡ true → Ok node.Merge ≡ room_in line
+unfolding room_in
+says_merge line no_count merge = rw (no_count, merge) refl
+
+pub says_other : (line : List ℕ) → starts_with nat_eq line (codes "N ") ≡ false → bytes_eq line (codes "M") ≡ false → node_in line ≡ room_in line
+unfolding room_in
+says_other line no_count no_merge = rw (no_count, no_merge) refl
 
 pub says_place : (line : List ℕ) (r : Result (ℕ × ℕ) Wrong) → starts_with nat_eq line (codes "place ") ≡ true → r ≡ pair_in 0 59 7 (take (length line - 6) (drop 6 line)) → ok_map (λ n. record { phase = n.0; slot = n.1 }) r ≡ place_in line
 unfolding place_in

@@ -16,5 +16,6 @@ pub mod SpelledLaws
 pub mod TextLaws
 pub mod TreeLemmas
 pub mod WeightLaws
+pub mod GroupLaws
 pub mod WordLaws
 pub mod WriteLemmas

@@ -3,11 +3,11 @@
 -- between two of `parts_at`.
 use Rattle.std.proofs.Common.{◌≡◌, ℕ, zero, suc, ◌+◌, ◌-◌, ◌≤◌, Bool, true, false, ◌&&◌, ◌==◌, cond, nat_eq, nat_le, List, [], ◌∷◌, ◌++◌, length, drop, codes, Option, Some, None, Result, Ok, Err, refl, ap, sym, subst, ◌∙◌, arith, inl, inr}
 use Rattle.std.proofs.Math.Path.{fun_ext}
-use Rattle.std.specs.List.{starts_with}
+use Rattle.std.specs.List.{starts_with, list_all}
 use Rattle.std.specs.Str.{bytes_eq}
 use Rattle.std.proofs.lemmas.Bool.{cases_lt}
 use Rattle.std.proofs.lemmas.Bool.Decides.{nat_tests}
-use Rattle.ec_loads.specs.Shape.{tick, full, average, weighted, Shape, split, leaf, open_leaf}
+use Rattle.ec_loads.specs.Shape.{tick, full, average, weighted, merging, counted, grouped, Shape, split, leaf, open_leaf}
 use Rattle.ec_cert_text.specs.declared.fault.CertFault.{CertFault}
 use Rattle.ec_cert_text.specs.declared.fault.CertFault.TheVariants as fault
 use Rattle.ec_cert_text.specs.declared.words.Wrong.{Wrong}
@@ -16,8 +16,10 @@ use Rattle.ec_cert_text.specs.declared.nodes.Node.{Node}
 use Rattle.ec_cert_text.specs.declared.nodes.Node.TheVariants as node
 use Rattle.ec_cert.specs.declared.lists.UnitLine.{UnitLine}
 use Rattle.ec_cert.specs.declared.cert.Best.{Best}
+use Rattle.ec_cert.specs.declared.kinds.Kinds.{Kinds}
+use Rattle.ec_cert.specs.LeafKinds.{kinds_in}
 use Rattle.ec_cert.specs.Shapes.{CertView, shapes}
-use Rattle.ec_cert_text.specs.Reading.{◌>>=◌, At, cut, line_at, fault_of, ok_map, on_line, number_in, with_front, slots_in, slots_at, unit_in, unit_at, is_unit_next, units_from, first_unit_at, units_at, are_numbers, many_from, index_from, index_in, indexes_in, order_in, order_at, place_in, place_at, value_in, best_with, best_at, level_in, level_line_at, level_at, start_at, node_in, space_count, weights_in, node_on, node_at, below, tree_at, end_at, parts_at}
+use Rattle.ec_cert_text.specs.Reading.{◌>>=◌, At, cut, line_at, fault_of, ok_map, on_line, number_in, with_front, slots_in, slots_at, unit_in, unit_at, is_unit_next, units_from, first_unit_at, units_at, are_numbers, many_from, index_from, index_in, indexes_in, order_in, order_at, place_in, place_at, value_in, best_with, best_at, level_in, level_line_at, level_or_none_in, level_or_none_at, level_at, start_at, kind_in, pairs_of, is_room, pairs_from, is_pair_count, groups_in, space_count, weights_in, node_on, node_at, below, tree_at, end_at, parts_at}
 use Rattle.ec_cert_text.specs.Fronts.{feed_count, fault_line}
 use Rattle.ec_cert_text.proofs.FrontLemmas.{at, Goes, Alike, IsReader, IsJudge, alike_none, is_done, is_then, is_many, judged, is_judged}
 use Rattle.ec_cert_text.proofs.CloserLemmas.{IsCloser, is_closed, is_ending}
@@ -208,13 +210,18 @@ level_line_reads : IsReader level_line_at
 unfolding level_line_at
 level_line_reads = is_said level_in
 
-level_reads_by : (b : Bool) → IsReader (λ (p : At). cond b (level_line_at p >>= (λ n. Ok (Some n.0, n.1))) (Ok (None, p)))
-level_reads_by true = is_then level_line_at _ level_line_reads (λ n. is_done (Some n))
-level_reads_by false = is_done None
+level_or_none_reads : IsReader level_or_none_at
+unfolding level_or_none_at
+level_or_none_reads = is_said level_or_none_in
+
+level_reads_by : (b c : Bool) → IsReader (λ (p : At). cond b (level_or_none_at p) (cond c (level_line_at p >>= (λ n. Ok (Some n.0, n.1))) (Ok (None, p))))
+level_reads_by true c = level_or_none_reads
+level_reads_by false true = is_then level_line_at _ level_line_reads (λ n. is_done (Some n))
+level_reads_by false false = is_done None
 
 level_reads : (version : ℕ) → IsReader (level_at version)
 unfolding level_at
-level_reads version = level_reads_by (nat_le 3 version)
+level_reads version = level_reads_by (nat_le 4 version) (nat_le 3 version)
 
 -- ---- the tree
 
@@ -232,24 +239,36 @@ unfolding weights_in
 weights_at n text =
     chosen_at n (nat_le (space_count text) 1023 && are_numbers (space_count text) text) (indexes_in n (space_count text) 65535 text) (Err (fault.BadLine n)) (indexes_at n (space_count text) 65535 text) refl
 
-node_on_at : (version n : ℕ) (line : List ℕ) → AtLine n (node_on version n line)
+groups_at : (n : ℕ) (text : List ℕ) → AtLine n (groups_in n text)
+unfolding groups_in
+groups_at n text =
+    chosen_at n (is_pair_count (space_count text) && are_numbers (space_count text) text) (indexes_in n (space_count text) 65535 text >>= pairs_from n) (Err (fault.BadLine n))
+    (then_at n (indexes_in n (space_count text) 65535 text) (pairs_from n) (indexes_at n (space_count text) 65535 text)
+    (λ is. chosen_at n (list_all is_room (pairs_of is)) (Ok (pairs_of is)) (Err (fault.Number n)) tt refl)) refl
+
+node_on_at : (kinds : Kinds) (n : ℕ) (line : List ℕ) → AtLine n (node_on kinds n line)
 unfolding node_on
-node_on_at version n line =
-    chosen_at n (starts_with nat_eq line (codes "W ") && nat_le 2 version) (ok_map node.Weights (weights_in n (drop 2 line))) (cond (bytes_eq line (codes "O") && nat_le 3 version) (Ok node.OpenLeaf) (on_line n (node_in line)))
-    (map_at n node.Weights (weights_in n (drop 2 line)) (weights_at n (drop 2 line))) (chosen_at n (bytes_eq line (codes "O") && nat_le 3 version) (Ok node.OpenLeaf) (on_line n (node_in line)) tt (said_at n (node_in line)))
+node_on_at kinds n line =
+    let said = on_line n (kind_in kinds.rooms line) in
+    let last = cond (bytes_eq line (codes "O") && kinds.left_open) (Ok node.OpenLeaf) said in
+    let groups = ok_map node.Groups (groups_in n (drop 2 line)) in
+    chosen_at n (starts_with nat_eq line (codes "W ") && kinds.weights) (ok_map node.Weights (weights_in n (drop 2 line))) (cond (starts_with nat_eq line (codes "G ") && kinds.rooms) groups last)
+    (map_at n node.Weights (weights_in n (drop 2 line)) (weights_at n (drop 2 line)))
+    (chosen_at n (starts_with nat_eq line (codes "G ") && kinds.rooms) groups last (map_at n node.Groups (groups_in n (drop 2 line)) (groups_at n (drop 2 line)))
+    (chosen_at n (bytes_eq line (codes "O") && kinds.left_open) (Ok node.OpenLeaf) said tt (said_at n (kind_in kinds.rooms line))))
 
 -- the node that a line says, unless it is the last line of a text
-abbrev said_node : ℕ → ℕ → List ℕ → Result Node CertFault
-said_node version n l = cond (bytes_eq l (codes "end")) (Err (fault.Early n)) (node_on version n l)
+abbrev said_node : Kinds → ℕ → List ℕ → Result Node CertFault
+said_node kinds n l = cond (bytes_eq l (codes "end")) (Err (fault.Early n)) (node_on kinds n l)
 
-node_said : (version n : ℕ) (l : List ℕ) → AtLine n (said_node version n l)
-node_said version n l = chosen_at n (bytes_eq l (codes "end")) (Err (fault.Early n)) (node_on version n l) refl (node_on_at version n l)
+node_said : (kinds : Kinds) (n : ℕ) (l : List ℕ) → AtLine n (said_node kinds n l)
+node_said kinds n l = chosen_at n (bytes_eq l (codes "end")) (Err (fault.Early n)) (node_on kinds n l) refl (node_on_at kinds n l)
 
-abbrev node_due : ℕ → ℕ → ℕ → List ℕ → Result Node CertFault
-node_due version levels n l = said_node version n l >>= (λ h. cond (levels == 0) (Err (fault.TooDeep n)) (Ok h))
+abbrev node_due : Kinds → ℕ → ℕ → List ℕ → Result Node CertFault
+node_due kinds levels n l = said_node kinds n l >>= (λ h. cond (levels == 0) (Err (fault.TooDeep n)) (Ok h))
 
-node_judged : (version levels n : ℕ) (l : List ℕ) → AtLine n (node_due version levels n l)
-node_judged version levels n l = then_at n (said_node version n l) _ (node_said version n l) (λ h. chosen_at n (levels == 0) (Err (fault.TooDeep n)) (Ok h) refl tt)
+node_judged : (kinds : Kinds) (levels n : ℕ) (l : List ℕ) → AtLine n (node_due kinds levels n l)
+node_judged kinds levels n l = then_at n (said_node kinds n l) _ (node_said kinds n l) (λ h. chosen_at n (levels == 0) (Err (fault.TooDeep n)) (Ok h) refl tt)
 
 abbrev node_unless : Bool → ℕ → At → Node → Result (Node × At) CertFault
 node_unless deep n q h = cond deep (Err (fault.TooDeep n)) (Ok (h, q))
@@ -259,18 +278,18 @@ node_line_same n q true (Ok h) = refl
 node_line_same n q false (Ok h) = refl
 node_line_same n q deep (Err e) = refl
 
-node_same_by : (version levels : ℕ) (p : At) (u : Result (List ℕ × At) CertFault)
-    → (u >>= (λ l. said_node version p.line l.0 >>= node_unless (levels == 0) p.line l.1)) ≡ (u >>= (λ l. node_due version levels p.line l.0 >>= with_rest l.1))
-node_same_by version levels p (Ok l) = node_line_same p.line l.1 (levels == 0) (said_node version p.line l.0)
-node_same_by version levels p (Err e) = refl
+node_same_by : (kinds : Kinds) (levels : ℕ) (p : At) (u : Result (List ℕ × At) CertFault)
+    → (u >>= (λ l. said_node kinds p.line l.0 >>= node_unless (levels == 0) p.line l.1)) ≡ (u >>= (λ l. node_due kinds levels p.line l.0 >>= with_rest l.1))
+node_same_by kinds levels p (Ok l) = node_line_same p.line l.1 (levels == 0) (said_node kinds p.line l.0)
+node_same_by kinds levels p (Err e) = refl
 
-node_same : (version levels : ℕ) (p : At) → node_at version levels p ≡ judged (node_due version levels) p
+node_same : (kinds : Kinds) (levels : ℕ) (p : At) → node_at kinds levels p ≡ judged (node_due kinds levels) p
 unfolding node_at
-node_same version levels p = node_same_by version levels p (line_at p)
+node_same kinds levels p = node_same_by kinds levels p (line_at p)
 
-node_reads : (version levels : ℕ) → IsReader (node_at version levels)
-node_reads version levels =
-    subst (IsReader {X = Node}) (sym (fun_ext (node_same version levels))) (is_judged (node_due version levels) (judge_of (node_due version levels) (node_judged version levels)))
+node_reads : (kinds : Kinds) (levels : ℕ) → IsReader (node_at kinds levels)
+node_reads kinds levels =
+    subst (IsReader {X = Node}) (sym (fun_ext (node_same kinds levels))) (is_judged (node_due kinds levels) (judge_of (node_due kinds levels) (node_judged kinds levels)))
 
 below_reads : (one : At → Result (Shape × At) CertFault) → IsReader one → (h : Node) → IsReader (below one h)
 below_reads one r (node.Split n) = is_then (many_from one n) _ (is_many one r n) (λ ts. is_done (split (shapes ts)))
@@ -279,13 +298,16 @@ below_reads one r (node.FullLeaf t s) = is_done (leaf (full t s))
 below_reads one r node.Average = is_done (leaf average)
 below_reads one r (node.Weights w) = is_done (leaf (weighted w))
 below_reads one r node.OpenLeaf = is_done open_leaf
+below_reads one r node.Merge = is_done (leaf merging)
+below_reads one r (node.Count q c) = is_done (leaf (counted q c))
+below_reads one r (node.Groups pairs) = is_done (leaf (grouped pairs))
 
 -- a node below the last level is a fault
-abbrev deep_due : ℕ → ℕ → List ℕ → Result Shape CertFault
-deep_due version n l = said_node version n l >>= (λ h. Err (fault.TooDeep n))
+abbrev deep_due : Kinds → ℕ → List ℕ → Result Shape CertFault
+deep_due kinds n l = said_node kinds n l >>= (λ h. Err (fault.TooDeep n))
 
-deep_judged : (version n : ℕ) (l : List ℕ) → AtLine n (deep_due version n l)
-deep_judged version n l = then_at n (said_node version n l) _ (node_said version n l) (λ h. refl)
+deep_judged : (kinds : Kinds) (n : ℕ) (l : List ℕ) → AtLine n (deep_due kinds n l)
+deep_judged kinds n l = then_at n (said_node kinds n l) _ (node_said kinds n l) (λ h. refl)
 
 abbrev too_deep : {X : Type 0} → ℕ → X → Result (Shape × At) CertFault
 too_deep n x = Err (fault.TooDeep n)
@@ -297,22 +319,22 @@ deep_line_same : (n : ℕ) (q : At) (o : Result Node CertFault) → ((o >>= node
 deep_line_same n q (Ok h) = refl
 deep_line_same n q (Err e) = refl
 
-deep_same_by : (version : ℕ) (p : At) (u : Result (List ℕ × At) CertFault)
-    → ((u >>= (λ l. said_node version p.line l.0 >>= node_unless true p.line l.1)) >>= too_deep p.line) ≡ (u >>= (λ l. deep_due version p.line l.0 >>= with_rest l.1))
-deep_same_by version p (Ok l) = deep_line_same p.line l.1 (said_node version p.line l.0)
-deep_same_by version p (Err e) = refl
+deep_same_by : (kinds : Kinds) (p : At) (u : Result (List ℕ × At) CertFault)
+    → ((u >>= (λ l. said_node kinds p.line l.0 >>= node_unless true p.line l.1)) >>= too_deep p.line) ≡ (u >>= (λ l. deep_due kinds p.line l.0 >>= with_rest l.1))
+deep_same_by kinds p (Ok l) = deep_line_same p.line l.1 (said_node kinds p.line l.0)
+deep_same_by kinds p (Err e) = refl
 
-deep_same : (version : ℕ) (p : At) → tree_at version 0 p ≡ judged (deep_due version) p
+deep_same : (kinds : Kinds) (p : At) → tree_at kinds 0 p ≡ judged (deep_due kinds) p
 unfolding tree_at node_at
-deep_same version p = deep_same_by version p (line_at p)
+deep_same kinds p = deep_same_by kinds p (line_at p)
 
-deep_reads : (version : ℕ) → IsReader (tree_at version 0)
-deep_reads version = subst (IsReader {X = Shape}) (sym (fun_ext (deep_same version))) (is_judged (deep_due version) (judge_of (deep_due version) (deep_judged version)))
+deep_reads : (kinds : Kinds) → IsReader (tree_at kinds 0)
+deep_reads kinds = subst (IsReader {X = Shape}) (sym (fun_ext (deep_same kinds))) (is_judged (deep_due kinds) (judge_of (deep_due kinds) (deep_judged kinds)))
 
-pub tree_reads : (version d : ℕ) → IsReader (tree_at version d)
+pub tree_reads : (kinds : Kinds) (d : ℕ) → IsReader (tree_at kinds d)
 unfolding tree_at
-tree_reads version zero = deep_reads version
-tree_reads version (suc d) = is_then (node_at version (suc d)) (below (tree_at version d)) (node_reads version (suc d)) (below_reads (tree_at version d) (tree_reads version d))
+tree_reads kinds zero = deep_reads kinds
+tree_reads kinds (suc d) = is_then (node_at kinds (suc d)) (below (tree_at kinds d)) (node_reads kinds (suc d)) (below_reads (tree_at kinds d) (tree_reads kinds d))
 
 -- ---- the lines after the first
 
@@ -343,4 +365,4 @@ parts_closed version =
     is_closed (order_at (length units)) _ (order_reads (length units)) (λ order.
     is_closed (best_at (length units)) _ (best_reads (length units)) (λ best.
     is_closed (level_at version) _ (level_reads version) (λ level.
-    start_closed _ (is_closed (tree_at version 49) (λ tree p. end_at p >>= (λ last. Ok (whole_view version slots units order best level tree))) (tree_reads version 49) (λ tree. is_ending (whole_view version slots units order best level tree))))))))
+    start_closed _ (is_closed (tree_at (kinds_in version level) 49) (λ tree p. end_at p >>= (λ last. Ok (whole_view version slots units order best level tree))) (tree_reads (kinds_in version level) 49) (λ tree. is_ending (whole_view version slots units order best level tree))))))))

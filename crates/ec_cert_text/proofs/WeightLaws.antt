@@ -33,7 +33,7 @@ space_count-append (b ∷ xs) ys = append_step (b == 32) (space_count (xs ++ ys)
 no_space : (i : ℕ) → i ≤ 65535 → space_count (decimal i) ≡ 0
 no_space i h = space_count-lacks (decimal i) (decimal_lacks 32 i (omega arith) (omega arith))
 
-spaces_between : (is : List ℕ) (last : ℕ) → AllByRecursion (IsBelow 65535) is → last ≤ 65535 → space_count (flat_map first_word is ++ decimal last) ≡ length is
+pub spaces_between : (is : List ℕ) (last : ℕ) → AllByRecursion (IsBelow 65535) is → last ≤ 65535 → space_count (flat_map first_word is ++ decimal last) ≡ length is
 spaces_between [] last h l = no_space last l
 spaces_between (i ∷ is) last h l =
     let rest = flat_map first_word is ++ decimal last in

@@ -1,10 +1,11 @@
 -- Reading line by line: what is due after the lines before it, and the first line at fault.
-use Rattle.std.specs.Prelude.{◌≡◌, ℕ, zero, suc, ◌+◌, ◌*◌, ◌-◌, Bool, false, not, ◌&&◌, ◌||◌, ◌==◌, nat_eq, nat_lt, nat_le, drop, if◌then◌else◌, List, [], ◌∷◌, ◌++◌, length, codes, slice_index, Option, Some, None, option_map, Result, Ok, Err}
+use Rattle.std.specs.Prelude.{◌≡◌, ℕ, zero, suc, ◌+◌, ◌*◌, ◌-◌, ◌%◌, Bool, false, not, ◌&&◌, ◌||◌, ◌==◌, nat_eq, nat_lt, nat_le, drop, if◌then◌else◌, List, [], ◌∷◌, ◌++◌, length, codes, slice_index, Option, Some, None, option_map, Result, Ok, Err}
 use Rattle.std.specs.List.{starts_with, list_all}
 use Rattle.std.specs.Str.{all_ascii_digits, bytes_eq}
 use Rattle.ec_units.specs.Names.{is_name}
 use Rattle.ec_units.specs.declared.slave.Place.{Place}
-use Rattle.ec_loads.specs.Shape.{tick, full, average, weighted, Shape, split, leaf, open_leaf}
+use Rattle.ec_loads.specs.declared.pair.Pair.{Pair}
+use Rattle.ec_loads.specs.Shape.{tick, full, average, weighted, merging, counted, grouped, Shape, split, leaf, open_leaf}
 use Rattle.ec_cert_text.specs.declared.fault.CertFault.{CertFault}
 use Rattle.ec_cert_text.specs.declared.fault.CertFault.TheVariants as fault
 use Rattle.ec_cert_text.specs.declared.words.Wrong.{Wrong}
@@ -13,6 +14,8 @@ use Rattle.ec_cert_text.specs.declared.nodes.Node.{Node}
 use Rattle.ec_cert_text.specs.declared.nodes.Node.TheVariants as node
 use Rattle.ec_cert.specs.declared.lists.UnitLine.{UnitLine}
 use Rattle.ec_cert.specs.declared.cert.Best.{Best}
+use Rattle.ec_cert.specs.declared.kinds.Kinds.{Kinds}
+use Rattle.ec_cert.specs.LeafKinds.{kinds_in}
 use Rattle.ec_cert.specs.Shapes.{CertView, shapes}
 
 -- the number of the next line, and the bytes from it on
@@ -103,12 +106,13 @@ pair_in low high0 high1 text = pair_from low high0 high1 (cut 32 text)
 
 -- ---- the lines of the head
 
--- the first line; versions 1 to 3 are known
+-- the first line; versions 1 to 4 are known
 unfoldable pub version_at : List ℕ → Result (ℕ × At) CertFault
 version_at text =
     if starts_with nat_eq text (codes "ecplan 1\n") then Ok (1, record { line = 2; rest = drop 9 text })
     else if starts_with nat_eq text (codes "ecplan 2\n") then Ok (2, record { line = 2; rest = drop 9 text })
     else if starts_with nat_eq text (codes "ecplan 3\n") then Ok (3, record { line = 2; rest = drop 9 text })
+    else if starts_with nat_eq text (codes "ecplan 4\n") then Ok (4, record { line = 2; rest = drop 9 text })
     else Err fault.Version
 
 unfoldable pub slots_in : List ℕ → Result ℕ Wrong
@@ -226,9 +230,22 @@ level_line_at p = do
   n ← on_line p.line (level_in l.0)
   Ok (n, l.1)
 
--- the level, which texts from version 3 on have
+-- a level, or that there is none
+unfoldable pub level_or_none_in : List ℕ → Result (Option ℕ) Wrong
+level_or_none_in line = if bytes_eq line (codes "level none") then Ok None else ok_map Some (level_in line)
+
+unfoldable pub level_or_none_at : At → Result (Option ℕ × At) CertFault
+level_or_none_at p = do
+  l ← line_at p
+  n ← on_line p.line (level_or_none_in l.0)
+  Ok (n, l.1)
+
+-- the level: texts of version 3 have one, those from version 4 on have one or say that there is none
 unfoldable pub level_at : ℕ → At → Result (Option ℕ × At) CertFault
-level_at version p = if nat_le 3 version then level_line_at p >>= (λ n. Ok (Some n.0, n.1)) else Ok (None, p)
+level_at version p =
+    if nat_le 4 version then level_or_none_at p
+    else if nat_le 3 version then level_line_at p >>= (λ n. Ok (Some n.0, n.1))
+    else Ok (None, p)
 
 -- ---- the tree
 
@@ -258,18 +275,54 @@ weights_in n text =
     if nat_le (space_count text) 1023 && are_numbers (space_count text) text then indexes_in n (space_count text) 65535 text
     else Err (fault.BadLine n)
 
--- what a line of a node says in a text of this version
-unfoldable pub node_on : ℕ → ℕ → List ℕ → Result Node CertFault
-node_on version n line =
-    if starts_with nat_eq line (codes "W ") && nat_le 2 version then ok_map node.Weights (weights_in n (drop 2 line))
-    else if bytes_eq line (codes "O") && nat_le 3 version then Ok node.OpenLeaf
-    else on_line n (node_in line)
+-- numbers two by two
+abbrev pub pairs_of : List ℕ → List Pair
+pairs_of [] = []
+pairs_of (k ∷ []) = []
+pairs_of (k ∷ x ∷ rest) = record { count = k; room = x } ∷ pairs_of rest
+
+-- the room of a pair is at most 12304
+abbrev pub is_room : Pair → Bool
+is_room pair = nat_le pair.room 12304
+
+-- the pairs that numbers are, two by two
+abbrev pub pairs_from : ℕ → List ℕ → Result (List Pair) CertFault
+pairs_from n numbers = if list_all is_room (pairs_of numbers) then Ok (pairs_of numbers) else Err (fault.Number n)
+
+-- so many spaces between as many words as 1 to 48 pairs have
+abbrev pub is_pair_count : ℕ → Bool
+is_pair_count spaces = nat_le spaces 95 && (spaces % 2 == 1)
+
+-- 1 to 48 pairs of words, each a count and a room; that they are numbers is judged of all before a range
+unfoldable pub groups_in : ℕ → List ℕ → Result (List Pair) CertFault
+groups_in n text =
+    if is_pair_count (space_count text) && are_numbers (space_count text) text then indexes_in n (space_count text) 65535 text >>= pairs_from n
+    else Err (fault.BadLine n)
+
+-- what a line of a node says, of a kind that every version has, or of one that the strong rules have
+unfoldable pub room_in : List ℕ → Result Node Wrong
+room_in line =
+    if starts_with nat_eq line (codes "N ") then ok_map (λ n. node.Count n.0 n.1) (pair_in 1 60 1486 (drop 2 line))
+    else if bytes_eq line (codes "M") then Ok node.Merge
+    else node_in line
+
+-- by the strong rules, or not
+abbrev pub kind_in : Bool → List ℕ → Result Node Wrong
+kind_in rooms line = if rooms then room_in line else node_in line
+
+-- what a line of a node says in a text that has leaves of these kinds
+unfoldable pub node_on : Kinds → ℕ → List ℕ → Result Node CertFault
+node_on kinds n line =
+    if starts_with nat_eq line (codes "W ") && kinds.weights then ok_map node.Weights (weights_in n (drop 2 line))
+    else if starts_with nat_eq line (codes "G ") && kinds.rooms then ok_map node.Groups (groups_in n (drop 2 line))
+    else if bytes_eq line (codes "O") && kinds.left_open then Ok node.OpenLeaf
+    else on_line n (kind_in kinds.rooms line)
 
 -- the line of a node, where the tree may have so many levels from it on
-unfoldable pub node_at : ℕ → ℕ → At → Result (Node × At) CertFault
-node_at version levels p = do
+unfoldable pub node_at : Kinds → ℕ → At → Result (Node × At) CertFault
+node_at kinds levels p = do
   l ← line_at p
-  h ← if bytes_eq l.0 (codes "end") then Err (fault.Early p.line) else node_on version p.line l.0
+  h ← if bytes_eq l.0 (codes "end") then Err (fault.Early p.line) else node_on kinds p.line l.0
   if levels == 0 then Err (fault.TooDeep p.line) else Ok (h, l.1)
 
 -- a node with what stands below its line
@@ -280,11 +333,14 @@ below one (node.FullLeaf t s) p = Ok (leaf (full t s), p)
 below one node.Average p = Ok (leaf average, p)
 below one (node.Weights w) p = Ok (leaf (weighted w), p)
 below one node.OpenLeaf p = Ok (open_leaf, p)
+below one node.Merge p = Ok (leaf merging, p)
+below one (node.Count q c) p = Ok (leaf (counted q c), p)
+below one (node.Groups pairs) p = Ok (leaf (grouped pairs), p)
 
 -- a tree of so many levels at most
-unfoldable pub tree_at : ℕ → ℕ → At → Result (Shape × At) CertFault
-tree_at version zero p = node_at version 0 p >>= (λ h. Err (fault.TooDeep p.line))
-tree_at version (suc d) p = node_at version (suc d) p >>= (λ h. below (tree_at version d) h.0 h.1)
+unfoldable pub tree_at : Kinds → ℕ → At → Result (Shape × At) CertFault
+tree_at kinds zero p = node_at kinds 0 p >>= (λ h. Err (fault.TooDeep p.line))
+tree_at kinds (suc d) p = node_at kinds (suc d) p >>= (λ h. below (tree_at kinds d) h.0 h.1)
 
 -- ---- the whole
 
@@ -307,7 +363,7 @@ parts_at version p = do
   best ← best_at (length units.0) order.1
   level ← level_at version best.1
   start ← start_at level.1
-  tree ← tree_at version 49 start
+  tree ← tree_at (kinds_in version level.0) 49 start
   last ← end_at tree.1
   Ok (record { version = version; slots = slots.0; units = units.0; order = order.0; best = best.0; level = level.0; tree = tree.0 })
 

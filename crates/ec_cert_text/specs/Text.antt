@@ -1,9 +1,10 @@
 -- The text of a certificate, line by line.
-use Rattle.std.specs.Prelude.{ℕ, List, [], ◌++◌, codes, Option, None, Some}
+use Rattle.std.specs.Prelude.{ℕ, nat_le, if◌then◌else◌, List, [], ◌++◌, codes, Option, None, Some}
 use Rattle.std.specs.List.{flat_map}
 use Rattle.std.specs.Fmt.{decimal}
 use Rattle.ec_units.specs.declared.slave.Place.{Place}
-use Rattle.ec_loads.specs.Shape.{Leaf, tick, full, average, weighted, Shape, split, leaf, open_leaf, Shapes, no_shapes, more, shape_count}
+use Rattle.ec_loads.specs.declared.pair.Pair.{Pair}
+use Rattle.ec_loads.specs.Shape.{Leaf, tick, full, average, weighted, merging, counted, grouped, Shape, split, leaf, open_leaf, Shapes, no_shapes, more, shape_count}
 use Rattle.ec_cert.specs.declared.lists.UnitLine.{UnitLine}
 use Rattle.ec_cert.specs.declared.cert.Best.{Best}
 use Rattle.ec_cert.specs.Shapes.{CertView}
@@ -34,10 +35,10 @@ abbrev pub best_lines : Option Best → List ℕ
 best_lines None = codes "value none\n"
 best_lines (Some b) = value_line b.busiest ++ flat_map place_line b.plan.places
 
--- the level, of a certificate that has one
-abbrev pub level_line : Option ℕ → List ℕ
-level_line None = []
-level_line (Some level) = codes "level " ++ (decimal level ++ codes "\n")
+-- the level, of a certificate that has one; from version 4 on a line says that there is none
+abbrev pub level_line : ℕ → Option ℕ → List ℕ
+level_line version None = if nat_le 4 version then codes "level none\n" else []
+level_line version (Some level) = codes "level " ++ (decimal level ++ codes "\n")
 
 abbrev pub split_line : ℕ → List ℕ
 split_line count = codes "S " ++ (decimal count ++ codes "\n")
@@ -51,12 +52,25 @@ full_line t s = codes "F " ++ (decimal t ++ (codes " " ++ (decimal s ++ codes "\
 abbrev pub weights_line : List ℕ → List ℕ
 weights_line w = codes "W" ++ (flat_map index_word w ++ codes "\n")
 
+abbrev pub count_line : ℕ → ℕ → List ℕ
+count_line period bytes = codes "N " ++ (decimal period ++ (codes " " ++ (decimal bytes ++ codes "\n")))
+
+-- a pair: how many groups, and their room
+abbrev pub pair_words : Pair → List ℕ
+pair_words pair = index_word pair.count ++ index_word pair.room
+
+abbrev pub groups_line : List Pair → List ℕ
+groups_line pairs = codes "G" ++ (flat_map pair_words pairs ++ codes "\n")
+
 -- the line of a leaf, by what closes it
 abbrev pub leaf_line : Leaf → List ℕ
 leaf_line (tick t) = tick_line t
 leaf_line (full t s) = full_line t s
 leaf_line average = codes "A\n"
 leaf_line (weighted w) = weights_line w
+leaf_line merging = codes "M\n"
+leaf_line (counted p c) = count_line p c
+leaf_line (grouped pairs) = groups_line pairs
 
 -- a line for each node, a node before its children
 abbrev mutual
@@ -75,4 +89,4 @@ tree_lines s = codes "tree\n" ++ (node_lines s ++ codes "end\n")
 -- the whole text
 abbrev pub certificate_text : CertView → List ℕ
 certificate_text c =
-    version_line c.version ++ (slots_line c.slots ++ (flat_map unit_line c.units ++ (order_line c.order ++ (best_lines c.best ++ (level_line c.level ++ tree_lines c.tree)))))
+    version_line c.version ++ (slots_line c.slots ++ (flat_map unit_line c.units ++ (order_line c.order ++ (best_lines c.best ++ (level_line c.version c.level ++ tree_lines c.tree)))))

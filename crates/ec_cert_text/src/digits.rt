@@ -3,10 +3,11 @@
 ghost use Rattle.std.specs.Prelude.{◌≡◌, ℕ, ◌+◌, ◌*◌, ◌<◌, ◌≤◌, ◌++◌, length, codes};
 ghost use Rattle.std.specs.Fmt.{decimal};
 ghost use Rattle.ec_cert.specs.WellFormed.{IsUnitLine};
-ghost use Rattle.ec_cert_text.specs.Text.{unit_line as unit_line_spec};
+ghost use Rattle.ec_cert_text.specs.Text.{unit_line as unit_line_spec, pair_words as pair_words_spec};
 
 use ec_cert::UnitLine;
 use ec_digits::{LineText, push_bytes, push_number};
+use ec_loads::Pair;
 
 /// A space and a number.
 pub(crate) fn number_word(number: usize) -> LineText
@@ -15,6 +16,18 @@ pub(crate) fn number_word(number: usize) -> LineText
     let mut line = LineText::new();
     line.push(b' ');
     push_number(&mut line, number);
+    line
+}
+
+/// The two numbers of a pair, each behind a space.
+pub(crate) fn pair_words(pair: Pair) -> LineText
+    ensures { result.items ≡ pair_words_spec pair }
+{
+    let mut line = LineText::new();
+    line.push(b' ');
+    push_number(&mut line, usize::from(pair.count));
+    line.push(b' ');
+    push_number(&mut line, usize::from(pair.room));
     line
 }
 

@@ -3,7 +3,7 @@
 ghost use Rattle.std.specs.Prelude.{◌≡◌, ℕ, ◌<◌, ◌≤◌, ◌++◌, true, length, IfOk, ◌+◌};
 ghost use Rattle.std.specs.Option.{option_map};
 ghost use Rattle.ec_units.specs.Names.{is_name as is_name_spec};
-ghost use Rattle.ec_cert_text.specs.Reading.{Gives, with_front, ok_map, slots_in as slots_in_spec, slots_at, unit_in as unit_in_spec, unit_at, first_unit_at, units_from, units_at, place_in as place_in_spec, place_at, many_from, value_in as value_in_spec, best_at, level_in as level_in_spec, level_line_at, level_at, start_at};
+ghost use Rattle.ec_cert_text.specs.Reading.{Gives, with_front, ok_map, slots_in as slots_in_spec, slots_at, unit_in as unit_in_spec, unit_at, first_unit_at, units_from, units_at, place_in as place_in_spec, place_at, many_from, value_in as value_in_spec, best_at, level_in as level_in_spec, level_line_at, level_or_none_in as level_or_none_in_spec, level_or_none_at, level_at, start_at};
 ghost use Rattle.ec_cert_text.specs.Views.{at_view, unit_view};
 
 use crate::fault::CertFault;
@@ -242,7 +242,30 @@ fn level_line_of(place: TextPlace<'_>) -> Result<(u64, TextPlace<'_>), CertFault
     }
 }
 
-/// The level in wire bytes, which texts have from version 3 on.
+/// A level, or that there is none.
+#[tactic(auto, unfolding(crate::specs::Reading::level_or_none_in))]
+fn level_or_none_in(line: &[u8]) -> Result<Option<u64>, Wrong>
+    ensures { result ≡ level_or_none_in_spec line.now }
+{
+    if line == b"level none".as_slice() {
+        return Ok(None);
+    }
+    let level = level_in(line)?;
+    Ok(Some(u64::from(level)))
+}
+
+#[tactic(auto, unfolding(crate::specs::Reading::level_or_none_at))]
+fn level_or_none_of(place: TextPlace<'_>) -> Result<(Option<u64>, TextPlace<'_>), CertFault>
+    ensures { Gives (λ x. (x.0, at_view x.1)) result (level_or_none_at (at_view place.entry)) }
+{
+    let (line, rest) = line_of(place)?;
+    match level_or_none_in(line) {
+        Ok(level) => Ok((level, rest)),
+        Err(wrong) => Err(fault_on(place.line, wrong)),
+    }
+}
+
+/// The level in wire bytes, which texts of version 3 have, and those from version 4 on may have.
 #[tactic(auto, unfolding(crate::specs::Reading::level_at))]
 pub(crate) fn level_of(
     version: u8,
@@ -250,6 +273,9 @@ pub(crate) fn level_of(
 ) -> Result<(Option<u64>, TextPlace<'_>), CertFault>
     ensures { Gives (λ x. (x.0, at_view x.1)) result (level_at version (at_view place.entry)) }
 {
+    if 4 <= version {
+        return level_or_none_of(place);
+    }
     if 3 <= version {
         let (level, rest) = level_line_of(place)?;
         return Ok((Some(level), rest));

@@ -4,6 +4,7 @@
 mod buffer;
 mod digits;
 mod fault;
+mod groups;
 mod head;
 mod indexes;
 mod law;

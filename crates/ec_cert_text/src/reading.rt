@@ -14,7 +14,7 @@ use crate::indexes::order_of;
 use crate::lines::line_of;
 use crate::nodes::tree_of;
 use crate::place::TextPlace;
-use ec_cert::{Cert, LEVELS};
+use ec_cert::{Cert, LEVELS, kinds_of};
 use std::alloc::Global;
 
 /// The most bytes of a certificate that is read.
@@ -58,6 +58,9 @@ fn version_of(text: &[u8]) -> Result<(u8, TextPlace<'_>), CertFault>
     if text.starts_with(b"ecplan 3\n") {
         return Ok((3, second_line(text)));
     }
+    if text.starts_with(b"ecplan 4\n") {
+        return Ok((4, second_line(text)));
+    }
     Err(CertFault::Version)
 }
 
@@ -89,7 +92,8 @@ fn parts_of(alloc: Global, version: u8, place: TextPlace<'_>) -> Result<Cert, Ce
     let (best, rest) = best_of(alloc, count, rest)?;
     let (level, rest) = level_of(version, rest)?;
     let rest = start_of(rest)?;
-    let (tree, rest) = tree_of(alloc, version, LEVELS, rest)?;
+    let kinds = kinds_of(version, level);
+    let (tree, rest) = tree_of(alloc, kinds, LEVELS, rest)?;
     end_of(rest)?;
     Ok(Cert {
         version,
@@ -116,7 +120,7 @@ fn cert_of(alloc: Global, text: &[u8]) -> Result<Cert, CertFault>
     parts_of(alloc, version, rest)
 }
 
-/// Reads the certificate, of version 1, 2 or 3, that a text is the text of. Of several faults the first in this order is
+/// Reads the certificate, of version 1 to 4, that a text is the text of. Of several faults the first in this order is
 /// answered: the length, the bytes, the first line, and then the first line at fault. Want of memory may come before
 /// another fault.
 pub fn read_cert(alloc: Global, text: &[u8]) -> Result<Cert, CertFault>

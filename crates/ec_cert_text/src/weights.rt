@@ -13,7 +13,7 @@ use std::alloc::Global;
 const MOST_WEIGHT: u32 = 65535;
 
 /// How many spaces bytes have.
-fn spaces(text: &[u8]) -> usize
+pub(crate) fn spaces(text: &[u8]) -> usize
     ensures { result ≡ space_count text.now }
 {
     let mut count = 0;
@@ -46,7 +46,12 @@ fn first_weights(
 
 /// The weights that so many words and one more are.
 #[tactic(auto, unfolding(crate::specs::Reading::indexes_in))]
-fn weights_of(alloc: Global, line: u32, more: u32, text: &[u8]) -> Result<Vec<u16>, CertFault>
+pub(crate) fn weights_of(
+    alloc: Global,
+    line: u32,
+    more: u32,
+    text: &[u8],
+) -> Result<Vec<u16>, CertFault>
     ensures { Gives (λ x. x.items) result (indexes_in line more 65535 text.now) }
 {
     let (mut weights, last) = first_weights(alloc, line, more, text)?;

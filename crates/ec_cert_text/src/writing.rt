@@ -1,6 +1,6 @@
 //! The text of a certificate, written without taking memory.
 
-ghost use Rattle.std.specs.Prelude.{◌≡◌, ℕ, ◌++◌, ◌<◌, ◌≤◌, false, true, length, codes, OnOk, OnErr};
+ghost use Rattle.std.specs.Prelude.{◌≡◌, ℕ, ◌++◌, ◌<◌, ◌≤◌, false, true, length, codes, None, OnOk, OnErr};
 ghost use Rattle.std.specs.Fmt.{decimal};
 ghost use Rattle.std.specs.List.{All, flat_map};
 ghost use Rattle.std.specs.Io.KnownBytes.{Appends};
@@ -8,11 +8,12 @@ ghost use Rattle.ec_wire.specs.Stream.{stream, has_failed, WritesFront};
 ghost use Rattle.ec_cert_text.specs.Waiting.{Gathers, GathersFront};
 ghost use Rattle.ec_cert.specs.Shapes.{shape_of, shapes_of, cert_view};
 ghost use Rattle.ec_cert.specs.WellFormed.{IsUnitLine, IsWellFormed};
-ghost use Rattle.ec_cert_text.specs.Text.{unit_line as unit_line_spec, index_word, order_line, place_line, best_lines, level_line, weights_line, node_lines, row_lines, tree_lines, certificate_text};
+ghost use Rattle.ec_cert_text.specs.Text.{unit_line as unit_line_spec, index_word, order_line, place_line, best_lines, level_line, weights_line, pair_words as pair_words_spec, groups_line, node_lines, row_lines, tree_lines, certificate_text};
 
 use crate::buffer::Waiting;
-use crate::digits::{number_line, number_word, pair_line, unit_line};
+use crate::digits::{number_line, number_word, pair_line, pair_words, unit_line};
 use ec_cert::{Best, Cert, Tree, UnitLine};
+use ec_loads::Pair;
 use ec_units::Place;
 use ec_wire::{Io, WriteFault};
 use std::io::Write;
@@ -103,18 +104,36 @@ fn write_best<W: Write>(
     }
 }
 
+/// Writes that there is no level, where texts of this version say so.
+fn write_no_level<W: Write>(
+    version: u8,
+    io: &mut Io<W>,
+    waiting: &mut Waiting,
+) -> Result<(), WriteFault>
+    ensures all { OnOk result (Gathers (W.contents (stream io.old)) waiting.old.bytes.items (W.contents (stream io.new)) waiting.new.bytes.items (level_line version None)) }
+    ensures front { GathersFront (W.contents (stream io.old)) waiting.old.bytes.items (W.contents (stream io.new)) (level_line version None) }
+    ensures ok { OnOk result (has_failed io.new ≡ has_failed io.old) }
+    ensures err { OnErr result (has_failed io.new ≡ true) }
+{
+    if 4 <= version {
+        return waiting.write(io, b"level none\n");
+    }
+    Ok(())
+}
+
 fn write_level<W: Write>(
+    version: u8,
     level: Option<u64>,
     io: &mut Io<W>,
     waiting: &mut Waiting,
 ) -> Result<(), WriteFault>
-    ensures all { OnOk result (Gathers (W.contents (stream io.old)) waiting.old.bytes.items (W.contents (stream io.new)) waiting.new.bytes.items (level_line level)) }
-    ensures front { GathersFront (W.contents (stream io.old)) waiting.old.bytes.items (W.contents (stream io.new)) (level_line level) }
+    ensures all { OnOk result (Gathers (W.contents (stream io.old)) waiting.old.bytes.items (W.contents (stream io.new)) waiting.new.bytes.items (level_line version level)) }
+    ensures front { GathersFront (W.contents (stream io.old)) waiting.old.bytes.items (W.contents (stream io.new)) (level_line version level) }
     ensures ok { OnOk result (has_failed io.new ≡ has_failed io.old) }
     ensures err { OnErr result (has_failed io.new ≡ true) }
 {
     match level {
-        None => Ok(()),
+        None => write_no_level(version, io, waiting),
         Some(level) => waiting.write(io, number_line(b"level ", level as usize).as_slice()),
     }
 }
@@ -146,6 +165,37 @@ fn write_weight_words<W: Write>(
 {
     'words: for weight in weights {
         waiting.write(io, number_word(usize::from(*weight)).as_slice())?;
+    }
+    Ok(())
+}
+
+fn write_groups<W: Write>(
+    pairs: &[Pair],
+    io: &mut Io<W>,
+    waiting: &mut Waiting,
+) -> Result<(), WriteFault>
+    ensures all { OnOk result (Gathers (W.contents (stream io.old)) waiting.old.bytes.items (W.contents (stream io.new)) waiting.new.bytes.items (groups_line pairs.now)) }
+    ensures front { GathersFront (W.contents (stream io.old)) waiting.old.bytes.items (W.contents (stream io.new)) (groups_line pairs.now) }
+    ensures ok { OnOk result (has_failed io.new ≡ has_failed io.old) }
+    ensures err { OnErr result (has_failed io.new ≡ true) }
+{
+    waiting.write(io, b"G")?;
+    write_pair_words(pairs, io, waiting)?;
+    waiting.write(io, b"\n")
+}
+
+fn write_pair_words<W: Write>(
+    pairs: &[Pair],
+    io: &mut Io<W>,
+    waiting: &mut Waiting,
+) -> Result<(), WriteFault>
+    ensures all { OnOk result (Gathers (W.contents (stream io.old)) waiting.old.bytes.items (W.contents (stream io.new)) waiting.new.bytes.items (flat_map pair_words_spec pairs.now)) }
+    ensures front { GathersFront (W.contents (stream io.old)) waiting.old.bytes.items (W.contents (stream io.new)) (flat_map pair_words_spec pairs.now) }
+    ensures ok { OnOk result (has_failed io.new ≡ has_failed io.old) }
+    ensures err { OnErr result (has_failed io.new ≡ true) }
+{
+    'words: for pair in pairs {
+        waiting.write(io, pair_words(*pair).as_slice())?;
     }
     Ok(())
 }
@@ -210,6 +260,17 @@ fn write_node<W: Write>(
         Tree::Average => waiting.write(io, b"A\n"),
         Tree::Weights(weights) => write_weights(weights.as_slice(), io, waiting),
         Tree::OpenLeaf => waiting.write(io, b"O\n"),
+        Tree::Merge => waiting.write(io, b"M\n"),
+        Tree::Count { period, bytes } => {
+            write_pair(
+                b"N ",
+                usize::from(*period),
+                usize::from(*bytes),
+                io,
+                waiting,
+            )
+        }
+        Tree::Groups(pairs) => write_groups(pairs.as_slice(), io, waiting),
     }
 }
 
@@ -268,7 +329,7 @@ fn write_lines<W: Write>(
     write_units(units, io, waiting)?;
     write_order(order, io, waiting)?;
     write_best(&cert.best, io, waiting)?;
-    write_level(cert.level, io, waiting)?;
+    write_level(cert.version, cert.level, io, waiting)?;
     write_tree(&cert.tree, io, waiting)
 }
 

@@ -11,4 +11,4 @@ decreases-trees_of l = 2 * l.levels + 1
 
 abbrev pub invariant-trees_of-children : goal.invariant-trees_of-children
 invariant-trees_of-children l =
-    with_front (tree_views l.trees.items) (many_from (tree_at l.version l.levels) (l.count - l.counter) (at_view l.rest)) ≡ many_from (tree_at l.version l.levels) l.count (at_view l.place)
+    with_front (tree_views l.trees.items) (many_from (tree_at l.kinds l.levels) (l.count - l.counter) (at_view l.rest)) ≡ many_from (tree_at l.kinds l.levels) l.count (at_view l.place)

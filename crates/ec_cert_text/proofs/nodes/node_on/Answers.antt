@@ -1,4 +1,4 @@
-use Rattle.std.proofs.Common.{rules, arith}
+use Rattle.std.proofs.Common.{arith}
 use Rattle.std.proofs.lemmas.Grind.{common_steps}
 use Rattle.ec_cert_text.proofs.nodes.node_on.Goals as goal
 
@@ -6,10 +6,14 @@ pub returns-in_err-weights : goal.returns-in_err-weights
 unfolding Rattle.ec_cert_text.specs.Reading.node_on
 returns-in_err-weights c = grind (arith, common_steps)
 
-pub returns-then-version-ge2 : goal.returns-then-version-ge2
+pub returns-then-kinds : goal.returns-then-kinds
 unfolding Rattle.ec_cert_text.specs.Reading.node_on
-returns-then-version-ge2 c = grind (arith, common_steps)
+returns-then-kinds c = grind (arith, common_steps)
 
-pub returns-then-version-ge3 : goal.returns-then-version-ge3
+pub returns-then-kinds-2 : goal.returns-then-kinds-2
 unfolding Rattle.ec_cert_text.specs.Reading.node_on
-returns-then-version-ge3 c = search rules
+returns-then-kinds-2 c = grind (arith, common_steps)
+
+pub returns-then-kinds-3 : goal.returns-then-kinds-3
+unfolding Rattle.ec_cert_text.specs.Reading.node_on
+returns-then-kinds-3 c = grind (arith, common_steps)
