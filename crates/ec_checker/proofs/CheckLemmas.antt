@@ -1,13 +1,13 @@
 -- From what is found in a certificate to what the checker answers.
 -- `refutes` and `plan_refutes` also serve `ec_jobs` (`OneCheck`), where each certificate has one answer.
-use Rattle.std.proofs.Common.{◌≡◌, ℕ, Bool, List, length, Option, Some, None, Result, Ok, Err, refl, sym, subst, ◌∙◌, ◌<◌, arith}
+use Rattle.std.proofs.Common.{◌≡◌, ℕ, List, length, Option, Some, None, Result, Ok, Err, refl, sym, subst, ◌∙◌, ◌<◌, arith}
 use Rattle.std.proofs.lemmas.List.{length-map}
 use Rattle.ec_units.specs.declared.unit.Unit.{Unit as SyncUnit}
 use Rattle.ec_units.specs.declared.unit.Load.{Load}
 use Rattle.ec_units.specs.Load.{load_of, loads_of}
 use Rattle.ec_loads.specs.Cost.{plan_items}
 use Rattle.ec_loads.specs.Held.{Held, AreLoads, no_places}
-use Rattle.ec_loads.specs.Line.{Line, rules_if, line_by}
+use Rattle.ec_loads.specs.Line.{Rules, Line, line_by}
 use Rattle.ec_loads.specs.Search.{TreeWith}
 use Rattle.ec_loads.specs.Shape.{Shape}
 use Rattle.ec_loads.proofs.CostLemmas.{one_busiest}
@@ -125,8 +125,8 @@ refutes units n c (fault.Depth k) other h = λ is. (node_from units n c (fault.D
 refutes units n c (fault.Level l v) other h = λ is. level_above c.level (value_of c.best) l v h.3 h.4 h.5 is.head.level
 
 -- what the walk found
-pub found_is : (loads : List Load) (n : ℕ) (c : CertView) (held : Held) (turned : Bool) (value level : Option ℕ) (order : List ℕ) (r : Result ℕ CheckFault) → held ≡ record { loads = loads; slots = n; places = no_places loads } → rules_if turned ≡ rules_of c.version → value ≡ value_of c.best → level ≡ c.level → order ≡ c.order → r ≡ tree_judged (line_by (rules_if turned) held.loads held.slots) value level c.tree held.places order 0 → r ≡ tree_found loads n c
-found_is loads n c held turned value level order r at by val low ord is = is ∙ (λ j. tree_judged (line_by (by j) (at j).loads (at j).slots) (val j) (low j) c.tree (at j).places (ord j) 0)
+pub found_is : (loads : List Load) (n : ℕ) (c : CertView) (held : Held) (rules : Rules) (value level : Option ℕ) (order : List ℕ) (r : Result ℕ CheckFault) → held ≡ record { loads = loads; slots = n; places = no_places loads } → rules ≡ rules_of c.version → value ≡ value_of c.best → level ≡ c.level → order ≡ c.order → r ≡ tree_judged (line_by rules held.loads held.slots) value level c.tree held.places order 0 → r ≡ tree_found loads n c
+found_is loads n c held rules value level order r at by val low ord is = is ∙ (λ j. tree_judged (line_by (by j) (at j).loads (at j).slots) (val j) (low j) c.tree (at j).places (ord j) 0)
 
 -- what is found in a tree is never want of memory
 pub tree_memory : (units : List SyncUnit) (n : ℕ) (c : CertView) (e : CheckFault) → tree_found (loads_of units) n c ≡ Err e → e ≡ fault.OutOfMemory → ⊥

@@ -1,8 +1,8 @@
 -- What is found in a tree: it is one, or it isn't and the fault is a node's.
-use Rattle.std.proofs.Common.{◌≡◌, ℕ, suc, ◌+◌, ◌*◌, ◌<◌, ◌≤◌, ◌%◌, ◌==◌, ◌&&◌, ◌||◌, nat_le, nat_lt, if◌then◌else◌, Bool, true, false, List, [], ◌∷◌, length, set, get_or, Option, Some, None, Result, Ok, Err, MatchResult, refl, ap, sym, subst, ◌∙◌, inl, inr, arith}
+use Rattle.std.proofs.Common.{◌≡◌, ◌↔◌, IsTrue, ℕ, suc, ◌+◌, ◌-◌, ◌*◌, count_by, ◌<◌, ◌≤◌, ◌%◌, ◌==◌, ◌&&◌, ◌||◌, nat_le, nat_lt, if◌then◌else◌, Bool, true, false, List, [], ◌∷◌, length, set, get_or, Option, Some, None, Result, Ok, Err, MatchResult, refl, ap, sym, subst, ◌∙◌, inl, inr, arith}
 use Rattle.std.proofs.Math.Bool.{or-true}
-use Rattle.std.proofs.lemmas.Bool.{eqb-true, eq-eqb, leb-true, le-leb, ltb-true, lt-ltb, or_cases, false≢true}
-use Rattle.std.specs.List.{list_any, range_with_len}
+use Rattle.std.proofs.lemmas.Bool.{eqb-true, eq-eqb, leb-true, le-leb, ltb-true, lt-ltb, or_cases, or_left, or_right, cases_lt, false≢true}
+use Rattle.std.specs.List.{AllZip, list_any, range_with_len}
 use Rattle.std.proofs.lemmas.List.Folds.{list_any_at}
 use Rattle.std.proofs.lemmas.List.FromFn.{length-range_with_len, get_or-range_with_len}
 use Rattle.std.proofs.lemmas.Nat.{mod_below}
@@ -11,10 +11,13 @@ use Rattle.ec_hyper.proofs.LcmLemmas.{lcm_of-pos}
 use Rattle.ec_units.specs.declared.slave.Place.{Place}
 use Rattle.ec_units.specs.declared.unit.Load.{Load}
 use Rattle.ec_units.specs.Load.{periods_of}
-use Rattle.ec_loads.specs.Cost.{items, payload, tick_cost}
+use Rattle.ec_loads.specs.Cost.{items, payload, raw_cost, tick_cost, sum_below}
 use Rattle.ec_loads.specs.Held.{AreLoads}
-use Rattle.ec_loads.specs.Line.{Line}
-use Rattle.ec_loads.specs.Shape.{Leaf, tick, full, average, weighted, Shape, Shapes, split, leaf, open_leaf, no_shapes, more, shape_count}
+use Rattle.ec_loads.specs.declared.item.Item.{Item}
+use Rattle.ec_loads.specs.declared.pair.Pair.{Pair}
+use Rattle.ec_loads.specs.Line.{Rules, slots_alone, turned_time, strong, IsStrong, Line}
+use Rattle.ec_loads.specs.Rooms.{MergeHolds, CountHolds, GroupsHold, AreGroups, IsNeeded, unplaced, is_above_slot_0, is_large, room_count, periods_in, bytes_at, room_below, group_bytes, sent_bytes}
+use Rattle.ec_loads.specs.Shape.{Leaf, tick, full, average, weighted, merging, counted, grouped, Shape, Shapes, split, leaf, open_leaf, no_shapes, more, shape_count}
 use Rattle.ec_loads.specs.Search.{Prefix, children, least_raw, TickHolds, FullHolds, AverageHolds, LevelHolds, LeafHolds, TreeWith, TreesWith}
 use Rattle.ec_loads.specs.Weights.{total_weight, weighted_raw, weighted_demand, WeightsHold}
 use Rattle.ec_loads.proofs.CostLemmas.{tick_cost-mod}
@@ -22,7 +25,7 @@ use Rattle.ec_loads.proofs.ItemLemmas.{positive_loads, DivideAll-loads}
 use Rattle.ec_checker.specs.declared.fault.CheckFault.{CheckFault}
 use Rattle.ec_checker.specs.declared.fault.CheckFault.TheVariants as fault
 use Rattle.ec_checker.specs.Certified.{IsNodeFault}
-use Rattle.ec_checker.specs.Judged.{next, tick_holds, full_holds, average_holds, weights_hold, tick_reaches, level_holds, leaf_holds, leaf_judged, then_judged, tree_judged, trees_judged}
+use Rattle.ec_checker.specs.Judged.{next, tick_holds, full_holds, average_holds, weights_hold, is_strong, merge_holds, count_holds, is_needed, all_needed, groups_hold, tick_reaches, level_holds, leaf_holds, leaf_judged, then_judged, tree_judged, trees_judged}
 
 -- yes where it holds, and else the fault of a node
 abbrev pub Found : Type 0 → Result ℕ CheckFault → Type 0
@@ -105,12 +108,118 @@ weights_to loads n (Some b) ps w h =
 found_weights : (loads : List Load) (n : ℕ) (v : Option ℕ) (ps : Prefix) (w : List ℕ) (k : ℕ) → Found (WeightsHold loads n v ps w) (leaf_judged (weights_hold loads n v ps w) k)
 found_weights loads n v ps w k = found_leaf (WeightsHold loads n v ps w) (weights_hold loads n v ps w) k (weights_from loads n v ps w) (weights_to loads n v ps w)
 
+-- the tests of the leaves of the strong rules say whether they hold
+pub merge_from : (v : Option ℕ) (ps : Prefix) → merge_holds v ps ≡ true → MergeHolds v ps
+merge_from None ps e = absurd (false≢true e)
+merge_from (Some b) ps e = let p = and_parts (nat_le b 1579) (list_any is_above_slot_0 ps) e in (b, refl, leb-true b 1579 p.0, p.1)
+
+pub merge_to : (v : Option ℕ) (ps : Prefix) → MergeHolds v ps → merge_holds v ps ≡ true
+merge_to None ps h = let e = h.1 in absurd cc
+merge_to (Some b) ps h =
+    let e : b ≡ h.0 = cc in
+    let low = le-leb b 1579 (subst (λ w. w ≤ 1579) (sym e) h.2) in
+    λ j. low j && h.3 j
+
+pub count_from : (loads : List Load) (n : ℕ) (v : Option ℕ) (ps : Prefix) (p c : ℕ) → count_holds loads n v ps p c ≡ true → CountHolds loads n v ps p c
+count_from loads n None ps p c e = absurd (false≢true e)
+count_from loads n (Some b) ps p c e =
+    let many = count_by (is_large p c) (unplaced loads ps) in
+    let rooms = room_count (items loads ps) n (lcm_of (periods_of loads)) b p c in
+    let t = and_parts (nat_lt 0 c) (nat_lt rooms many) e in
+    (b, refl, ltb-true 0 c t.0, ltb-true rooms many t.1)
+
+pub count_to : (loads : List Load) (n : ℕ) (v : Option ℕ) (ps : Prefix) (p c : ℕ) → CountHolds loads n v ps p c → count_holds loads n v ps p c ≡ true
+count_to loads n None ps p c h = let e = h.1 in absurd cc
+count_to loads n (Some b) ps p c h =
+    let many = count_by (is_large p c) (unplaced loads ps) in
+    let e : b ≡ h.0 = cc in
+    let above = lt-ltb (room_count (items loads ps) n (lcm_of (periods_of loads)) b p c) many (subst (λ w. room_count (items loads ps) n (lcm_of (periods_of loads)) w p c < many) (sym e) h.3) in
+    let some = lt-ltb 0 c h.2 in
+    λ j. some j && above j
+
+needed_from : (xs : List Item) (n h b : ℕ) (ls : List Load) (p : ℕ) (pair : Pair) → is_needed xs n h b ls p pair ≡ true → IsNeeded xs n h b ls p pair
+needed_from xs n h b ls p pair e = λ some. elim (or_cases (nat_lt pair.count 1) (nat_lt (room_below xs n h b p pair) (bytes_at p ls)) e) [
+  | inl none ↦ let low = ltb-true pair.count 1 none in absurd (omega (arith, low, some))
+  | inr above ↦ ltb-true (room_below xs n h b p pair) (bytes_at p ls) above
+]
+
+needed_to : (xs : List Item) (n h b : ℕ) (ls : List Load) (p : ℕ) (pair : Pair) → IsNeeded xs n h b ls p pair → is_needed xs n h b ls p pair ≡ true
+needed_to xs n h b ls p pair needed = elim (cases_lt pair.count 1) [
+  | inl none ↦ or_left (nat_lt pair.count 1) (nat_lt (room_below xs n h b p pair) (bytes_at p ls)) (lt-ltb pair.count 1 none)
+  | inr some ↦ or_right (nat_lt pair.count 1) (nat_lt (room_below xs n h b p pair) (bytes_at p ls)) (lt-ltb (room_below xs n h b p pair) (bytes_at p ls) (needed some))
+]
+
+all_from : (xs : List Item) (n h b : ℕ) (ls : List Load) (ps : List ℕ) (pairs : List Pair) → all_needed xs n h b ls ps pairs ≡ true → AllZip (IsNeeded xs n h b ls) ps pairs
+all_from xs n h b ls [] [] e = tt
+all_from xs n h b ls [] (pair ∷ pairs) e = absurd (false≢true e)
+all_from xs n h b ls (p ∷ ps) [] e = absurd (false≢true e)
+all_from xs n h b ls (p ∷ ps) (pair ∷ pairs) e =
+    let t = and_parts (is_needed xs n h b ls p pair) (all_needed xs n h b ls ps pairs) e in
+    (needed_from xs n h b ls p pair t.0, all_from xs n h b ls ps pairs t.1)
+
+all_to : (xs : List Item) (n h b : ℕ) (ls : List Load) (ps : List ℕ) (pairs : List Pair) → AllZip (IsNeeded xs n h b ls) ps pairs → all_needed xs n h b ls ps pairs ≡ true
+all_to xs n h b ls [] [] a = refl
+all_to xs n h b ls [] (pair ∷ pairs) a = absurd a
+all_to xs n h b ls (p ∷ ps) [] a = absurd a
+all_to xs n h b ls (p ∷ ps) (pair ∷ pairs) a =
+    let first = needed_to xs n h b ls p pair a.0 in
+    let rest = all_to xs n h b ls ps pairs a.1 in
+    λ j. first j && rest j
+
+-- the bytes of a hyperperiod with the new groups
+abbrev bytes_with : List Load → ℕ → Prefix → List Pair → ℕ
+bytes_with loads n ps pairs =
+    sum_below (raw_cost (items loads ps) n) (lcm_of (periods_of loads)) + sent_bytes (lcm_of (periods_of loads)) (unplaced loads ps) + group_bytes (lcm_of (periods_of loads)) (periods_in (unplaced loads ps)) pairs
+
+groups_at : (loads : List Load) (n b : ℕ) (ps : Prefix) (pairs : List Pair) → AreGroups loads n b ps pairs → groups_hold loads n (Some b) ps pairs ≡ true
+groups_at loads n b ps pairs h =
+    let m = lcm_of (periods_of loads) in
+    let ls = unplaced loads ps in
+    let some = lt-ltb 0 (length ls) h.some in
+    let all = all_to (items loads ps) n m b ls (periods_in ls) pairs h.needed in
+    let above = lt-ltb ((b - 1) * m) (bytes_with loads n ps pairs) h.above in
+    λ j. some j && (all j && above j)
+
+pub groups_from : (loads : List Load) (n : ℕ) (v : Option ℕ) (ps : Prefix) (pairs : List Pair) → groups_hold loads n v ps pairs ≡ true → GroupsHold loads n v ps pairs
+groups_from loads n None ps pairs e = absurd (false≢true e)
+groups_from loads n (Some b) ps pairs e =
+    let m = lcm_of (periods_of loads) in
+    let ls = unplaced loads ps in
+    let needed = all_needed (items loads ps) n m b ls (periods_in ls) pairs in
+    let above = nat_lt ((b - 1) * m) (bytes_with loads n ps pairs) in
+    let t = and_parts (nat_lt 0 (length ls)) (needed && above) e in
+    let u = and_parts needed above t.1 in
+    (b, refl, record { some = ltb-true 0 (length ls) t.0; needed = all_from (items loads ps) n m b ls (periods_in ls) pairs u.0; above = ltb-true ((b - 1) * m) (bytes_with loads n ps pairs) u.1 })
+
+pub groups_to : (loads : List Load) (n : ℕ) (v : Option ℕ) (ps : Prefix) (pairs : List Pair) → GroupsHold loads n v ps pairs → groups_hold loads n v ps pairs ≡ true
+groups_to loads n None ps pairs h = let e = h.1 in absurd cc
+groups_to loads n (Some b) ps pairs h =
+    let e : b ≡ h.0 = cc in
+    groups_at loads n b ps pairs (subst (λ w. AreGroups loads n w ps pairs) (sym e) h.2)
+
+-- a test that says whether something holds is any other one that does
+pub same_test : (a b : Bool) (P : Type 0) → IsTrue a ↔ P → (b ≡ true → P) → (P → b ≡ true) → a ≡ b
+same_test true b P is to back = sym (back (is.0 refl))
+same_test false true P is to back = is.1 (to refl)
+same_test false false P is to back = refl
+
+-- such a test, which counts by the strong rules alone
+found_strong : (rules : Rules) (P : Type 0) (b : Bool) (k : ℕ) → (b ≡ true → P) → (P → b ≡ true) → Found (IsStrong rules × P) (leaf_judged (is_strong rules && b) k)
+found_strong slots_alone P b k to back = (tt, λ h. h.0)
+found_strong turned_time P b k to back = (tt, λ h. h.0)
+found_strong strong P b k to back = found_leaf (IsStrong strong × P) b k (λ e. (tt, to e)) (λ h. back h.1)
+
 -- by what closes the leaf
 found_closed : (line : Line) (v : Option ℕ) (ps : Prefix) (l : Leaf) (k : ℕ) → Found (LeafHolds line v ps l) (leaf_judged (leaf_holds line v ps l) k)
 found_closed line v ps (tick t) k = found_tick line.loads line.slots v ps t k
 found_closed line v ps (full t s) k = found_full line.loads line.slots ps t s k
 found_closed line v ps average k = found_average line.loads line.slots v ps k
 found_closed line v ps (weighted w) k = found_weights line.loads line.slots v ps w k
+found_closed line v ps merging k = found_strong line.rules (MergeHolds v ps) (merge_holds v ps) k (merge_from v ps) (merge_to v ps)
+found_closed line v ps (counted p c) k =
+    found_strong line.rules (CountHolds line.loads line.slots v ps p c) (count_holds line.loads line.slots v ps p c) k (count_from line.loads line.slots v ps p c) (count_to line.loads line.slots v ps p c)
+found_closed line v ps (grouped pairs) k =
+    found_strong line.rules (GroupsHold line.loads line.slots v ps pairs) (groups_hold line.loads line.slots v ps pairs) k (groups_from line.loads line.slots v ps pairs) (groups_to line.loads line.slots v ps pairs)
 
 -- the test of a level says whether it holds
 below_is : (line : Line) (l : ℕ) (ps : Prefix) (t : ℕ) → nat_le l (tick_cost (items line.loads ps) line.slots t) ≡ true → TickHolds line.loads line.slots (Some l) ps t

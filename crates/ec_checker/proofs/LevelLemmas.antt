@@ -1,12 +1,12 @@
 -- The level at an open leaf, and the greatest one of all open leaves.
-use Rattle.std.proofs.Common.{◌≡◌, ◌↔◌, ℕ, ◌+◌, ◌<◌, ◌≤◌, min, max, is_some, MatchOption, List, [], ◌∷◌, length, set, drop, get_or, Option, Some, None, Vec, Global, refl, ap, sym, subst, ◌∙◌, inl, inr, arith, rules}
+use Rattle.std.proofs.Common.{◌≡◌, ◌↔◌, ℕ, ◌+◌, ◌<◌, ◌≤◌, min, max, is_some, MatchOption, List, [], ◌∷◌, length, set, drop, get_or, Option, Some, None, Vec, Global, refl, sym, subst, inl, inr, arith, rules}
 use Rattle.std.proofs.lemmas.Bool.{cases_lt, false_from_ne_true}
 use Rattle.std.proofs.lemmas.List.{drop_all}
 use Rattle.ec_units.specs.declared.slave.Place.{Place}
 use Rattle.ec_units.specs.declared.unit.Load.{Load}
 use Rattle.ec_loads.specs.Cost.{IsFirstBusiest}
 use Rattle.ec_loads.specs.Held.{Held, AreLoads, items_of, no_places}
-use Rattle.ec_loads.specs.Line.{Line, turned_time, line_of, line_by}
+use Rattle.ec_loads.specs.Line.{Rules, Line, line_of, line_by}
 use Rattle.ec_loads.specs.Search.{Prefix, children, TickHolds, AverageHolds, LevelHolds, TreeWith, TreesWith, IsPartialTree, IsAtMost, open_count, open_counts}
 use Rattle.ec_loads.specs.Shape.{Shape, Shapes, split, leaf, open_leaf, no_shapes, more}
 use Rattle.ec_bounds.proofs.HeldLemmas.{with_place}
@@ -34,14 +34,14 @@ pub reaches_is : (line : Line) (l given : ℕ) (ps : Prefix) (found : Option ℕ
 reaches_is line l given ps found within same tells = reaches_same line l ps found within (subst (λ w. TickFound line w ps found) same tells)
 
 -- the greatest level at an open leaf
-pub open_most : (held : Held) (top at mean r : ℕ) → IsFirstBusiest (items_of held) held.slots top at → ((b : ℕ) → (b ≤ mean) ↔ AverageHolds held.loads held.slots (Some b) held.places) → r ≡ max top mean
-    → (m : ℕ) → (m ≤ r) ↔ LevelHolds (line_of turned_time held) (Some m) held.places
-open_most held top at mean r busiest all is m = (
+pub open_most : (rules : Rules) (held : Held) (top at mean r : ℕ) → IsFirstBusiest (items_of held) held.slots top at → ((b : ℕ) → (b ≤ mean) ↔ AverageHolds held.loads held.slots (Some b) held.places) → r ≡ max top mean
+    → (m : ℕ) → (m ≤ r) ↔ LevelHolds (line_of rules held) (Some m) held.places
+open_most rules held top at mean r busiest all is m = (
   λ low. elim (cases_lt top m) [
     | inr under ↦ inl (at, (m, refl, omega (arith, under, busiest.reached)))
     | inl above ↦ inr ((all m).0 (omega (arith, low, is, above)))
   ],
-  λ (holds : LevelHolds (line_of turned_time held) (Some m) held.places). elim holds [
+  λ (holds : LevelHolds (line_of rules held) (Some m) held.places). elim holds [
     | inl h ↦ let e : m ≡ h.1.0 = cc in let most = busiest.busiest.most h.0 in omega (arith, e, h.1.2, most, is)
     | inr h ↦ let low = (all m).1 h in omega (arith, low, is)
   ],
@@ -54,16 +54,16 @@ abbrev pub AreLowered : Line → Shapes → Prefix → ℕ → List ℕ → List
 AreLowered line ss ps u order places most least =
     (v : Option ℕ) → TreesWith (λ _ _. Unit {0}) line v ss ps u order places → (m : ℕ) → ((m ≤ least) ↔ ((m ≤ most) × TreesWith (λ qs _. LevelHolds line (Some m) qs) line v ss ps u order places))
 
-abbrev pub lowered_from : Held → List Tree → ℕ → List ℕ → List Place → ℕ → ℕ → Type 0
-lowered_from held ts u order places most least = AreLowered (line_of turned_time held) (shapes_of ts) held.places u order places most least
+abbrev pub lowered_from : Rules → Held → List Tree → ℕ → List ℕ → List Place → ℕ → ℕ → Type 0
+lowered_from rules held ts u order places most least = AreLowered (line_of rules held) (shapes_of ts) held.places u order places most least
 
-abbrev pub turned_kids : Held → ℕ → List Place
-turned_kids held u = children (line_of turned_time held) held.places u
+abbrev pub kids_of : Rules → Held → ℕ → List Place
+kids_of rules held u = children (line_of rules held) held.places u
 
 -- what holds from here on gives what holds from the start
-abbrev pub Lowers : Held → List Tree → ℕ → List ℕ → List Place → ℕ → ℕ → ℕ → Type 0
-Lowers held trees u order places i level so_far =
-    (least : ℕ) → lowered_from held (drop i trees) u order places so_far least → lowered_from held trees u order (turned_kids held u) level least
+abbrev pub Lowers : Rules → Held → List Tree → ℕ → List ℕ → List Place → ℕ → ℕ → ℕ → Type 0
+Lowers rules held trees u order places i level so_far =
+    (least : ℕ) → lowered_from rules held (drop i trees) u order places so_far least → lowered_from rules held trees u order (kids_of rules held u) level least
 
 one_more : (line : Line) (s : Shape) (ss : Shapes) (ps : Prefix) (u : ℕ) (order : List ℕ) (p : Place) (rest : List Place) (most so_far least : ℕ) → IsLowered line s (set ps u (Some p)) order most so_far → AreLowered line ss ps u order rest so_far least → AreLowered line (more s ss) ps u order (p ∷ rest) most least
 one_more line s ss ps u order p rest most so_far least one two v h m = (
@@ -72,15 +72,15 @@ one_more line s ss ps u order p rest most so_far least one two v h m = (
 )
 
 -- one more child, to which what is so far is given
-pub lowered_step : (held placed : Held) (ts : List Tree) (u : ℕ) (order : List ℕ) (ps rest : List Place) (p : Place) (i most given so_far least : ℕ) (t : Tree) → i < length ts → t ≡ get_or ts i t → ps ≡ p ∷ rest → placed ≡ with_place held u (Some p) → given ≡ most
-    → IsLowered (line_of turned_time placed) (shape_of t) placed.places order given so_far → lowered_from held (drop (i + 1) ts) u order rest so_far least → lowered_from held (drop i ts) u order ps most least
-lowered_step held placed ts u order ps rest p i most given so_far least t h is first made same one two =
-    let line = line_of turned_time held in
+pub lowered_step : (rules : Rules) (held placed : Held) (ts : List Tree) (u : ℕ) (order : List ℕ) (ps rest : List Place) (p : Place) (i most given so_far least : ℕ) (t : Tree) → i < length ts → t ≡ get_or ts i t → ps ≡ p ∷ rest → placed ≡ with_place held u (Some p) → given ≡ most
+    → IsLowered (line_of rules placed) (shape_of t) placed.places order given so_far → lowered_from rules held (drop (i + 1) ts) u order rest so_far least → lowered_from rules held (drop i ts) u order ps most least
+lowered_step rules held placed ts u order ps rest p i most given so_far least t h is first made same one two =
+    let line = line_of rules held in
     let here : IsLowered line (shape_of (get_or ts i t)) (set held.places u (Some p)) order most so_far =
     subst (λ x. IsLowered line (shape_of x) (set held.places u (Some p)) order most so_far) is
-    (subst (λ (w : Held). IsLowered (line_of turned_time w) (shape_of t) w.places order most so_far) made
-    (subst (λ w. IsLowered (line_of turned_time placed) (shape_of t) placed.places order w so_far) same one)) in
-    subst (λ w. lowered_from held (drop i ts) u order w most least) (sym first)
+    (subst (λ (w : Held). IsLowered (line_of rules w) (shape_of t) w.places order most so_far) made
+    (subst (λ w. IsLowered (line_of rules placed) (shape_of t) placed.places order w so_far) same one)) in
+    subst (λ w. lowered_from rules held (drop i ts) u order w most least) (sym first)
     (subst (λ s. AreLowered line s held.places u order (p ∷ rest) most least) (sym (shapes_of-drop ts i t h))
     (one_more line (shape_of (get_or ts i t)) (shapes_of (drop (i + 1) ts)) held.places u order p rest most so_far least here two))
 
@@ -108,37 +108,37 @@ mutual
       (tree_closed f g line v t (set ps u (Some p)) order (omega (arith, none)) h.0, trees_closed f g line v ts ps u order rest (omega (arith, none)) h.1)
 
 -- a child with no open leaf lowers no level
-pub lowered_skip : (held : Held) (ts : List Tree) (u : ℕ) (order : List ℕ) (ps rest : List Place) (p : Place) (i most least : ℕ) (t : Tree) → i < length ts → t ≡ get_or ts i t → ps ≡ p ∷ rest → open_count (shape_of t) ≡ 0
-    → lowered_from held (drop (i + 1) ts) u order rest most least → lowered_from held (drop i ts) u order ps most least
-lowered_skip held ts u order ps rest p i most least t h is first none two =
-    let line = line_of turned_time held in
+pub lowered_skip : (rules : Rules) (held : Held) (ts : List Tree) (u : ℕ) (order : List ℕ) (ps rest : List Place) (p : Place) (i most least : ℕ) (t : Tree) → i < length ts → t ≡ get_or ts i t → ps ≡ p ∷ rest → open_count (shape_of t) ≡ 0
+    → lowered_from rules held (drop (i + 1) ts) u order rest most least → lowered_from rules held (drop i ts) u order ps most least
+lowered_skip rules held ts u order ps rest p i most least t h is first none two =
+    let line = line_of rules held in
     let below = with_place held u (Some p) in
     let same : IsLowered line (shape_of t) below.places order most most = λ v all m. (λ low. (low, tree_closed (λ _ _. Unit {0}) (λ qs _. LevelHolds line (Some m) qs) line v (shape_of t) below.places order none all), λ q. q.0) in
-    lowered_step held below ts u order ps rest p i most most most least t h is first refl refl same two
+    lowered_step rules held below ts u order ps rest p i most most most least t h is first refl refl same two
 
 -- no child is left
-pub lowered_no_child : (held : Held) (ts : List Tree) (u : ℕ) (order : List ℕ) (ps : List Place) (most : ℕ) → ps ≡ [] → lowered_from held ts u order ps most most
-lowered_no_child held ts u order ps most e =
-    subst (λ w. lowered_from held ts u order w most most) (sym e) (none_left (line_of turned_time held) (shapes_of ts) held.places u order most)
+pub lowered_no_child : (rules : Rules) (held : Held) (ts : List Tree) (u : ℕ) (order : List ℕ) (ps : List Place) (most : ℕ) → ps ≡ [] → lowered_from rules held ts u order ps most most
+lowered_no_child rules held ts u order ps most e =
+    subst (λ w. lowered_from rules held ts u order w most most) (sym e) (none_left (line_of rules held) (shapes_of ts) held.places u order most)
 
 -- no tree is left
-pub lowered_no_tree : (held : Held) (ts : List Tree) (u : ℕ) (order : List ℕ) (ps : List Place) (i most : ℕ) → length ts ≤ i → lowered_from held (drop i ts) u order ps most most
-lowered_no_tree held ts u order ps i most h =
-    subst (λ w. lowered_from held w u order ps most most) (sym (drop_all i ts h)) (no_trees_left (line_of turned_time held) held.places u order ps most)
+pub lowered_no_tree : (rules : Rules) (held : Held) (ts : List Tree) (u : ℕ) (order : List ℕ) (ps : List Place) (i most : ℕ) → length ts ≤ i → lowered_from rules held (drop i ts) u order ps most most
+lowered_no_tree rules held ts u order ps i most h =
+    subst (λ w. lowered_from rules held w u order ps most most) (sym (drop_all i ts h)) (no_trees_left (line_of rules held) held.places u order ps most)
 
 -- a split, by its trees
-pub lowered_split : (held : Held) (tree : Tree) (trees : Vec Tree Global) (order later : List ℕ) (u most least : ℕ) → shape_of tree ≡ split (shapes_of trees.items) → order ≡ u ∷ later → lowered_from held trees.items u later (turned_kids held u) most least
-    → IsLowered (line_of turned_time held) (shape_of tree) held.places order most least
-lowered_split held tree trees order later u most least is from all =
-    let line = line_of turned_time held in
+pub lowered_split : (rules : Rules) (held : Held) (tree : Tree) (trees : Vec Tree Global) (order later : List ℕ) (u most least : ℕ) → shape_of tree ≡ split (shapes_of trees.items) → order ≡ u ∷ later → lowered_from rules held trees.items u later (kids_of rules held u) most least
+    → IsLowered (line_of rules held) (shape_of tree) held.places order most least
+lowered_split rules held tree trees order later u most least is from all =
+    let line = line_of rules held in
     let own : IsLowered line (split (shapes_of trees.items)) held.places (u ∷ later) most least = all in
     subst (λ s. IsLowered line s held.places order most least) (sym is) (subst (λ w. IsLowered line (split (shapes_of trees.items)) held.places w most least) (sym from) own)
 
 -- an open leaf lowers the level to its own
-pub lowered_open : (held : Held) (tree : Tree) (order : List ℕ) (most own least : ℕ) → shape_of tree ≡ open_leaf → ((m : ℕ) → (m ≤ own) ↔ LevelHolds (line_of turned_time held) (Some m) held.places) → least ≡ min most own
-    → IsLowered (line_of turned_time held) (shape_of tree) held.places order most least
-lowered_open held tree order most own least is all low =
-    let line = line_of turned_time held in
+pub lowered_open : (rules : Rules) (held : Held) (tree : Tree) (order : List ℕ) (most own least : ℕ) → shape_of tree ≡ open_leaf → ((m : ℕ) → (m ≤ own) ↔ LevelHolds (line_of rules held) (Some m) held.places) → least ≡ min most own
+    → IsLowered (line_of rules held) (shape_of tree) held.places order most least
+lowered_open rules held tree order most own least is all low =
+    let line = line_of rules held in
     let here : IsLowered line open_leaf held.places order most least =
     λ v h m. (λ under. (omega (arith, under, low), (all m).0 (omega (arith, under, low))), λ q. let own_low = (all m).1 q.1 in omega (arith, q.0, own_low, low)) in
     subst (λ s. IsLowered line s held.places order most least) (sym is) here
@@ -164,7 +164,7 @@ greatest_of line v tree order most least partial is lowered =
     }
 
 -- over loads that hold no place
-pub greatest_from : (loads : List Load) (n : ℕ) (held : Held) (v : Option ℕ) (tree : Shape) (order : List ℕ) (most least : ℕ) → held ≡ record { loads = loads; slots = n; places = no_places loads } → IsPartialTree (line_by turned_time loads n) v tree (no_places loads) order → IsMost v most → IsLowered (line_of turned_time held) tree held.places order most least
-    → IsGreatestLevel (line_by turned_time loads n) v tree order least
-greatest_from loads n held v tree order most least at partial is lowered =
-    greatest_of (line_by turned_time loads n) v tree order most least partial is (subst (λ (h : Held). IsLowered (line_of turned_time h) tree h.places order most least) at lowered)
+pub greatest_from : (rules : Rules) (loads : List Load) (n : ℕ) (held : Held) (v : Option ℕ) (tree : Shape) (order : List ℕ) (most least : ℕ) → held ≡ record { loads = loads; slots = n; places = no_places loads } → IsPartialTree (line_by rules loads n) v tree (no_places loads) order → IsMost v most → IsLowered (line_of rules held) tree held.places order most least
+    → IsGreatestLevel (line_by rules loads n) v tree order least
+greatest_from rules loads n held v tree order most least at partial is lowered =
+    greatest_of (line_by rules loads n) v tree order most least partial is (subst (λ (h : Held). IsLowered (line_of rules h) tree h.places order most least) at lowered)

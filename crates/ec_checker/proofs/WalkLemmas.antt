@@ -7,13 +7,14 @@ use Rattle.ec_loads.specs.Held.{Held}
 use Rattle.ec_loads.specs.Line.{Rules, line_of}
 use Rattle.ec_loads.specs.Search.{Prefix, children}
 use Rattle.ec_bounds.proofs.HeldLemmas.{with_place}
-use Rattle.ec_cert.specs.declared.tree.Tree.{Tree, Weights, OpenLeaf, the_lemmas}
+use Rattle.ec_cert.specs.declared.tree.Tree.{Tree, Weights, OpenLeaf, Merge, Count, Groups, the_lemmas}
 use Rattle.ec_cert.specs.Shapes.{shape_of, shapes_of}
-use Rattle.ec_cert.proofs.TreeLemmas.{shape_count-shapes_of, shapes_of-drop}
-use Rattle.ec_loads.specs.Shape.{Shape, split, leaf, weighted, more, shape_count}
+use Rattle.ec_cert.proofs.TreeLemmas.{shape_count-shapes_of, shapes_of-drop, shape_of-Merge, shape_of-Count, shape_of-Groups}
+use Rattle.ec_loads.specs.declared.pair.Pair.{Pair}
+use Rattle.ec_loads.specs.Shape.{Shape, split, leaf, weighted, merging, counted, grouped, more, shape_count}
 use Rattle.ec_checker.specs.declared.fault.CheckFault.{CheckFault}
 use Rattle.ec_checker.specs.declared.fault.CheckFault.TheVariants as fault
-use Rattle.ec_checker.specs.Judged.{IsReady, next, then_judged, tree_judged, trees_judged, leaf_judged, weights_hold, level_holds}
+use Rattle.ec_checker.specs.Judged.{IsReady, next, then_judged, tree_judged, trees_judged, leaf_judged, weights_hold, level_holds, leaf_holds}
 use Rattle.ec_checker.proofs.LevelLemmas.{shape_of-OpenLeaf}
 
 -- what is found in these trees, for these children
@@ -86,3 +87,20 @@ pub open_judged : (rules : Rules) (held : Held) (v level : Option ℕ) (t : Tree
     → leaf_judged b k ≡ tree_at rules held v level (shape_of t) order k
 open_judged rules held v level t order k b is told =
     ap (λ x. leaf_judged x k) told ∙ sym (ap (λ s. tree_at rules held v level s order k) (ap shape_of is ∙ shape_of-OpenLeaf))
+
+-- the leaves of the strong rules
+pub merge_judged : (rules : Rules) (held : Held) (v level : Option ℕ) (t : Tree) (order : List ℕ) (k : ℕ) (b : Bool) → t ≡ Merge → b ≡ leaf_holds (line_of rules held) v held.places merging
+    → leaf_judged b k ≡ tree_at rules held v level (shape_of t) order k
+merge_judged rules held v level t order k b is told =
+    ap (λ x. leaf_judged x k) told ∙ sym (ap (λ s. tree_at rules held v level s order k) (ap shape_of is ∙ shape_of-Merge))
+
+pub count_judged : (rules : Rules) (held : Held) (v level : Option ℕ) (t : Tree) (order : List ℕ) (k p c : ℕ) (b : Bool) → t ≡ Count p c → b ≡ leaf_holds (line_of rules held) v held.places (counted p c)
+    → leaf_judged b k ≡ tree_at rules held v level (shape_of t) order k
+count_judged rules held v level t order k p c b is told =
+    ap (λ x. leaf_judged x k) told ∙ sym (ap (λ s. tree_at rules held v level s order k) (ap shape_of is ∙ shape_of-Count p c))
+
+pub groups_judged : (rules : Rules) (held : Held) (v level : Option ℕ) (t : Tree) (order : List ℕ) (k : ℕ) (pairs given : List Pair) (b : Bool) → t ≡ Groups pairs → given ≡ pairs → b ≡ leaf_holds (line_of rules held) v held.places (grouped given)
+    → leaf_judged b k ≡ tree_at rules held v level (shape_of t) order k
+groups_judged rules held v level t order k pairs given b is same told =
+    ap (λ x. leaf_judged x k) told
+    ∙ sym (ap (λ s. tree_at rules held v level s order k) (ap shape_of is ∙ shape_of-Groups pairs ∙ ap (λ x. leaf (grouped x)) (sym same)))

@@ -1,13 +1,16 @@
 -- What is found in a tree, node by node, each before its children.
-use Rattle.std.specs.Prelude.{◌≡◌, ℕ, ◌+◌, ◌*◌, ◌==◌, ◌&&◌, ◌||◌, nat_lt, nat_le, min, Bool, false, if◌then◌else◌, List, [], ◌∷◌, length, set, slice_get, Option, Some, None, Result, Ok, Err}
+use Rattle.std.specs.Prelude.{◌≡◌, ℕ, ◌+◌, ◌-◌, ◌*◌, ◌==◌, ◌&&◌, ◌||◌, nat_lt, nat_le, min, Bool, true, false, if◌then◌else◌, List, [], ◌∷◌, length, set, slice_get, count_by, Option, Some, None, Result, Ok, Err}
 use Rattle.std.specs.List.{list_any, range_with_len}
 use Rattle.ec_hyper.specs.Lcm.{lcm_of}
 use Rattle.ec_units.specs.declared.slave.Place.{Place}
 use Rattle.ec_units.specs.declared.unit.Load.{Load}
 use Rattle.ec_units.specs.Load.{periods_of}
-use Rattle.ec_loads.specs.Cost.{items, payload, tick_cost}
-use Rattle.ec_loads.specs.Line.{Line}
-use Rattle.ec_loads.specs.Shape.{Leaf, tick, full, average, weighted, Shape, Shapes, split, leaf, open_leaf, no_shapes, more, shape_count}
+use Rattle.ec_loads.specs.declared.item.Item.{Item}
+use Rattle.ec_loads.specs.declared.pair.Pair.{Pair}
+use Rattle.ec_loads.specs.Cost.{items, payload, raw_cost, tick_cost, sum_below}
+use Rattle.ec_loads.specs.Line.{Rules, slots_alone, turned_time, strong, Line}
+use Rattle.ec_loads.specs.Rooms.{unplaced, is_above_slot_0, is_large, room_count, periods_in, bytes_at, room_below, group_bytes, sent_bytes}
+use Rattle.ec_loads.specs.Shape.{Leaf, tick, full, average, weighted, merging, counted, grouped, Shape, Shapes, split, leaf, open_leaf, no_shapes, more, shape_count}
 use Rattle.ec_loads.specs.Search.{Prefix, children, least_raw}
 use Rattle.ec_loads.specs.Weights.{total_weight, weighted_raw, weighted_demand}
 use Rattle.ec_checker.specs.declared.fault.CheckFault.{CheckFault}
@@ -41,12 +44,47 @@ weights_hold loads n (Some b) ps w =
     && nat_lt 0 (total_weight w (lcm_of (periods_of loads)))
     && nat_lt (b * total_weight w (lcm_of (periods_of loads))) (weighted_raw loads n ps w (lcm_of (periods_of loads)) + weighted_demand loads ps w (lcm_of (periods_of loads)) + total_weight w (lcm_of (periods_of loads)))
 
+-- the tests of the leaves that hold by the strong rules alone
+abbrev pub is_strong : Rules → Bool
+is_strong slots_alone = false
+is_strong turned_time = false
+is_strong strong = true
+
+abbrev pub merge_holds : Option ℕ → Prefix → Bool
+merge_holds None ps = false
+merge_holds (Some b) ps = nat_le b 1579 && list_any is_above_slot_0 ps
+
+abbrev pub count_holds : List Load → ℕ → Option ℕ → Prefix → ℕ → ℕ → Bool
+count_holds loads n None ps p c = false
+count_holds loads n (Some b) ps p c =
+    nat_lt 0 c && nat_lt (room_count (items loads ps) n (lcm_of (periods_of loads)) b p c) (count_by (is_large p c) (unplaced loads ps))
+
+-- a period needs as many new groups as its pair says; so does each, and there is a pair for each
+abbrev pub is_needed : List Item → ℕ → ℕ → ℕ → List Load → ℕ → Pair → Bool
+is_needed xs n h b ls p pair = nat_lt pair.count 1 || nat_lt (room_below xs n h b p pair) (bytes_at p ls)
+
+abbrev pub all_needed : List Item → ℕ → ℕ → ℕ → List Load → List ℕ → List Pair → Bool
+all_needed xs n h b ls [] [] = true
+all_needed xs n h b ls [] (pair ∷ pairs) = false
+all_needed xs n h b ls (p ∷ ps) [] = false
+all_needed xs n h b ls (p ∷ ps) (pair ∷ pairs) = is_needed xs n h b ls p pair && all_needed xs n h b ls ps pairs
+
+abbrev pub groups_hold : List Load → ℕ → Option ℕ → Prefix → List Pair → Bool
+groups_hold loads n None ps pairs = false
+groups_hold loads n (Some b) ps pairs =
+    nat_lt 0 (length (unplaced loads ps))
+    && (all_needed (items loads ps) n (lcm_of (periods_of loads)) b (unplaced loads ps) (periods_in (unplaced loads ps)) pairs
+    && nat_lt ((b - 1) * lcm_of (periods_of loads)) (sum_below (raw_cost (items loads ps) n) (lcm_of (periods_of loads)) + sent_bytes (lcm_of (periods_of loads)) (unplaced loads ps) + group_bytes (lcm_of (periods_of loads)) (periods_in (unplaced loads ps)) pairs))
+
 -- the test of a leaf, by what closes it
 abbrev pub leaf_holds : Line → Option ℕ → Prefix → Leaf → Bool
 leaf_holds line v ps (tick t) = tick_holds line.loads line.slots v ps t
 leaf_holds line v ps (full t s) = full_holds line.loads line.slots ps t s
 leaf_holds line v ps average = average_holds line.loads line.slots v ps
 leaf_holds line v ps (weighted w) = weights_hold line.loads line.slots v ps w
+leaf_holds line v ps merging = is_strong line.rules && merge_holds v ps
+leaf_holds line v ps (counted p c) = is_strong line.rules && count_holds line.loads line.slots v ps p c
+leaf_holds line v ps (grouped pairs) = is_strong line.rules && groups_hold line.loads line.slots v ps pairs
 
 -- some tick below the hyperperiod costs at least the level
 abbrev pub tick_reaches : List Load → ℕ → ℕ → Prefix → Bool

@@ -7,7 +7,7 @@ ghost use Rattle.ec_cert.specs.BestPlan.{value_of as value_of_best};
 ghost use Rattle.ec_cert.specs.Shapes.{cert_view};
 ghost use Rattle.ec_cert.specs.Versions.{rules_of};
 ghost use Rattle.ec_loads.specs.Held.{no_places};
-ghost use Rattle.ec_loads.specs.Line.{rules_if};
+ghost use Rattle.ec_symmetry.specs.Ruled.{line_rules};
 ghost use Rattle.ec_checker.specs.declared.fault.CheckFault.TheVariants.{OutOfMemory};
 ghost use Rattle.ec_checker.specs.Certified.{IsAnswer, IsClaim, IsLevelIn, IsLevelFault, verdict_of};
 
@@ -19,15 +19,22 @@ use crate::walk::walk;
 use ec_bounds::Rest;
 use ec_cert::Cert;
 use ec_loads::Loads;
+use ec_symmetry::Rules;
 use ec_tree::{levels_bound, trees_bound};
 use ec_units::Units;
 use std::alloc::Global;
 
-/// Whether time is turned in the trees of certificates of this version.
-fn is_turned(version: u8) -> bool
-    ensures { rules_if result ≡ rules_of version }
+/// By which rules the trees of certificates of this version are made.
+fn rules_for(version: u8) -> Rules
+    ensures { line_rules result ≡ rules_of version }
 {
-    1 < version
+    if 3 < version {
+        return Rules::Strong;
+    }
+    if 1 < version {
+        return Rules::Turned;
+    }
+    Rules::Plain
 }
 
 /// Whether the level, if there is one, isn't above the value.
@@ -64,8 +71,9 @@ fn verdict_at(level: Option<u64>, value: Option<u64>) -> Verdict
 /// then, not even where no leaf is open. Without a level an open leaf doesn't hold.
 ///
 /// The tree is judged by the rules of the certificate's own version: in version 1 the children of a prefix are made by
-/// slots alone, in later ones time is turned, which leaves the first unit of the order phase 0 alone. A leaf by
-/// weights, which no text of version 1 has, is judged alike in all of them.
+/// slots alone, in versions 2 and 3 time is turned, which leaves the first unit of the order phase 0 alone, and from
+/// version 4 on they are made by the strong rules. A leaf by weights, which no text of version 1 has, is judged alike in
+/// all of them; merges, counts and groups hold by the strong rules alone.
 ///
 /// The loads are those of the units, with no place, and are so again afterwards. Takes no memory, and visits each
 /// node once.
@@ -90,9 +98,9 @@ pub fn check_in(loads: &mut Loads, units: &Units, cert: &Cert) -> Result<Verdict
     let value = value_of(units, &cert.best)?;
     level_within(cert.level, value)?;
     let mut rest = Rest::all(units);
-    let turned = is_turned(cert.version);
+    let rules = rules_for(cert.version);
     walk(
-        loads, &mut rest, turned, value, cert.level, order, &cert.tree, 0,
+        loads, &mut rest, rules, value, cert.level, order, &cert.tree, 0,
     )?;
     Ok(verdict_at(cert.level, value))
 }

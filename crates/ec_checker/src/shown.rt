@@ -3,19 +3,20 @@
 ghost use Rattle.std.specs.Prelude.{◌≡◌, ℕ, ◌≤◌, ◌↔◌, Some, IfOk, length, MatchOption};
 ghost use Rattle.ec_units.specs.Load.{loads_of};
 ghost use Rattle.ec_loads.specs.Held.{no_places};
-ghost use Rattle.ec_loads.specs.Line.{turned_time, line_of, line_by};
+ghost use Rattle.ec_loads.specs.Line.{Rules as LineRules, line_of, line_by};
 ghost use Rattle.ec_loads.specs.Search.{LevelHolds, IsPartialTree, IsAtMost};
 ghost use Rattle.ec_bounds.specs.Left.{IsRestOf};
 ghost use Rattle.ec_cert.specs.BestPlan.{value_of, IsBestPlan};
 ghost use Rattle.ec_cert.specs.Shapes.{shape_of};
 ghost use Rattle.ec_symmetry.specs.Orders.{IsOrder};
+ghost use Rattle.ec_symmetry.specs.Ruled.{line_rules};
 ghost use Rattle.ec_checker.specs.Judged.{IsReady};
 ghost use Rattle.ec_checker.specs.Levels.{IsGreatestLevel, IsLowered};
 
 use ec_bounds::{Rest, average_level};
 use ec_cert::{Best, Tree, is_closed};
 use ec_loads::Loads;
-use ec_symmetry::children_of;
+use ec_symmetry::{Rules, children_by};
 use ec_units::Units;
 use std::alloc::{AllocError, Global};
 
@@ -36,21 +37,28 @@ fn most_level(best: &Option<Best>) -> u64
 /// least.
 fn open_level(loads: &Loads, rest: &Rest) -> u64
     requires { IsRestOf rest.now loads.now }
-    ensures { (m : ℕ) → ((m ≤ result) ↔ LevelHolds (line_of turned_time loads.now) (Some m) loads.now.places) }
+    ensures { (rules : LineRules) (m : ℕ) → ((m ≤ result) ↔ LevelHolds (line_of rules loads.now) (Some m) loads.now.places) }
 {
     let (most, _) = loads.top();
     most.max(average_level(loads, rest))
 }
 
 /// The greatest level of at most this one that holds at each open leaf of a tree for the places so far, its children
-/// where time is turned. The places are as before afterwards. No place is tried where no leaf is open, and no recursion
+/// by these rules. The places are as before afterwards. No place is tried where no leaf is open, and no recursion
 /// is deeper than the order is long.
-fn lowered(loads: &mut Loads, rest: &mut Rest, level: u64, order: &[u8], tree: &Tree) -> u64
+fn lowered(
+    loads: &mut Loads,
+    rest: &mut Rest,
+    rules: Rules,
+    level: u64,
+    order: &[u8],
+    tree: &Tree,
+) -> u64
     requires ready { IsReady loads.old.places order.now }
     requires left { IsRestOf rest.old loads.old }
     ensures same { loads.new ≡ loads.old }
     ensures left { IsRestOf rest.new loads.new }
-    ensures lowered { IsLowered (line_of turned_time loads.old) (shape_of tree.now) loads.old.places order.now level result }
+    ensures lowered { IsLowered (line_of (line_rules rules) loads.old) (shape_of tree.now) loads.old.places order.now level result }
 {
     match tree {
         Tree::Split(trees) => match order.split_first() {
@@ -58,7 +66,7 @@ fn lowered(loads: &mut Loads, rest: &mut Rest, level: u64, order: &[u8], tree: &
             Some((unit, later)) => {
                 let trees = trees.as_ref();
                 let unit = usize::from(*unit);
-                let mut places = children_of(loads, unit, true);
+                let mut places = children_by(loads, unit, rules);
                 let mut least = level;
                 for i in 0..trees.len() {
                     let Some(place) = places.next() else {
@@ -67,7 +75,7 @@ fn lowered(loads: &mut Loads, rest: &mut Rest, level: u64, order: &[u8], tree: &
                     if !is_closed(&trees[i]) {
                         loads.place(unit, place);
                         rest.placed(unit);
-                        least = lowered(loads, rest, least, later, &trees[i]);
+                        least = lowered(loads, rest, rules, least, later, &trees[i]);
                         loads.remove(unit);
                         rest.unplaced(unit);
                     }
@@ -77,10 +85,11 @@ fn lowered(loads: &mut Loads, rest: &mut Rest, level: u64, order: &[u8], tree: &
         },
         Tree::OpenLeaf => level.min(open_level(loads, rest)),
         Tree::TickLeaf(_) | Tree::FullLeaf(_, _) | Tree::Average | Tree::Weights(_) => level,
+        Tree::Merge | Tree::Count { .. } | Tree::Groups(_) => level,
     }
 }
 
-/// The greatest level that a tree with open leaves shows, in wire bytes: the least, over its open leaves, of the greatest
+/// The greatest level that a tree by these rules with open leaves shows, in wire bytes: the least, over its open leaves, of the greatest
 /// one that holds there, by a tick of its places or by the average, and above neither what the best plan costs nor
 /// 12,304.
 ///
@@ -88,34 +97,36 @@ fn lowered(loads: &mut Loads, rest: &mut Rest, level: u64, order: &[u8], tree: &
 pub fn level_in(
     loads: &mut Loads,
     units: &Units,
+    rules: Rules,
     order: &[u8],
     tree: &Tree,
     best: &Option<Best>,
 ) -> u64
     requires loads { loads.old ≡ record { loads = loads_of units.now.units; slots = units.now.slots; places = no_places (loads_of units.now.units) } }
     requires order { IsOrder (length units.now.units) order.now }
-    requires partial { IsPartialTree (line_by turned_time (loads_of units.now.units) units.now.slots) (value_of best.now) (shape_of tree.now) (no_places (loads_of units.now.units)) order.now }
+    requires partial { IsPartialTree (line_by (line_rules rules) (loads_of units.now.units) units.now.slots) (value_of best.now) (shape_of tree.now) (no_places (loads_of units.now.units)) order.now }
     requires best { IsBestPlan (loads_of units.now.units) units.now.slots best.now }
     ensures same { loads.new ≡ loads.old }
-    ensures level { IsGreatestLevel (line_by turned_time (loads_of units.now.units) units.now.slots) (value_of best.now) (shape_of tree.now) order.now result }
+    ensures level { IsGreatestLevel (line_by (line_rules rules) (loads_of units.now.units) units.now.slots) (value_of best.now) (shape_of tree.now) order.now result }
 {
     let mut rest = Rest::all(units);
-    lowered(loads, &mut rest, most_level(best), order, tree)
+    lowered(loads, &mut rest, rules, most_level(best), order, tree)
 }
 
 /// What `level_in` gives, over loads that are made for it. It takes memory once, for the places of the units.
 pub fn level(
     alloc: Global,
     units: &Units,
+    rules: Rules,
     order: &[u8],
     tree: &Tree,
     best: &Option<Best>,
 ) -> Result<u64, AllocError>
     requires order { IsOrder (length units.now.units) order.now }
-    requires partial { IsPartialTree (line_by turned_time (loads_of units.now.units) units.now.slots) (value_of best.now) (shape_of tree.now) (no_places (loads_of units.now.units)) order.now }
+    requires partial { IsPartialTree (line_by (line_rules rules) (loads_of units.now.units) units.now.slots) (value_of best.now) (shape_of tree.now) (no_places (loads_of units.now.units)) order.now }
     requires best { IsBestPlan (loads_of units.now.units) units.now.slots best.now }
-    ensures { IfOk result (IsGreatestLevel (line_by turned_time (loads_of units.now.units) units.now.slots) (value_of best.now) (shape_of tree.now) order.now) }
+    ensures { IfOk result (IsGreatestLevel (line_by (line_rules rules) (loads_of units.now.units) units.now.slots) (value_of best.now) (shape_of tree.now) order.now) }
 {
     let mut loads = Loads::new(alloc, units)?;
-    Ok(level_in(&mut loads, units, order, tree, best))
+    Ok(level_in(&mut loads, units, rules, order, tree, best))
 }

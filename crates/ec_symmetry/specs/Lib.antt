@@ -4,5 +4,6 @@ pub mod MergeExamples
 pub mod Orders
 pub mod Reached
 pub mod Renamed
+pub mod Ruled
 pub mod StrongReach
 pub mod Turned

@@ -4,6 +4,7 @@
 mod child;
 mod law;
 mod rename;
+mod rules;
 mod slots;
 mod strong;
 mod turn;
@@ -14,5 +15,6 @@ pub use law::{
     strong_children_reach,
 };
 pub use rename::canonical;
+pub use rules::{Rules, children_by};
 pub use slots::used_slots;
 pub use strong::strong_choices;

@@ -5,6 +5,7 @@ use Rattle.ec_units.specs.Load.{load_of, loads_of}
 use Rattle.ec_loads.specs.Held.{Held}
 use Rattle.ec_cert.specs.Shapes.{cert_view}
 use Rattle.ec_symmetry.specs.Orders.{IsOrder}
+use Rattle.ec_symmetry.specs.Ruled.{line_rules}
 use Rattle.ec_cert.specs.BestPlan.{value_of}
 use Rattle.ec_checker.specs.Certified.{HasHead, IsCertified, IsLevelIn, IsLevelFault}
 use Rattle.ec_checker.specs.Judged.{IsReady}
@@ -48,7 +49,7 @@ returns-in_err-walk-clause-exact c =
     let order : IsOrder (length us) v.order = subst (λ w. IsOrder (length w) v.order) c.as_slice.ensures (subst (IsOrder (length c.as_slice.result.now)) c.as_slice-order.ensures (c.if-not-is_order.ensures.0 refl)) in
     let low : IsLevelIn v.level (value_of v.best) = subst (IsLevelIn v.level) c.in_ok-value.ensures.ok.0 c.in_ok-level_within.ensures.ok in
     let head : HasHead us n v = record { same = c.if-not-is_for.ensures.0 refl; order = order; best = c.in_ok-value.ensures.ok.1; level = low } in
-    let found = found_is (loads_of us) n v c.args.loads.now c.is_turned-turned.result c.in_ok-value.value v.level c.as_slice-order.result.now c.walk.result c.requires c.is_turned-turned.ensures c.in_ok-value.ensures.ok.0 refl c.as_slice-order.ensures c.walk.ensures.judged in
+    let found = found_is (loads_of us) n v c.args.loads.now (line_rules c.rules_for-rules.result) c.in_ok-value.value v.level c.as_slice-order.result.now c.walk.result c.requires c.rules_for-rules.ensures c.in_ok-value.ensures.ok.0 refl c.as_slice-order.ensures c.walk.ensures.judged in
     let p = err_from_is_err_and c.from_residual-in_err-walk.result c.from_residual-in_err-walk.ensures.1 in
     rw (p.1, p.2) (fault_from us n v c.in_err-walk.field-0.0 head (sym found ∙ c.in_err-walk.was))
 
@@ -57,7 +58,7 @@ returns-in_err-walk-clause-memory c = λ is.
     let us = c.args.units.now.units in
     let n = c.args.units.now.slots in
     let v = cert_view c.args.cert.now in
-    let found = found_is (loads_of us) n v c.args.loads.now c.is_turned-turned.result c.in_ok-value.value v.level c.as_slice-order.result.now c.walk.result c.requires c.is_turned-turned.ensures c.in_ok-value.ensures.ok.0 refl c.as_slice-order.ensures c.walk.ensures.judged in
+    let found = found_is (loads_of us) n v c.args.loads.now (line_rules c.rules_for-rules.result) c.in_ok-value.value v.level c.as_slice-order.result.now c.walk.result c.requires c.rules_for-rules.ensures c.in_ok-value.ensures.ok.0 refl c.as_slice-order.ensures c.walk.ensures.judged in
     let p = err_from_is_err_and c.from_residual-in_err-walk.result c.from_residual-in_err-walk.ensures.1 in
     let same : c.in_err-walk.field-0.0 ≡ OutOfMemory = cc (p.1, p.2, is) in
     tree_memory us n v c.in_err-walk.field-0.0 (sym found ∙ c.in_err-walk.was) same
@@ -70,7 +71,7 @@ returns-clause-exact c =
     let order : IsOrder (length us) v.order = subst (λ w. IsOrder (length w) v.order) c.as_slice.ensures (subst (IsOrder (length c.as_slice.result.now)) c.as_slice-order.ensures (c.if-not-is_order.ensures.0 refl)) in
     let low : IsLevelIn v.level (value_of v.best) = subst (IsLevelIn v.level) c.in_ok-value.ensures.ok.0 c.in_ok-level_within.ensures.ok in
     let head : HasHead us n v = record { same = c.if-not-is_for.ensures.0 refl; order = order; best = c.in_ok-value.ensures.ok.1; level = low } in
-    let found = found_is (loads_of us) n v c.args.loads.now c.is_turned-turned.result c.in_ok-value.value v.level c.as_slice-order.result.now c.walk.result c.requires c.is_turned-turned.ensures c.in_ok-value.ensures.ok.0 refl c.as_slice-order.ensures c.walk.ensures.judged in
+    let found = found_is (loads_of us) n v c.args.loads.now (line_rules c.rules_for-rules.result) c.in_ok-value.value v.level c.as_slice-order.result.now c.walk.result c.requires c.rules_for-rules.ensures c.in_ok-value.ensures.ok.0 refl c.as_slice-order.ensures c.walk.ensures.judged in
     let yes_of : IsCertified us n v = record { head = head; shown = tree_from us n v c.in_ok-walk.field-0 low (sym found ∙ c.in_ok-walk.was) } in
     (yes_of, c.verdict_at.ensures v.best c.in_ok-value.ensures.ok.0)
 
@@ -82,7 +83,7 @@ returns-clause-sound c =
     let order : IsOrder (length us) v.order = subst (λ w. IsOrder (length w) v.order) c.as_slice.ensures (subst (IsOrder (length c.as_slice.result.now)) c.as_slice-order.ensures (c.if-not-is_order.ensures.0 refl)) in
     let low : IsLevelIn v.level (value_of v.best) = subst (IsLevelIn v.level) c.in_ok-value.ensures.ok.0 c.in_ok-level_within.ensures.ok in
     let head : HasHead us n v = record { same = c.if-not-is_for.ensures.0 refl; order = order; best = c.in_ok-value.ensures.ok.1; level = low } in
-    let found = found_is (loads_of us) n v c.args.loads.now c.is_turned-turned.result c.in_ok-value.value v.level c.as_slice-order.result.now c.walk.result c.requires c.is_turned-turned.ensures c.in_ok-value.ensures.ok.0 refl c.as_slice-order.ensures c.walk.ensures.judged in
+    let found = found_is (loads_of us) n v c.args.loads.now (line_rules c.rules_for-rules.result) c.in_ok-value.value v.level c.as_slice-order.result.now c.walk.result c.requires c.rules_for-rules.ensures c.in_ok-value.ensures.ok.0 refl c.as_slice-order.ensures c.walk.ensures.judged in
     let yes_of : IsCertified us n v = record { head = head; shown = tree_from us n v c.in_ok-walk.field-0 low (sym found ∙ c.in_ok-walk.was) } in
     claim_from c.trees_bound.ensures c.levels_bound.ensures us n v _ yes_of (c.verdict_at.ensures v.best c.in_ok-value.ensures.ok.0)
 

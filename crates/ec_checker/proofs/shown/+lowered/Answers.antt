@@ -5,6 +5,7 @@ use Rattle.ec_loads.specs.Held.{Held}
 use Rattle.ec_bounds.proofs.HeldLemmas.{with_place, restored, rest_follows, flags_count, still_within}
 use Rattle.ec_cert.specs.Shapes.{shape_of}
 use Rattle.ec_cert.proofs.TreeLemmas.{shape_of-trees}
+use Rattle.ec_symmetry.specs.Ruled.{line_rules}
 use Rattle.ec_checker.specs.Judged.{IsReady}
 use Rattle.ec_checker.proofs.LevelLemmas.{lowered_from, lowered_step, lowered_skip, lowered_no_child, lowered_no_tree, lowered_split, lowered_open, shape_of-OpenLeaf}
 use Rattle.ec_checker.proofs.WalkLemmas.{ready_at}
@@ -17,15 +18,15 @@ loop-i-init t c =
     record {
       same = refl;
       left = c.requires.left;
-      lowers = λ least all. subst (λ w. lowered_from args c.as_ref-trees.result.now.items c.from-unit.result c.in-Some.later.now w c.args.level least) c.children_of-places.ensures all;
+      lowers = λ least all. subst (λ w. lowered_from (line_rules c.args.rules) args c.as_ref-trees.result.now.items c.from-unit.result c.in-Some.later.now w c.args.level least) c.children_by-places.ensures all;
     }
 
 pub returns-in_default-clause-lowered : goal.returns-in_default-clause-lowered
 returns-in_default-clause-lowered t c =
     let args = c.args.loads.now in
     let from = c.in-Some.ensures.cases.0 ∙ ap (λ w. w ∷ c.in-Some.later.now) (sym c.from-unit.ensures) in
-    lowered_split args c.args.tree.now c.as_ref-trees.result.now c.args.order.now c.in-Some.later.now c.from-unit.result c.args.level c.loop-i.least (shape_of-trees c.args.tree.now c.in-Split.trees c.as_ref-trees.result.now c.in-Split.is c.as_ref-trees.ensures) from
-    (c.loop-i.invariant.lowers c.loop-i.least (lowered_no_child args _ c.from-unit.result c.in-Some.later.now c.loop-i.places c.loop-i.least c.in_default.ensures.steps.0))
+    lowered_split (line_rules c.args.rules) args c.args.tree.now c.as_ref-trees.result.now c.args.order.now c.in-Some.later.now c.from-unit.result c.args.level c.loop-i.least (shape_of-trees c.args.tree.now c.in-Split.trees c.as_ref-trees.result.now c.in-Split.is c.as_ref-trees.ensures) from
+    (c.loop-i.invariant.lowers c.loop-i.least (lowered_no_child (line_rules c.args.rules) args _ c.from-unit.result c.in-Some.later.now c.loop-i.places c.loop-i.least c.in_default.ensures.steps.0))
 
 pub place-requires : goal.place-requires
 place-requires t c =
@@ -94,7 +95,7 @@ loop-i-preserved t c =
                 (rest_follows w.lowered-least.new.loads w.remove.new.self w.lowered-least.new.rest w.unplaced.new.self u None w.lowered-least.ensures.left w.remove.ensures w.unplaced.ensures);
             lowers =
                 λ least all. c.loop-i.invariant.lowers least
-                (lowered_step args w.place.new.self trees u later c.loop-i.places c.next.new.self p i c.loop-i.least c.loop-i.least w.lowered-least.result least w.index-then-not-is_closed.result.now
+                (lowered_step (line_rules c.args.rules) args w.place.new.self trees u later c.loop-i.places c.next.new.self p i c.loop-i.least c.loop-i.least w.lowered-least.result least w.index-then-not-is_closed.result.now
                 within w.index-then-not-is_closed.ensures c.in-Some-next.ensures.steps made refl w.lowered-least.ensures.lowered (rw (sym w.least-is) all));
           }
       | else-not-is_closed w ↦
@@ -103,7 +104,7 @@ loop-i-preserved t c =
             left = rw (w.loads-is, w.rest-is) c.loop-i.invariant.left;
             lowers =
                 λ least all. c.loop-i.invariant.lowers least
-                (lowered_skip args trees u later c.loop-i.places c.next.new.self p i c.loop-i.least least c.index.result.now
+                (lowered_skip (line_rules c.args.rules) args trees u later c.loop-i.places c.next.new.self p i c.loop-i.least least c.index.result.now
                 within c.index.ensures c.in-Some-next.ensures.steps (w.if-not-is_closed.ensures.0 (search rules)) (rw (sym w.least-is) all));
           }
     ]
@@ -112,9 +113,9 @@ pub returns-after-loop-i-clause-lowered : goal.returns-after-loop-i-clause-lower
 returns-after-loop-i-clause-lowered t c =
     let args = c.args.loads.now in
     let from = c.in-Some.ensures.cases.0 ∙ ap (λ w. w ∷ c.in-Some.later.now) (sym c.from-unit.ensures) in
-    lowered_split args c.args.tree.now c.as_ref-trees.result.now c.args.order.now c.in-Some.later.now c.from-unit.result c.args.level c.loop-i.least (shape_of-trees c.args.tree.now c.in-Split.trees c.as_ref-trees.result.now c.in-Split.is c.as_ref-trees.ensures) from
-    (c.loop-i.invariant.lowers c.loop-i.least (lowered_no_tree args c.as_ref-trees.result.now.items c.from-unit.result c.in-Some.later.now c.loop-i.places c.loop-i.i c.loop-i.least (omega (arith, c.loop-i-test.false, c.len-i-end.ensures))))
+    lowered_split (line_rules c.args.rules) args c.args.tree.now c.as_ref-trees.result.now c.args.order.now c.in-Some.later.now c.from-unit.result c.args.level c.loop-i.least (shape_of-trees c.args.tree.now c.in-Split.trees c.as_ref-trees.result.now c.in-Split.is c.as_ref-trees.ensures) from
+    (c.loop-i.invariant.lowers c.loop-i.least (lowered_no_tree (line_rules c.args.rules) args c.as_ref-trees.result.now.items c.from-unit.result c.in-Some.later.now c.loop-i.places c.loop-i.i c.loop-i.least (omega (arith, c.loop-i-test.false, c.len-i-end.ensures))))
 
 pub returns-in-OpenLeaf-clause-lowered : goal.returns-in-OpenLeaf-clause-lowered
 returns-in-OpenLeaf-clause-lowered t c =
-    lowered_open c.args.loads.now c.args.tree.now c.args.order.now c.args.level c.open_level.result _ (ap shape_of c.in-OpenLeaf.is ∙ shape_of-OpenLeaf) c.open_level.ensures (grind (arith, common_steps))
+    lowered_open (line_rules c.args.rules) c.args.loads.now c.args.tree.now c.args.order.now c.args.level c.open_level.result _ (ap shape_of c.in-OpenLeaf.is ∙ shape_of-OpenLeaf) (c.open_level.ensures (line_rules c.args.rules)) (grind (arith, common_steps))

@@ -1,5 +1,6 @@
 use Rattle.std.proofs.Common.{◌≡◌, length}
 use Rattle.ec_bounds.specs.Left.{IsRestOf}
+use Rattle.ec_symmetry.specs.Ruled.{line_rules}
 use Rattle.ec_checker.proofs.LevelLemmas.{Lowers}
 use Rattle.ec_checker.proofs.shown.+lowered.Given as goal
 
@@ -11,5 +12,5 @@ invariant-loop-i l =
     record {
       same : l.loads ≡ l.initial.loads;
       left : IsRestOf l.rest l.loads;
-      lowers : Lowers l.initial.loads l.trees.items l.unit l.later l.places l.i l.level l.least;
+      lowers : Lowers (line_rules l.rules) l.initial.loads l.trees.items l.unit l.later l.places l.i l.level l.least;
     }

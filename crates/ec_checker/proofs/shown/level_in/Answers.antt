@@ -5,6 +5,7 @@ use Rattle.ec_loads.specs.Held.{Held}
 use Rattle.ec_bounds.proofs.HeldLemmas.{empty_rest}
 use Rattle.ec_cert.specs.BestPlan.{value_of}
 use Rattle.ec_cert.specs.Shapes.{shape_of}
+use Rattle.ec_symmetry.specs.Ruled.{line_rules}
 use Rattle.ec_checker.specs.Judged.{IsReady}
 use Rattle.ec_checker.proofs.HeadLemmas.{order_ready}
 use Rattle.ec_checker.proofs.LevelLemmas.{greatest_from}
@@ -20,5 +21,5 @@ lowered-requires-clause-left c = empty_rest (loads_of c.args.units.now.units) c.
 
 pub returns-clause-level : goal.returns-clause-level
 returns-clause-level c =
-    greatest_from (loads_of c.args.units.now.units) c.args.units.now.slots c.args.loads.now (value_of c.args.best.now) (shape_of c.args.tree.now) c.args.order.now c.most_level.result c.lowered.result
+    greatest_from (line_rules c.args.rules) (loads_of c.args.units.now.units) c.args.units.now.slots c.args.loads.now (value_of c.args.best.now) (shape_of c.args.tree.now) c.args.order.now c.most_level.result c.lowered.result
     c.requires.loads c.requires.partial c.most_level.ensures c.lowered.ensures.lowered

@@ -2,22 +2,22 @@ use Rattle.std.proofs.Common.{◌≡◌, ℕ, ◌+◌, ◌<◌, ◌∷◌, lengt
 use Rattle.std.proofs.lemmas.Result.{err_from_is_err_and}
 use Rattle.std.proofs.lemmas.Option.{slice_get_within}
 use Rattle.ec_loads.specs.Held.{Held}
-use Rattle.ec_loads.specs.Line.{rules_if}
+use Rattle.ec_symmetry.specs.Ruled.{line_rules}
 use Rattle.ec_checker.specs.declared.fault.CheckFault.{CheckFault}
 use Rattle.ec_checker.specs.declared.fault.CheckFault.TheVariants as fault
 use Rattle.ec_checker.specs.Judged.{IsReady, then_judged}
 use Rattle.ec_bounds.proofs.HeldLemmas.{with_place, restored, rest_follows, flags_count, still_within}
 use Rattle.ec_cert.proofs.TreeLemmas.{shape_of-trees}
-use Rattle.ec_checker.proofs.WalkLemmas.{judged_from, kids, child_step, no_more_trees, no_more_children, split_is, split_wrong, ready_at, weights_judged, open_judged}
+use Rattle.ec_checker.proofs.WalkLemmas.{judged_from, kids, child_step, no_more_trees, no_more_children, split_is, split_wrong, ready_at, weights_judged, open_judged, merge_judged, count_judged, groups_judged}
 use Rattle.ec_checker.proofs.walk.+walk.Goals as goal
 
 pub returns-then-len-clause-judged : goal.returns-then-len-clause-judged
 returns-then-len-clause-judged t c =
-    let rules = rules_if c.args.turned in
+    let rules = line_rules c.args.rules in
     let args = c.args.loads.now in
     let u = c.from-unit.result in
     let from = c.in-Some.ensures.cases.0 ∙ ap (λ w. w ∷ c.in-Some.later.now) (sym c.from-unit.ensures) in
-    let places : length c.children_of-places.result ≡ length (kids rules args u) = ap length c.children_of-places.ensures in
+    let places : length c.children_by-places.result ≡ length (kids rules args u) = ap length c.children_by-places.ensures in
     let want : c.len-then-len.result ≡ length (kids rules args u) = c.len-then-len.ensures.value ∙ places in
     let got : c.len-then-len-2.result ≡ length c.as_ref-trees.result.now.items = omega (arith, c.len-then-len-2.ensures) in
     let here : c.len.result ≡ length c.as_ref-trees.result.now.items = omega (arith, c.len.ensures) in
@@ -28,11 +28,11 @@ returns-then-len-clause-judged t c =
 
 pub returns-in_default-clause-judged : goal.returns-in_default-clause-judged
 returns-in_default-clause-judged t c =
-    let rules = rules_if c.args.turned in
+    let rules = line_rules c.args.rules in
     let args = c.args.loads.now in
     let u = c.from-unit.result in
     let from = c.in-Some.ensures.cases.0 ∙ ap (λ w. w ∷ c.in-Some.later.now) (sym c.from-unit.ensures) in
-    let places : length c.children_of-places.result ≡ length (kids rules args u) = ap length c.children_of-places.ensures in
+    let places : length c.children_by-places.result ≡ length (kids rules args u) = ap length c.children_by-places.ensures in
     let count : length c.as_ref-trees.result.now.items ≡ length (kids rules args u) = omega (arith, c.if-len.false, c.len.ensures, c.len-in-Some.ensures.value, places) in
     sym (no_more_children rules args c.args.value c.args.level (drop c.loop-i.i c.as_ref-trees.result.now.items) u c.in-Some.later.now c.loop-i.places c.loop-i.at c.in_default.ensures.steps.0)
     ∙ c.loop-i.invariant.judged
@@ -96,7 +96,7 @@ returns-in_err-at-in-Some-clause-left t c =
 
 pub returns-in_err-at-in-Some-clause-judged : goal.returns-in_err-at-in-Some-clause-judged
 returns-in_err-at-in-Some-clause-judged t c =
-    let rules = rules_if c.args.turned in
+    let rules = line_rules c.args.rules in
     let args = c.args.loads.now in
     let v = c.args.value in
     let u = c.from-unit.result in
@@ -105,7 +105,7 @@ returns-in_err-at-in-Some-clause-judged t c =
     let i = c.loop-i.i in
     let e = c.in_err-at-in-Some.field-0.0 in
     let from = c.in-Some.ensures.cases.0 ∙ ap (λ w. w ∷ later) (sym c.from-unit.ensures) in
-    let places : length c.children_of-places.result ≡ length (kids rules args u) = ap length c.children_of-places.ensures in
+    let places : length c.children_by-places.result ≡ length (kids rules args u) = ap length c.children_by-places.ensures in
     let count : length trees ≡ length (kids rules args u) = omega (arith, c.if-len.false, c.len.ensures, c.len-in-Some.ensures.value, places) in
     let made : c.place.new.self ≡ with_place args u (Some c.in-Some-next.place) = c.place.ensures ∙ ap (λ (w : Held). with_place w u (Some c.in-Some-next.place)) c.loop-i.invariant.same in
     let rest : ℕ → Result ℕ CheckFault = λ j. judged_from rules args v c.args.level (drop (i + 1) trees) u later c.next.new.self j in
@@ -120,7 +120,7 @@ returns-in_err-at-in-Some-clause-judged t c =
 
 pub loop-i-preserved : goal.loop-i-preserved
 loop-i-preserved t c =
-    let rules = rules_if c.args.turned in
+    let rules = line_rules c.args.rules in
     let args = c.args.loads.now in
     let v = c.args.value in
     let u = c.from-unit.result in
@@ -146,12 +146,12 @@ loop-i-preserved t c =
 
 pub returns-after-loop-i-clause-judged : goal.returns-after-loop-i-clause-judged
 returns-after-loop-i-clause-judged t c =
-    let rules = rules_if c.args.turned in
+    let rules = line_rules c.args.rules in
     let args = c.args.loads.now in
     let u = c.from-unit.result in
     let trees = c.as_ref-trees.result.now.items in
     let from = c.in-Some.ensures.cases.0 ∙ ap (λ w. w ∷ c.in-Some.later.now) (sym c.from-unit.ensures) in
-    let places : length c.children_of-places.result ≡ length (kids rules args u) = ap length c.children_of-places.ensures in
+    let places : length c.children_by-places.result ≡ length (kids rules args u) = ap length c.children_by-places.ensures in
     let count : length trees ≡ length (kids rules args u) = omega (arith, c.if-len.false, c.len.ensures, c.len-in-Some.ensures.value, places) in
     sym (no_more_trees rules args c.args.value c.args.level trees u c.in-Some.later.now c.loop-i.places c.loop-i.i c.loop-i.at (omega (arith, c.loop-i-test.false, c.len-i-end.ensures)))
     ∙ c.loop-i.invariant.judged
@@ -160,11 +160,26 @@ returns-after-loop-i-clause-judged t c =
 pub returns-in-Weights-clause-judged : goal.returns-in-Weights-clause-judged
 returns-in-Weights-clause-judged t c =
     c.judged-in-Weights.ensures
-    ∙ weights_judged (rules_if c.args.turned) c.args.loads.now c.args.value c.args.level c.args.tree.now c.args.order.now c.args.number _ c.as_slice.result.now _ c.in-Weights.is c.as_slice.ensures (search rules)
+    ∙ weights_judged (line_rules c.args.rules) c.args.loads.now c.args.value c.args.level c.args.tree.now c.args.order.now c.args.number _ c.as_slice.result.now _ c.in-Weights.is c.as_slice.ensures (search rules)
 
 pub returns-in-OpenLeaf-clause-judged : goal.returns-in-OpenLeaf-clause-judged
 returns-in-OpenLeaf-clause-judged t c =
-    let rules_now = rules_if c.args.turned in
+    let rules_now = line_rules c.args.rules in
     let told = c.level_holds.ensures rules_now in
     c.judged-in-OpenLeaf.ensures
     ∙ open_judged rules_now c.args.loads.now c.args.value c.args.level c.args.tree.now c.args.order.now c.args.number _ c.in-OpenLeaf.is (search (rules, told))
+
+pub returns-in-Merge-clause-judged : goal.returns-in-Merge-clause-judged
+returns-in-Merge-clause-judged t c =
+    c.judged-in-Merge.ensures
+    ∙ merge_judged (line_rules c.args.rules) c.args.loads.now c.args.value c.args.level c.args.tree.now c.args.order.now c.args.number _ c.in-Merge.is c.merge_holds.ensures
+
+pub returns-in-Count-clause-judged : goal.returns-in-Count-clause-judged
+returns-in-Count-clause-judged t c =
+    c.judged-in-Count.ensures
+    ∙ count_judged (line_rules c.args.rules) c.args.loads.now c.args.value c.args.level c.args.tree.now c.args.order.now c.args.number _ _ _ c.in-Count.is c.count_holds.ensures
+
+pub returns-in-Groups-clause-judged : goal.returns-in-Groups-clause-judged
+returns-in-Groups-clause-judged t c =
+    c.judged-in-Groups.ensures
+    ∙ groups_judged (line_rules c.args.rules) c.args.loads.now c.args.value c.args.level c.args.tree.now c.args.order.now c.args.number _ c.as_slice-in-Groups.result.now _ c.in-Groups.is c.as_slice-in-Groups.ensures c.groups_hold.ensures

@@ -1,5 +1,5 @@
 use Rattle.std.proofs.Common.{◌≡◌, length, drop}
-use Rattle.ec_loads.specs.Line.{rules_if}
+use Rattle.ec_symmetry.specs.Ruled.{line_rules}
 use Rattle.ec_bounds.specs.Left.{IsRestOf}
 use Rattle.ec_checker.specs.Judged.{next}
 use Rattle.ec_checker.proofs.WalkLemmas.{judged_from, kids}
@@ -13,5 +13,5 @@ invariant-loop-i l =
     record {
       same : l.loads ≡ l.initial.loads;
       left : IsRestOf l.rest l.loads;
-      judged : judged_from (rules_if l.turned) l.initial.loads l.value l.level (drop l.i l.trees.items) l.unit l.later l.places l.at ≡ judged_from (rules_if l.turned) l.initial.loads l.value l.level l.trees.items l.unit l.later (kids (rules_if l.turned) l.initial.loads l.unit) (next l.number);
+      judged : judged_from (line_rules l.rules) l.initial.loads l.value l.level (drop l.i l.trees.items) l.unit l.later l.places l.at ≡ judged_from (line_rules l.rules) l.initial.loads l.value l.level l.trees.items l.unit l.later (kids (line_rules l.rules) l.initial.loads l.unit) (next l.number);
     }
