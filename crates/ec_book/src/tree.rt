@@ -19,6 +19,9 @@ pub(crate) fn is_closed_leaf(tree: &Tree) -> bool
         Tree::FullLeaf(_, _) => true,
         Tree::Average => true,
         Tree::Weights(_) => true,
+        Tree::Merge => true,
+        Tree::Count { .. } => true,
+        Tree::Groups(_) => true,
         Tree::OpenLeaf | Tree::Split(_) => false,
     }
 }
@@ -50,6 +53,7 @@ pub(crate) fn filled(tree: Tree, floor: usize, built: &mut Vec<Tree>) -> Tree
             None => unreachable!(),
         },
         Tree::Weights(weights) => Tree::Weights(weights),
+        Tree::Groups(pairs) => Tree::Groups(pairs),
         closed => closed,
     }
 }

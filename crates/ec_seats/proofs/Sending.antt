@@ -13,6 +13,7 @@ use Rattle.std.specs.contracts.sync.Mutex as Mutex
 use Rattle.ec_loads.proofs.loads.Loads.TheSendSync as loads
 use Rattle.ec_loads.proofs.plan.Places.TheSendSync as places
 use Rattle.ec_cert.proofs.cert.Best.TheSendSync as best
+use Rattle.ec_cert.proofs.pairs.Pairs.TheSendSync as pairs
 use Rattle.ec_cert.proofs.weights.Weights.TheSendSync as weights
 use Rattle.ec_cert.proofs.tree.Tree.TheLaws.TheKnot as tree
 use Rattle.ec_book.proofs.piece.Piece.TheSendSync as piece
@@ -24,10 +25,10 @@ use Rattle.ec_seats.specs.contracts.locked.Locked as Locked
 use Rattle.ec_seats.specs.contracts.shared.Shared as Shared
 
 report_send : IsSend Report.the_row
-report_send = search (sendable, crosses, tree.crosses, weights.the_send) depth 20
+report_send = search (sendable, crosses, tree.crosses, weights.the_send, pairs.the_send) depth 20
 
 book_send : IsSend Book.the_row
-book_send = search (sendable, crosses, tree.crosses, report_send, weights.the_send, loads.the_send, places.the_send, best.the_send, piece.the_send, step.the_send) depth 60
+book_send = search (sendable, crosses, tree.crosses, report_send, weights.the_send, pairs.the_send, loads.the_send, places.the_send, best.the_send, piece.the_send, step.the_send) depth 60
 
 locked_send : (T : RattleType) (s : Search.Ghosts T.Denot) (l : Ledger.Ghosts T.Denot) → IsSend T → IsSync T → IsSend (Locked.the_row T s l)
 locked_send T s l send sync = search (sendable, crosses, book_send, share.the_send, ledger.the_send) depth 20

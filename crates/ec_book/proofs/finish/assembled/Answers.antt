@@ -83,6 +83,26 @@ loop-report-preserved-in-Some-2 c =
           ∙ c.loop-report.invariant.same;
     }
 
+pub loop-report-preserved-in-Some-3 : goal.loop-report-preserved-in-Some-3
+loop-report-preserved-in-Some-3 c =
+    let r = c.in-Some.report in
+    let rs = c.pop.new.self.items in
+    let built = c.loop-report.built.items in
+    let left = c.filled-sub.new.built.items in
+    let chain = chain-pop (open_count (shape_of c.args.given)) rs (length built) r (rw c.in-Some.ensures.items at c.loop-report.invariant.chain) in
+    let number : length built - open_count (shape_of r.tree) ≡ r.first = omega (arith, chain.2) in
+    let is : left ≡ take r.first built = c.filled-sub.ensures.left ∙ ap (λ w. take w built) number in
+    let long : length (set left r.piece c.filled-sub.result) ≡ r.first = length-set'' left r.piece c.filled-sub.result ∙ ap length is ∙ length-take' built r.first (omega (arith, chain.2)) in
+    record {
+      chain = subst (λ w. Chain (open_count (shape_of c.args.given)) rs w) (sym long) chain.0;
+      same =
+          draw_step built left (grown (numbered 0 (shape_of c.args.given)) rs) r.piece r.first (shape_of r.tree) c.filled-sub.result (grown-below (open_count (shape_of c.args.given)) rs r.first (numbered 0 (shape_of c.args.given)) chain.0 (Below-numbered 0 (shape_of c.args.given) (open_count (shape_of c.args.given)) (omega arith))) chain.1 (omega (arith, chain.2)) is
+          (c.filled-sub.ensures.tree ∙ ap (λ w. draw (shape_at built) (numbered w (shape_of r.tree))) number)
+          ∙ ap (draw (shape_at built)) (sym (grown-push (numbered 0 (shape_of c.args.given)) rs r))
+          ∙ ap (λ w. draw (shape_at built) (grown (numbered 0 (shape_of c.args.given)) w)) (sym c.in-Some.ensures.items)
+          ∙ c.loop-report.invariant.same;
+    }
+
 pub filled-requires : goal.filled-requires
 filled-requires c = search rules
 

@@ -2,7 +2,7 @@ use Rattle.std.proofs.Common.{◌≡◌, ◌∙◌, ap, sym, arith, rules, ◌+�
 use Rattle.ec_loads.specs.Search.{open_count, open_counts}
 use Rattle.ec_cert.specs.Shapes.{shape_of, shapes_of}
 use Rattle.ec_cert.specs.declared.tree.Tree.{the_lemmas}
-use Rattle.ec_cert.proofs.TreeLemmas.{shape_of-trees}
+use Rattle.ec_cert.proofs.TreeLemmas.{shape_of-trees, shape_of-Groups}
 use Rattle.ec_book.specs.Numbered.{numbered, draw}
 use Rattle.ec_book.specs.Grown.{shape_at}
 use Rattle.ec_book.proofs.DrawLemmas.{shape_at-last, shape_of-OpenLeaf, shape_of-Weights, draw-closed}
@@ -37,6 +37,17 @@ loop-i-preserved-then-not-is_closed_leaf-2 t c =
 
 pub loop-i-preserved-then-not-is_closed_leaf-3 : goal.loop-i-preserved-then-not-is_closed_leaf-3
 loop-i-preserved-then-not-is_closed_leaf-3 t c =
+    let ts = c.replace-trees.result.items in
+    let ls = c.loop-i.trees.items in
+    let j = c.loop-i.i - 1 in
+    let x = c.replace-child.result in
+    let j_is : j + 1 ≡ c.loop-i.i = omega (arith, c.loop-i-test.true) in
+    let at = child_at ts ls c.args.built.now.items c.loop-i.built.items c.loop-i.i j c.loop-i.invariant j_is c.index_mut.result.now x c.index_mut.ensures.value c.replace-child.ensures.value in
+    part-step ts ls c.args.built.now.items c.loop-i.built.items c.loop-i.i j c.loop-i.invariant j_is x c.replace-child.new.dest c.filled.result c.filled.new.built.items at
+    (omega (arith, c.requires, opens_all c.args.tree c.replace-trees.result (shape_of-trees c.args.tree c.in-Split.room c.replace-trees.result c.in-Split.is c.replace-trees.ensures.value))) c.filled.ensures.left c.filled.ensures.tree
+
+pub loop-i-preserved-then-not-is_closed_leaf-4 : goal.loop-i-preserved-then-not-is_closed_leaf-4
+loop-i-preserved-then-not-is_closed_leaf-4 t c =
     let ts = c.replace-trees.result.items in
     let ls = c.loop-i.trees.items in
     let j = c.loop-i.i - 1 in
@@ -82,6 +93,9 @@ returns-after-loop-i-clause-tree t c =
 pub returns-in-Weights-clause-left : goal.returns-in-Weights-clause-left
 returns-in-Weights-clause-left t c = none_taken c.args.tree c.args.built.now.items (search (rules, the_lemmas))
 
+pub returns-in-Groups-clause-left : goal.returns-in-Groups-clause-left
+returns-in-Groups-clause-left t c = none_taken c.args.tree c.args.built.now.items (search (rules, the_lemmas))
+
 pub returns-in_default-clause-left : goal.returns-in_default-clause-left
 returns-in_default-clause-left t c = none_taken c.args.tree c.args.built.now.items (search (rules, the_lemmas))
 
@@ -98,6 +112,11 @@ pub returns-in-Weights-clause-tree : goal.returns-in-Weights-clause-tree
 returns-in-Weights-clause-tree t c =
     let none : open_count (shape_of c.args.tree) ≡ 0 = ap open_count (ap shape_of c.in-Weights.is ∙ shape_of-Weights c.in-Weights.weights) in
     ap shape_of (sym c.in-Weights.is) ∙ sym (draw-closed (shape_at c.args.built.now.items) (shape_of c.args.tree) _ none)
+
+pub returns-in-Groups-clause-tree : goal.returns-in-Groups-clause-tree
+returns-in-Groups-clause-tree t c =
+    let none : open_count (shape_of c.args.tree) ≡ 0 = ap open_count (ap shape_of c.in-Groups.is ∙ shape_of-Groups c.in-Groups.pairs) in
+    ap shape_of (sym c.in-Groups.is) ∙ sym (draw-closed (shape_at c.args.built.now.items) (shape_of c.args.tree) _ none)
 
 pub returns-in_default-clause-tree : goal.returns-in_default-clause-tree
 returns-in_default-clause-tree t c = sym (draw-closed (shape_at c.args.built.now.items) (shape_of c.args.tree) _ (search (rules, the_lemmas)))

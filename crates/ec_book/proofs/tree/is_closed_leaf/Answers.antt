@@ -1,7 +1,7 @@
 use Rattle.std.proofs.Common.{ap, refl, ◌∙◌, inl, inr}
-use Rattle.ec_loads.specs.Shape.{tick, full, average, weighted}
+use Rattle.ec_loads.specs.Shape.{tick, full, average, weighted, merging, counted, grouped}
 use Rattle.ec_cert.specs.Shapes.{shape_of}
-use Rattle.ec_cert.proofs.TreeLemmas.{shape_of-Split}
+use Rattle.ec_cert.proofs.TreeLemmas.{shape_of-Split, shape_of-Merge, shape_of-Count, shape_of-Groups}
 use Rattle.ec_book.proofs.DrawLemmas.{shape_of-TickLeaf, shape_of-FullLeaf, shape_of-Average, shape_of-Weights, shape_of-OpenLeaf, open_not_closed, split_not_closed}
 use Rattle.ec_book.proofs.tree.is_closed_leaf.Goals as goal
 
@@ -16,6 +16,15 @@ returns-in-Weights c = (λ _. (weighted c.in-Weights.field-0, ap shape_of c.in-W
 
 pub returns-in-Average : goal.returns-in-Average
 returns-in-Average c = (λ _. (average, ap shape_of c.in-Average.is ∙ shape_of-Average), λ _. refl)
+
+pub returns-in-Merge : goal.returns-in-Merge
+returns-in-Merge c = (λ _. (merging, ap shape_of c.in-Merge.is ∙ shape_of-Merge), λ _. refl)
+
+pub returns-in-Count : goal.returns-in-Count
+returns-in-Count c = (λ _. (counted c.in-Count.period c.in-Count.bytes, ap shape_of c.in-Count.is ∙ shape_of-Count c.in-Count.period c.in-Count.bytes), λ _. refl)
+
+pub returns-in-Groups : goal.returns-in-Groups
+returns-in-Groups c = (λ _. (grouped c.in-Groups.field-0, ap shape_of c.in-Groups.is ∙ shape_of-Groups c.in-Groups.field-0), λ _. refl)
 
 pub returns-in-OpenLeaf : goal.returns-in-OpenLeaf
 returns-in-OpenLeaf c = elim c.in-OpenLeaf.is [
