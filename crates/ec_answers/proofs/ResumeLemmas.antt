@@ -116,7 +116,8 @@ goes_by_proof workers nodes us c o right none is own = record {
 stopped_fault : (workers : ℕ) (bytes text : List ℕ) (us : Units) (c : CertView) (r : Refusal) → reading bytes ≡ Ok (units_view us) → cert_reading text ≡ Ok c → IsStopped workers us c r → IsResumeFault workers bytes text r
 stopped_fault workers bytes text us c r said read (inl memory) = inl (inr (inl memory))
 stopped_fault workers bytes text us c r said read (inr (inl h)) = inl (inr (inr h))
-stopped_fault workers bytes text us c r said read (inr (inr h)) = inr (inr (inr (h.0, h.1, record { units = us; said = said; cert = c; read = read; fault = h.2 })))
+stopped_fault workers bytes text us c r said read (inr (inr (inl h))) = inr (inr (inr (inl (h.0, h.1, record { units = us; said = said; cert = c; read = read; fault = h.2 }))))
+stopped_fault workers bytes text us c r said read (inr (inr (inr h))) = inr (inr (inr (inr (h.0, (c, read, h.1)))))
 
 -- a text from which nothing comes
 pub stopped_text : (workers : ℕ) (bytes text : List ℕ) (us : Units) (r : Refusal) → reading bytes ≡ Ok (units_view us) → IsStoppedFrom workers us text r → IsResumeFault workers bytes text r

@@ -13,6 +13,7 @@ use Rattle.ec_cert.specs.Shapes.{CertView, cert_view, shape_of}
 use Rattle.ec_cert_text.specs.Reading.{Fails, reading as cert_reading}
 use Rattle.ec_cert_text.specs.Text.{certificate_text}
 use Rattle.ec_cert_text.specs.declared.fault.CertFault.{CertFault}
+use Rattle.ec_cert_text.specs.declared.fault.CertFault.TheVariants as text_fault
 use Rattle.ec_checker.specs.Certified.{IsCertified, IsFaultOf}
 use Rattle.ec_checker.specs.declared.fault.CheckFault.{CheckFault}
 use Rattle.ec_checker.specs.declared.fault.Verdict.TheVariants as verdict
@@ -71,12 +72,18 @@ pub record GoesOn (workers nodes : ℕ) (us : Units) (c : CertView) (o : Outcome
   pub proof : c.level ≡ None → IsProofBy c o
   pub order : HasOrder c.order o
 
--- why nothing comes of it: the checker says no, memory ran out, or the search has no outcome
+-- a certificate of version 4 that shows no more than a level: no search goes on by the strong rules
+abbrev pub IsBeyondSearch : CertView → Type 0
+IsBeyondSearch c = (4 ≤ c.version) × ((l : ℕ) × (c.level ≡ Some l))
+
+-- why nothing comes of it: no search goes on with it, which is told as a version that isn't known; the checker says no, memory ran out, or the search has no
+-- outcome
 abbrev pub IsStopped : ℕ → Units → CertView → Refusal → Type 0
 IsStopped workers us c r =
     (r ≡ out_of_memory)
     ⊎ (((f : SolveFault) × (r ≡ refusal.Solve f) × IsSolveFault workers f)
-    ⊎ ((f : CheckFault) × (r ≡ refusal.Check f) × IsFaultOf us.units us.slots c f))
+    ⊎ (((f : CheckFault) × (r ≡ refusal.Check f) × IsFaultOf us.units us.slots c f)
+    ⊎ ((r ≡ refusal.Cert text_fault.Version) × IsBeyondSearch c)))
 
 -- the text has this fault, or memory ran out over it
 abbrev pub IsTextFault : List ℕ → Refusal → Type 0
@@ -106,10 +113,15 @@ pub record IsNoFor (bytes text : List ℕ) (f : CheckFault) : Type 0 where
   pub read : cert_reading text ≡ Ok cert
   pub fault : IsFaultOf units.units units.slots cert f
 
--- why there is no outcome of it: as of a plan, or memory ran out over the room for the check, or the text has a fault, or the checker says no
+-- no search goes on with the certificate that the text says
+abbrev pub IsTextBeyond : List ℕ → Refusal → Type 0
+IsTextBeyond text r = (r ≡ refusal.Cert text_fault.Version) × ((c : CertView) × (cert_reading text ≡ Ok c) × IsBeyondSearch c)
+
+-- why there is no outcome of it: as of a plan, or memory ran out over the room for the check, or the text has a fault, or no search goes on with its
+-- certificate, or the checker says no
 abbrev pub IsResumeFault : ℕ → List ℕ → List ℕ → Refusal → Type 0
 IsResumeFault workers bytes text r =
-    IsSearchFault workers bytes r ⊎ ((r ≡ check_memory) ⊎ (IsTextFault text r ⊎ ((f : CheckFault) × (r ≡ refusal.Check f) × IsNoFor bytes text f)))
+    IsSearchFault workers bytes r ⊎ ((r ≡ check_memory) ⊎ (IsTextFault text r ⊎ (((f : CheckFault) × (r ≡ refusal.Check f) × IsNoFor bytes text f) ⊎ IsTextBeyond text r)))
 
 -- ---- what is written for it
 

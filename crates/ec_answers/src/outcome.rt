@@ -16,7 +16,7 @@ ghost use Rattle.ec_refusals.specs.Refusals.{out_of_memory};
 
 use crate::told::{File, Told};
 use ec_cert::{Cert, UnitLines};
-use ec_checker::level_in;
+use ec_checker::{Rules, level_in};
 use ec_lines::outcome_answer;
 use ec_loads::Loads;
 use ec_outcome::{Ending, Outcome};
@@ -40,7 +40,14 @@ fn level_of(loads: &mut Loads, units: &Units, outcome: &Outcome) -> Option<u64>
             order,
             tree,
             ..
-        } => Some(level_in(loads, units, order.as_slice(), tree, best)),
+        } => Some(level_in(
+            loads,
+            units,
+            Rules::Turned,
+            order.as_slice(),
+            tree,
+            best,
+        )),
     }
 }
 

@@ -14,4 +14,5 @@ mod walk;
 pub use checking::{check, check_in};
 pub use fault::{CheckFault, Verdict};
 pub use law::faults_refute;
+pub use ec_symmetry::Rules;
 pub use shown::{level, level_in};

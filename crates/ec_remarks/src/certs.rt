@@ -1,6 +1,6 @@
 //! Faults of a certificate's text.
 
-use crate::due::{Due, cert_line, due_at, is_partial};
+use crate::due::{Due, cert_line, due_at, has_level_line};
 use crate::inputs::Inputs;
 use crate::quoted::{add_bytes, add_quoted};
 use crate::syntax::line_at;
@@ -43,13 +43,17 @@ fn kind_of(cert: &str, line: usize) -> &str {
 fn version_note(cert: &str, due: Due, kind: &str) -> &'static str {
     match (due, kind) {
         (Due::Node, "W") =>
-            "A leaf W stands only in a certificate that begins with ecplan 2 or ecplan 3.\n",
-        (Due::Node | Due::LaterNode, "O") =>
-            "A leaf O stands only in a certificate that begins with ecplan 3.\n",
-        (Due::Tree, "level") if !is_partial(cert) =>
-            "A line level stands only in a certificate that begins with ecplan 3.\n",
+            "A leaf W stands only in a certificate that begins with ecplan 2, ecplan 3 or ecplan 4.\n",
+        (Due::Node | Due::LaterNode | Due::PartialNode, "M" | "N" | "G") =>
+            "Leaves M, N and G stand only in a certificate that begins with ecplan 4.\n",
+        (Due::Node | Due::LaterNode | Due::StrongNode, "O") =>
+            "A leaf O stands only in a certificate that has a level: it begins with ecplan 3 or ecplan 4.\n",
+        (Due::Tree, "level") if !has_level_line(cert) =>
+            "A line level stands only in a certificate that begins with ecplan 3 or ecplan 4.\n",
         (Due::Level, _) =>
             "A certificate that begins with ecplan 3 has this line before its tree.\n",
+        (Due::LevelOrNone, _) =>
+            "A certificate that begins with ecplan 4 has this line before its tree.\n",
         _ => "",
     }
 }
@@ -105,10 +109,23 @@ pub(crate) fn tell_bytes(out: &mut Draft, inputs: &Inputs<'_>) {
     }
 }
 
-/// Tells that a text doesn't begin as a certificate.
+/// Whether a text begins as a certificate with which no search goes on.
+fn is_known(inputs: &Inputs<'_>) -> bool {
+    match inputs.cert {
+        Some(cert) => cert.starts_with(b"ecplan 4\n"),
+        None => false,
+    }
+}
+
+/// Tells that a text doesn't begin as a certificate, or that no search goes on with it.
 pub(crate) fn tell_version(out: &mut Draft, inputs: &Inputs<'_>) {
     add_cert(out, inputs);
-    out.add(" does not begin with a line ecplan 1, ecplan 2 or ecplan 3, as each certificate does");
+    if is_known(inputs) {
+        return out.add(
+            " is of version 4 and shows no more than a level: no search goes on with it yet.\n",
+        );
+    }
+    out.add(" does not begin with a line ecplan 1, ecplan 2, ecplan 3 or ecplan 4, as each certificate does");
     let Some(cert) = inputs.cert else {
         return out.add(".\n");
     };

@@ -10,10 +10,13 @@ pub(crate) enum Due {
     Value,
     Place,
     Level,
+    LevelOrNone,
     Tree,
     Node,
     LaterNode,
     PartialNode,
+    StrongNode,
+    StrongPartialNode,
     End,
 }
 
@@ -21,7 +24,7 @@ impl Due {
     /// The form of such a line, and its ranges.
     pub(crate) fn as_str(self) -> &'static str {
         match self {
-            Due::Version => "ecplan 1, ecplan 2 or ecplan 3",
+            Due::Version => "ecplan 1, ecplan 2, ecplan 3 or ecplan 4",
             Due::Slots => "slots S, S 1 to 8",
             Due::FirstUnit => "unit NAME BYTES PERIOD, BYTES 1 to 1486, PERIOD 1 to 60",
             Due::UnitOrOrder =>
@@ -29,6 +32,7 @@ impl Due {
             Due::Value => "value V, V 84 to 12304, or value none",
             Due::Place => "place PHASE SLOT, PHASE 0 to 59, SLOT 0 to 7",
             Due::Level => "level L, L 0 to 12304",
+            Due::LevelOrNone => "level L, L 0 to 12304, or level none",
             Due::Tree => "tree",
             Due::Node =>
                 "a node: S N (1 to 480), T TICK (0 to 1023), F TICK SLOT (SLOT 0 to 7), or A",
@@ -36,6 +40,10 @@ impl Due {
                 "a node: S N (1 to 480), T TICK (0 to 1023), F TICK SLOT (SLOT 0 to 7), A, or W and 1 to 1024 weights (0 to 65535)",
             Due::PartialNode =>
                 "a node: S N (1 to 480), T TICK (0 to 1023), F TICK SLOT (SLOT 0 to 7), A, O, or W and 1 to 1024 weights (0 to 65535)",
+            Due::StrongNode =>
+                "a node: S N, T TICK, F TICK SLOT, A, W and weights, M, N PERIOD BYTES (1 to 60, 1 to 1486), or G and 1 to 48 pairs COUNT ROOM (0 to 12304)",
+            Due::StrongPartialNode =>
+                "a node: S N, T TICK, F TICK SLOT, A, O, W and weights, M, N PERIOD BYTES (1 to 60, 1 to 1486), or G and 1 to 48 pairs COUNT ROOM (0 to 12304)",
             Due::End => "end",
         }
     }
@@ -71,7 +79,7 @@ fn places_due(value: Option<&str>, units: usize) -> usize {
     }
 }
 
-/// The line, from 0, behind the value and the places: of version 3 that of the level, else that before the nodes.
+/// The line, from 0, behind the value and the places: of versions 3 and 4 that of the level, else that before the nodes.
 pub(crate) fn line_after_plan(cert: &str) -> usize {
     let units = unit_lines(cert);
     let value = units.saturating_add(3);
@@ -96,21 +104,51 @@ fn is_whole(cert: &str, tree: usize, line: usize) -> bool {
     missing == 0
 }
 
-/// Whether a certificate is of version 3, that of a search without a proof.
+/// Whether a certificate is of version 4, by the strong rules.
+fn is_strong(cert: &str) -> bool {
+    cert_line(cert, 0) == Some("ecplan 4")
+}
+
+/// Whether a certificate has a line of a level: in versions 3 and 4.
+pub(crate) fn has_level_line(cert: &str) -> bool {
+    cert_line(cert, 0) == Some("ecplan 3") || is_strong(cert)
+}
+
+/// Whether a certificate has a level, as that of a search without a proof.
 pub(crate) fn is_partial(cert: &str) -> bool {
-    cert_line(cert, 0) == Some("ecplan 3")
+    has_level_line(cert) && cert_line(cert, line_after_plan(cert)) != Some("level none")
 }
 
-/// How many lines of a level are due: one in version 3.
+/// How many lines of a level are due: one in versions 3 and 4.
 fn levels_due(cert: &str) -> usize {
-    if is_partial(cert) { 1 } else { 0 }
+    if has_level_line(cert) { 1 } else { 0 }
 }
 
-/// What is due where a node is: in version 1 no leaf has weights, and only in version 3 a leaf may be open.
+/// What is due where a level is.
+fn level_due(cert: &str) -> Due {
+    if is_strong(cert) {
+        Due::LevelOrNone
+    } else {
+        Due::Level
+    }
+}
+
+/// What is due where a node of the strong rules is: a leaf may be open where there is a level.
+fn strong_node_due(cert: &str) -> Due {
+    if is_partial(cert) {
+        Due::StrongPartialNode
+    } else {
+        Due::StrongNode
+    }
+}
+
+/// What is due where a node is: in version 1 no leaf has weights, and before version 4 only in version 3 a leaf may be
+/// open.
 fn node_due(cert: &str) -> Due {
     match cert_line(cert, 0) {
         Some("ecplan 1") => Due::Node,
         Some("ecplan 3") => Due::PartialNode,
+        Some("ecplan 4") => strong_node_due(cert),
         _ => Due::LaterNode,
     }
 }
@@ -128,7 +166,7 @@ pub(crate) fn due_at(cert: &str, line: usize) -> Due {
         _ if line <= order => Due::UnitOrOrder,
         _ if line == value => Due::Value,
         _ if line < level => Due::Place,
-        _ if line < tree => Due::Level,
+        _ if line < tree => level_due(cert),
         _ if line == tree => Due::Tree,
         _ if is_whole(cert, tree, line) => Due::End,
         _ => node_due(cert),

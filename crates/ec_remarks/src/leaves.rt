@@ -41,6 +41,19 @@ fn without_value(cert: &str) -> &'static str {
     }
 }
 
+/// When a leaf of the strong rules holds.
+fn strong_leaf(leaf: &str) -> &'static str {
+    match leaf.split(' ').next() {
+        Some("M") =>
+            "A leaf M holds where the value is at most 1579 and some unit has a slot above 0.\n",
+        Some("N") =>
+            "A leaf N holds where more units of its period and of at least its bytes have no place than find room.\n",
+        Some("G") =>
+            "A leaf G holds where each period of units without a place needs as many new groups as its pair says, and the average of all ticks with them is too great.\n",
+        _ => "",
+    }
+}
+
 /// Adds why the leaf at a line of a certificate, from 0, doesn't hold, where that line says it.
 pub(crate) fn add_leaf_fault(out: &mut Draft, doc: Doc<'_>, cert: &str, line: usize) {
     let Some(leaf) = cert_line(cert, line) else {
@@ -56,6 +69,6 @@ pub(crate) fn add_leaf_fault(out: &mut Draft, doc: Doc<'_>, cert: &str, line: us
     }
     match leaf.strip_prefix("W ") {
         Some(weights) => add_weights(out, doc, weights),
-        None => {}
+        None => out.add(strong_leaf(leaf)),
     }
 }

@@ -19,6 +19,7 @@ use Rattle.ec_cert.specs.declared.cert.Best.{Best}
 use Rattle.ec_cert.specs.BestPlan.{value_of, IsBestPlan}
 use Rattle.ec_cert.specs.Shapes.{CertView, shape_of}
 use Rattle.ec_cert.specs.Versions.{rules_of}
+use Rattle.ec_cert.specs.LeafKinds.{kinds_in}
 use Rattle.ec_cert.specs.WellFormed.{IsLevelLine}
 use Rattle.ec_checker.specs.Certified.{IsShown}
 use Rattle.ec_checker.proofs.HeadLemmas.{order_ready}
@@ -36,7 +37,7 @@ use Rattle.ec_workers.proofs.LevelLemmas.{tree-partial, tree-short}
 shows_level : (us : List SyncUnit) (n : ℕ) (c : CertView) (p : IsPartialCert us n c) → ShowsLevel (line_by turned_time (loads_of us) n) (value_of c.best) p.level.0 c.tree (no_places (loads_of us)) c.order
 shows_level us n c p =
     let line : IsLevelLine c.version (Some p.level.0) = subst (λ l. IsLevelLine c.version l) p.level.1 p.formed.level in
-    let most = p.formed.most_version in
+    let most = p.version in
     let is : c.version ≡ 3 = omega (arith, line.0, most) in
     let shown : IsShown (line_by (rules_of c.version) (loads_of us) n) (value_of c.best) (Some p.level.0) c.tree c.order =
     subst (λ l. IsShown (line_by (rules_of c.version) (loads_of us) n) (value_of c.best) l c.tree c.order) p.level.1 p.certified.shown in
@@ -46,11 +47,11 @@ pub goes-on : (us : List SyncUnit) (n : ℕ) (c : CertView) → IsPartialCert us
 goes-on us n c p =
     let line = line_by turned_time (loads_of us) n in
     let shows = shows_level us n c p in
-    (tree-partial (λ qs _. LevelHolds line (Some p.level.0) qs) line (value_of c.best) c.tree (no_places (loads_of us)) c.order shows.1, tree-short c.version 49 c.tree p.formed.tree)
+    (tree-partial (λ qs _. LevelHolds line (Some p.level.0) qs) line (value_of c.best) c.tree (no_places (loads_of us)) c.order shows.1, tree-short (kinds_in c.version c.level) 49 c.tree p.formed.tree)
 
 -- its level is the one that it states
 abbrev at_level : (us : List SyncUnit) (n : ℕ) (c : CertView) (l : ℕ) → IsPartialCert us n c → c.level ≡ Some l → IsPartialCert us n c
-at_level us n c l p is = record { formed = p.formed; certified = p.certified; level = (l, is) }
+at_level us n c l p is = record { formed = p.formed; certified = p.certified; level = (l, is); version = p.version }
 
 range : (us : List SyncUnit) (n : ℕ) (c : CertView) (l : ℕ) → IsPartialCert us n c → c.level ≡ Some l → l ≤ 12304
 range us n c l p is = let line : IsLevelLine c.version (Some l) = subst (λ w. IsLevelLine c.version w) is p.formed.level in line.1

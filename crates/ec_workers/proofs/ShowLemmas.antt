@@ -20,6 +20,7 @@ use Rattle.ec_symmetry.specs.Orders.{IsOrder}
 use Rattle.ec_symmetry.proofs.CountLemmas.{AreLeft, AreLeft-none}
 use Rattle.ec_cert.specs.declared.cert.Best.{Best}
 use Rattle.ec_cert.specs.Shapes.{CertView}
+use Rattle.ec_cert.specs.LeafKinds.{kinds_in}
 use Rattle.ec_cert.specs.WellFormed.{HasLevels, IsUnitLine, IsPlaceLine, IsBestOrNone, IsLevelLine, IsWellFormed}
 use Rattle.ec_tree.specs.Trees.{TreesBound}
 use Rattle.ec_cert.specs.BestPlan.{value_of, IsBestPlan}
@@ -97,8 +98,8 @@ certified us n order best tree found = record {
 abbrev view_of : List SyncUnit → ℕ → ℕ → List ℕ → Option Best → Option ℕ → Shape → CertView
 view_of us n version order best level tree = record { version = version; slots = n; units = lines_of us; order = order; best = best; level = level; tree = tree }
 
-formed-by : (us : List SyncUnit) (n version : ℕ) (order : List ℕ) (best : Option Best) (level : Option ℕ) (tree : Shape) → AreFew us n → 1 ≤ version → version ≤ 3 → IsOrder (length us) order → IsBestPlan (loads_of us) n best → IsLevelLine version level
-    → (AreLoads (loads_of us) → All (λ u. u < length (loads_of us)) order → length order ≤ 48 → HasLevels version 49 tree) → IsWellFormed (view_of us n version order best level tree)
+formed-by : (us : List SyncUnit) (n version : ℕ) (order : List ℕ) (best : Option Best) (level : Option ℕ) (tree : Shape) → AreFew us n → 1 ≤ version → version ≤ 4 → IsOrder (length us) order → IsBestPlan (loads_of us) n best → IsLevelLine version level
+    → (AreLoads (loads_of us) → All (λ u. u < length (loads_of us)) order → length order ≤ 48 → HasLevels (kinds_in version level) 49 tree) → IsWellFormed (view_of us n version order best level tree)
 formed-by us n version order best level tree few least most order_is best_is level_is levels =
     let count : length (lines_of us) ≡ length us = length-map us line_of in
     let loads : length (loads_of us) ≡ length us = length-map us load_of in
@@ -123,8 +124,8 @@ left-first us n order is = AreLeft-none (line_by turned_time (loads_of us) n) or
 
 pub formed : (us : List SyncUnit) (n : ℕ) (order : List ℕ) (best : Option Best) (tree : Shape) → AreFew us n → IsFound us n order best tree → IsWellFormed (cert_for us n order best tree)
 formed us n order best tree few found =
-    formed-by us n 2 order best None tree few (omega arith) (omega arith) found.order_is found.best_is (omega arith) (λ within below deep.
-    tree-levels (λ _ _. ⊥) 2 (omega arith) (λ _ _ no. absurd no) (line_by turned_time (loads_of us) n) (value_of best) tree (no_places (loads_of us)) order 48 within few.least_slots few.most_slots below (left-first us n order found.order_is) deep found.short found.tree_is)
+    formed-by us n 2 order best None tree few (omega arith) (omega arith) found.order_is found.best_is (inl (omega arith)) (λ within below deep.
+    tree-levels (λ _ _. ⊥) (kinds_in 2 None) refl (λ _ _ no. absurd no) (line_by turned_time (loads_of us) n) (λ no. absurd no) (value_of best) tree (no_places (loads_of us)) order 48 within few.least_slots few.most_slots below (left-first us n order found.order_is) deep found.short found.tree_is)
 
 checked : FaultsRefute → (us : List SyncUnit) (n : ℕ) (c : CertView) → IsCertified us n c → (r : Result Verdict CheckFault) → IsAnswer us n c r → (r ≡ Ok (verdict_of c.best c.level)) ⊎ (r ≡ Err fault.OutOfMemory)
 checked refute us n c right (Ok w) a = inl (ap Ok a.1)
@@ -153,7 +154,7 @@ partial-shows refute us n order best tree level few order_is best_is partial is 
     let right : IsCertified us n (partial_for us n order best level tree) = record { head = record { same = record { slots = refl; lines = refl }; order = order_is; best = best_is; level = is.shows.0 }; shown = is.shows } in
     record {
       formed = formed-by us n 3 order best (Some level) tree few (omega arith) (omega arith) order_is best_is (omega arith, is.range) (λ within below deep.
-          tree-levels (λ qs _. LevelHolds line (Some level) qs) 3 (omega arith) (λ _ _ _. omega arith) line (value_of best) tree (no_places (loads_of us)) order 48 within few.least_slots few.most_slots below (left-first us n order order_is) deep partial.1 is.shows.1);
+          tree-levels (λ qs _. LevelHolds line (Some level) qs) (kinds_in 3 (Some level)) refl (λ _ _ _. refl) line (λ no. absurd no) (value_of best) tree (no_places (loads_of us)) order 48 within few.least_slots few.most_slots below (left-first us n order order_is) deep partial.1 is.shows.1);
       certified = right;
       checked = checked refute us n (partial_for us n order best level tree) right;
     }

@@ -1,5 +1,5 @@
 -- What the answers of a search mean.
-use Rattle.std.specs.Prelude.{◌≡◌, ◌⊎◌, ℕ, List, length, Option, Some, None, Result, Ok, Err}
+use Rattle.std.specs.Prelude.{◌≡◌, ◌⊎◌, ℕ, ◌≤◌, List, length, Option, Some, None, Result, Ok, Err}
 use Rattle.ec_units.specs.declared.slave.Place.{Place}
 use Rattle.ec_units.specs.declared.unit.Unit.{Unit as SyncUnit}
 use Rattle.ec_units.specs.Load.{loads_of}
@@ -55,8 +55,10 @@ pub record IsWithoutPlan (units : List SyncUnit) (n : ℕ) (c : CertView) : Type
   pub held : c.best ≡ None
   pub shows : Shows units n c verdict.NoPlan
 
--- a certificate that a search can go on with: it has a text, the checker says yes to it, and it shows no more than a level
+-- a certificate that a search can go on with: it has a text, the checker says yes to it, it shows no more than a level, and it is of version 3: no search goes by
+-- the strong rules
 pub record IsPartialCert (units : List SyncUnit) (n : ℕ) (c : CertView) : Type 0 where
   pub formed : IsWellFormed c
   pub certified : IsCertified units n c
   pub level : (l : ℕ) × (c.level ≡ Some l)
+  pub version : c.version ≤ 3

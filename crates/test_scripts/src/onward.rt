@@ -7,7 +7,7 @@ use crate::call::Call;
 use crate::certs::{add_verdict, add_written, resumable};
 use crate::crews::{Crew, Told, add_outcome, crew_of};
 use ec_cert::Cert;
-use ec_checker::level;
+use ec_checker::{Rules, level};
 use ec_drafts::Draft;
 use ec_units::Units;
 use ec_workers::{Outcome, SolveFault, lines_of, partial, solve, solve_from};
@@ -28,7 +28,7 @@ fn cert_of(alloc: Global, units: &Units, outcome: Outcome) -> Result<Cert, Alloc
             tree,
             ..
         } => {
-            let level = level(alloc, units, order.as_slice(), &tree, &best)?;
+            let level = level(alloc, units, Rules::Turned, order.as_slice(), &tree, &best)?;
             let lines = lines_of(alloc, units)?;
             Ok(partial(units, lines, order, best, tree, level))
         }
