@@ -40,14 +40,7 @@ fn level_of(loads: &mut Loads, units: &Units, outcome: &Outcome) -> Option<u64>
             order,
             tree,
             ..
-        } => Some(level_in(
-            loads,
-            units,
-            Rules::Turned,
-            order.as_slice(),
-            tree,
-            best,
-        )),
+        } => Some(level_in(loads, units, Rules::Turned, order.as_slice(), tree, best)),
     }
 }
 
