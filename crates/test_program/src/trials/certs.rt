@@ -1,7 +1,9 @@
 //! Which certificates are well formed. They are made by hand, since most of them have no text.
 
-use ec_cert::{Best, Cert, Order, Tree, UnitLine, UnitLines, Weights, split_of, well_formed};
-use ec_loads::{Places, Plan};
+use ec_cert::{
+    Best, Cert, Order, Pairs, Tree, UnitLine, UnitLines, Weights, split_of, well_formed,
+};
+use ec_loads::{Pair, Places, Plan};
 use ec_units::Name;
 use std::alloc::{AllocError, Global};
 
@@ -18,7 +20,28 @@ const ROWS: &str = "\
 2 - - weights 0 => wrong
 2 - - weights 1025 => wrong
 3 0 - weights 1 => right
-4 0 - weights 1 => wrong
+4 0 - weights 1 => right
+5 0 - weights 1 => wrong
+0 - - full leaf => wrong
+4 - - weights 1 => right
+4 12304 - open leaf => right
+4 12305 - open leaf => wrong
+4 - - open leaf => wrong
+4 - - merge leaf => right
+4 0 - merge leaf => right
+3 0 - merge leaf => wrong
+4 - - count 1 => right
+4 - - count 1486 => right
+4 - - count 0 => wrong
+4 - - count 1487 => wrong
+3 0 - count 1 => wrong
+4 - - pairs 1 => right
+4 - - pairs 48 => right
+4 - - pairs 0 => wrong
+4 - - pairs 49 => wrong
+2 - - pairs 1 => wrong
+4 - - room 12304 => right
+4 - - room 12305 => wrong
 3 0 - open leaf => right
 3 12304 - open leaf => right
 3 12305 - open leaf => wrong
@@ -35,6 +58,18 @@ fn weights(alloc: Global, count: u16) -> Result<Tree, AllocError> {
         weights.push(65_535 - weight)?;
     }
     Ok(Tree::Weights(Weights::new(alloc, weights)?))
+}
+
+/// So many pairs, each of 65,535 groups with this room.
+fn pairs(alloc: Global, count: u16, room: u16) -> Result<Tree, AllocError> {
+    let mut pairs = Vec::new(alloc);
+    for _ in 0..count {
+        pairs.push(Pair {
+            count: 65_535,
+            room,
+        })?;
+    }
+    Ok(Tree::Groups(Pairs::new(alloc, pairs)?))
 }
 
 /// So many splits of one child above one another, and a leaf.
@@ -55,6 +90,13 @@ fn tree_of(alloc: Global, kind: &str, count: u16) -> Result<Tree, AllocError> {
         "tick" => Ok(Tree::TickLeaf(u32::from(count))),
         "average" => Ok(Tree::Average),
         "weights" => weights(alloc, count),
+        "merge" => Ok(Tree::Merge),
+        "count" => Ok(Tree::Count {
+            period: 60,
+            bytes: count,
+        }),
+        "pairs" => pairs(alloc, count, 12_304),
+        "room" => pairs(alloc, 1, count),
         "split" => split_of(alloc, Vec::new(alloc)),
         "tower" => tower(alloc, count),
         _ => Ok(Tree::OpenLeaf),
