@@ -125,7 +125,9 @@ pub(crate) fn tell_version(out: &mut Draft, inputs: &Inputs<'_>) {
             " is of version 4 and shows no more than a level: no search goes on with it yet.\n",
         );
     }
-    out.add(" does not begin with a line ecplan 1, ecplan 2, ecplan 3 or ecplan 4, as each certificate does");
+    out.add(
+        " does not begin with a line ecplan 1, ecplan 2, ecplan 3 or ecplan 4, as each certificate does",
+    );
     let Some(cert) = inputs.cert else {
         return out.add(".\n");
     };
