@@ -59,11 +59,11 @@ pub(crate) fn add_names(page: &mut Draft, scale: &Scale) {
         page,
         "r",
         LEFT.saturating_sub(80),
-        ABOVE.saturating_sub(100),
+        ABOVE.saturating_sub(90),
         "bytes",
     );
     let right = scale.right().saturating_add(80);
-    add_text(page, "l", right, ABOVE.saturating_sub(100), "time");
+    add_text(page, "l", right, ABOVE.saturating_sub(90), "time");
 }
 
 /// Adds the line at the bytes that fit into a tick, where it is near.

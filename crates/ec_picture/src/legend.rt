@@ -7,7 +7,7 @@ use ec_drafts::Draft;
 use ec_loads::Loads;
 
 /// Where the heading and the two lines of the legend stand.
-const LINES: (u64, u64, u64) = (180, 360, 530);
+const LINES: (u64, u64, u64) = (150, 320, 490);
 
 /// Adds the heading.
 pub(crate) fn add_heading(page: &mut Draft, loads: &Loads, tick_ns: u32) {
