@@ -18,6 +18,9 @@ pub enum Content {
     Capture,
     Picture,
     Units,
+    Header,
+    Map,
+    Report,
 }
 
 impl Content {
@@ -28,6 +31,9 @@ impl Content {
             Content::Capture => &[0x4D, 0x3C, 0xB2, 0xA1],
             Content::Picture => b"<svg ",
             Content::Units => b"",
+            Content::Header => b"/* A plan of ecplan",
+            Content::Map => b"unit,station,direction,",
+            Content::Report => b"<!DOCTYPE html>\n<!-- A report of ecplan -->",
         }
     }
 }
@@ -66,7 +72,7 @@ fn is_output(files: &impl Files, found: &fs::Metadata) -> bool {
 
 /// Whether the file at a path begins as the content does.
 fn begins<F: Files>(files: &F, path: &str, content: Content) -> io::Result<bool> {
-    let mut front = [0u8; 8];
+    let mut front = [0u8; 64];
     let count = fs::open(files, path)?.read(&mut front)?;
     Ok(front[..count].starts_with(content.front()))
 }

@@ -86,7 +86,7 @@ impl<'a, F: Files> Late<'a, F> {
     ) -> Result<Late<'a, F>, AllocError>
         ensures { IfOk result (λ late. option_and_then F.File.contents late.file ≡ None) }
     {
-        let place = Place::of(files, alloc, path);
+        let place = Place::of(files, alloc, path)?;
         let mut name = String::new(alloc);
         if let Place::Beside { path } = &place {
             write_name(&mut name, path.as_str(), MOST_NAMES)?;

@@ -1,6 +1,6 @@
 //! Where the bytes for a path go.
 
-use std::alloc::Global;
+use std::alloc::{AllocError, Global};
 use std::io::ErrorKind;
 use std::path::Path;
 use std::rt::Files;
@@ -47,12 +47,13 @@ fn find_place<F: Files>(files: &F, alloc: Global, path: &str) -> io::Result<Plac
 }
 
 impl Place {
-    /// Where the bytes for a path go. A link to a file stands for the file that it leads to; one that leads nowhere, a
-    /// folder, and a file that may not be written can't be written.
-    pub(crate) fn of<F: Files>(files: &F, alloc: Global, path: &str) -> Place {
+    /// Where the bytes for a path go, unless memory runs out. A link to a file stands for the file that it leads to; one that
+    /// leads nowhere, a folder, and a file that may not be written can't be written.
+    pub(crate) fn of<F: Files>(files: &F, alloc: Global, path: &str) -> Result<Place, AllocError> {
         match find_place(files, alloc, path) {
-            Ok(place) => place,
-            Err(why) => Place::Nowhere { why },
+            Ok(place) => Ok(place),
+            Err(why) if why.kind() == ErrorKind::OutOfMemory => Err(AllocError),
+            Err(why) => Ok(Place::Nowhere { why }),
         }
     }
 }
