@@ -116,5 +116,6 @@ pub(crate) fn tell_outcome(
         file: File::Cert(cert),
         plan: None,
         ending,
+        verdict: None,
     })
 }

@@ -12,6 +12,7 @@ ghost use Rattle.ec_answers.specs.Told.{HasInput, IsCaptureTold, IsOfPlan, IsPla
 use crate::check::check_answer;
 use crate::plans::plan_for;
 use crate::told::{File, Told, without_file};
+use ec_checker::Verdict;
 use ec_command::Job;
 use ec_inputs::{Given, Inputs};
 use ec_lines::{Player, cost_of, plan_capture, plan_cost, plan_frames};
@@ -32,6 +33,7 @@ fn tell_capture(alloc: Global, units: &Units, plan: &Plan) -> Result<Told, Refus
         file: File::Capture(made.file),
         plan: None,
         ending: None,
+        verdict: None,
     })
 }
 
@@ -61,8 +63,12 @@ fn tell_plan<P: Player>(
     }
 }
 
-/// What is told, with the plan of which it is told.
-fn with_plan(told: Result<Told, Refusal>, plan: Plan) -> Result<Told, Refusal>
+/// What is told, with the plan of which it is told, and what was said of its certificate.
+fn with_plan(
+    told: Result<Told, Refusal>,
+    plan: Plan,
+    verdict: Option<Verdict>,
+) -> Result<Told, Refusal>
     ensures text { told_of result ≡ told_of told }
     ensures file { file_of result ≡ file_of told }
     ensures formed { IsWritable told → IsWritable result }
@@ -74,6 +80,7 @@ fn with_plan(told: Result<Told, Refusal>, plan: Plan) -> Result<Told, Refusal>
             file: told.file,
             plan: Some(plan),
             ending: None,
+            verdict,
         }),
         Err(refusal) => Err(refusal),
     }
@@ -110,9 +117,10 @@ pub fn answer_plain<P: Player>(
         Job::Plan { .. } => unreachable!(),
         Job::Resume { .. } => unreachable!(),
         Job::Frames | Job::Capture | Job::Play | Job::PlanCost => {
-            let plan = plan_for(alloc, &units, given)?;
+            let mut verdict = None;
+            let plan = plan_for(alloc, &units, given, &mut verdict)?;
             let told = tell_plan(player, alloc, job, &units, &plan);
-            with_plan(told, plan)
+            with_plan(told, plan, verdict)
         }
     }
 }

@@ -13,7 +13,7 @@ ghost use Rattle.ec_lines.specs.Output.{IsCertText, IsReadText, IsTextFor, refus
 
 use ec_cert::Cert;
 use ec_cert_text::read_cert;
-use ec_checker::check_in;
+use ec_checker::{Verdict, check_in};
 use ec_inputs::Given;
 use ec_lines::placed_plan;
 use ec_loads::{Loads, Plan};
@@ -21,16 +21,23 @@ use ec_refusals::Refusal;
 use ec_units::Units;
 use std::alloc::Global;
 
-/// The plan of a certificate where the checker says yes, or why there is none. The loads are those of the units, with no
-/// place.
-fn best_plan(loads: &mut Loads, units: &Units, cert: Cert) -> Result<Plan, Refusal>
+/// The plan of a certificate where the checker says yes, or why there is none; `verdict` gets what it says. The loads are those
+/// of the units, with no place.
+fn best_plan(
+    loads: &mut Loads,
+    units: &Units,
+    cert: Cert,
+    verdict: &mut Option<Verdict>,
+) -> Result<Plan, Refusal>
     requires { loads.old ≡ record { loads = loads_of units.now.units; slots = units.now.slots; places = no_places (loads_of units.now.units) } }
     ensures ok { IfOk result (λ plan. IsBestPlanOf units.now (cert_view cert) plan.places) }
     ensures err { IfErr result (λ r. IsFramesMemory r ⊎ IsCertText IsFramesText (units_view units.now) (cert_view cert) (refused r)) }
 {
-    if let Err(fault) = check_in(loads, units, &cert) {
+    let said = check_in(loads, units, &cert);
+    if let Err(fault) = said {
         return Err(Refusal::Check(fault));
     }
+    *verdict = said.ok();
     let Cert { best, .. } = cert;
     match best {
         Some(best) => Ok(best.plan),
@@ -38,20 +45,31 @@ fn best_plan(loads: &mut Loads, units: &Units, cert: Cert) -> Result<Plan, Refus
     }
 }
 
-/// The plan of a certificate's text.
-fn text_plan(alloc: Global, loads: &mut Loads, units: &Units, text: &[u8]) -> Result<Plan, Refusal>
+/// The plan of a certificate's text; `verdict` gets what the checker says.
+fn text_plan(
+    alloc: Global,
+    loads: &mut Loads,
+    units: &Units,
+    text: &[u8],
+    verdict: &mut Option<Verdict>,
+) -> Result<Plan, Refusal>
     requires { loads.old ≡ record { loads = loads_of units.now.units; slots = units.now.slots; places = no_places (loads_of units.now.units) } }
     ensures ok { IfOk result (λ plan. IsCertPlan text.now (units_view units.now) plan.places) }
     ensures legal { IfOk result (λ plan. IsLegal (loads_of units.now.units) units.now.slots plan.places) }
     ensures err { IfErr result (λ r. IsFramesMemory r ⊎ IsReadText IsFramesText (units_view units.now) text.now (refused r)) }
 {
     let cert = read_cert(alloc, text)?;
-    best_plan(loads, units, cert)
+    best_plan(loads, units, cert, verdict)
 }
 
-/// The plan of the certificate where there is one, else that of the places in the units. The room of the certificate is
-/// that of the units, with no place.
-pub(crate) fn plan_for(alloc: Global, units: &Units, given: Option<Given>) -> Result<Plan, Refusal>
+/// The plan of the certificate where there is one, else that of the places in the units; `verdict` gets what the checker says
+/// of a certificate. The room of the certificate is that of the units, with no place.
+pub(crate) fn plan_for(
+    alloc: Global,
+    units: &Units,
+    given: Option<Given>,
+    verdict: &mut Option<Verdict>,
+) -> Result<Plan, Refusal>
     requires room { IfSome given (λ g. g.loads ≡ record { loads = loads_of units.now.units; slots = units.now.slots; places = no_places (loads_of units.now.units) }) }
     ensures ok { IfOk result (λ plan. IsFramedPlan (option_map (λ g. g.text.items) given) (units_view units.now) plan.places) }
     ensures legal { IfOk result (λ plan. IsLegal (loads_of units.now.units) units.now.slots plan.places) }
@@ -60,7 +78,7 @@ pub(crate) fn plan_for(alloc: Global, units: &Units, given: Option<Given>) -> Re
     match given {
         Some(given) => {
             let Given { mut loads, text } = given;
-            text_plan(alloc, &mut loads, units, &text)
+            text_plan(alloc, &mut loads, units, &text, verdict)
         }
         None => placed_plan(alloc, units),
     }

@@ -5,6 +5,7 @@ ghost use Rattle.ec_lines.specs.Output.{written_of};
 ghost use Rattle.ec_answers.specs.Told.{told, file_of, plan_told};
 
 use ec_cert::Cert;
+use ec_checker::Verdict;
 use ec_lines::Answer;
 use ec_loads::Plan;
 use ec_outcome::Ending;
@@ -31,6 +32,8 @@ pub struct Told {
     pub plan: Option<Plan>,
     /// How a search ended without a proof; none of a proof, and of other jobs.
     pub ending: Option<Ending>,
+    /// What the checker said of the certificate that this plan is of; none of other plans.
+    pub verdict: Option<Verdict>,
 }
 
 impl Told {
@@ -59,6 +62,7 @@ pub(crate) fn without_file(answer: Result<Answer, Refusal>) -> Result<Told, Refu
             file: File::Nothing,
             plan: None,
             ending: None,
+            verdict: None,
         }),
         Err(refusal) => Err(refusal),
     }

@@ -21,8 +21,8 @@ job_of (line.Cost (Some cert) svg) = job.PlanCost
 job_of (line.Plan effort out places) = job.Plan effort.workers effort.nodes
 job_of (line.Resume cert effort out places) = job.Resume effort.workers effort.nodes
 job_of (line.Check cert) = job.Check
-job_of (line.Frames cert None) = job.Frames
-job_of (line.Frames cert (Some pcap)) = job.Capture
+job_of (line.Frames cert None header table report) = job.Frames
+job_of (line.Frames cert (Some pcap) header table report) = job.Capture
 job_of (line.Play cert) = job.Play
 
 -- the path of the certificate that it reads
@@ -31,7 +31,7 @@ cert_of (line.Cost cert svg) = cert
 cert_of (line.Plan effort out places) = None
 cert_of (line.Resume cert effort out places) = Some cert
 cert_of (line.Check cert) = Some cert
-cert_of (line.Frames cert pcap) = cert
+cert_of (line.Frames cert pcap header table report) = cert
 cert_of (line.Play cert) = cert
 
 -- the path of what the job writes before its text
@@ -40,7 +40,7 @@ out_of (line.Cost cert svg) = None
 out_of (line.Plan effort out places) = out
 out_of (line.Resume cert effort out places) = out
 out_of (line.Check cert) = None
-out_of (line.Frames cert pcap) = pcap
+out_of (line.Frames cert pcap header table report) = pcap
 out_of (line.Play cert) = None
 
 -- the job searches for nothing

@@ -17,7 +17,8 @@ pub struct Effort {
 }
 
 /// A command with the paths that it names: a certificate to read (`cert`), and what is written, namely a certificate
-/// (`out`), the units with their places (`places`), a capture file (`pcap`) and a picture (`svg`).
+/// (`out`), the units with their places (`places`), a capture file (`pcap`), a picture (`svg`), a C header (`header`), a table
+/// of process bytes (`map`) and a page (`report`).
 #[derive(Debug, Drop)]
 pub enum Line {
     /// Tells what each tick costs: at the places of the units, or at those of a certificate's plan.
@@ -46,6 +47,9 @@ pub enum Line {
     Frames {
         cert: Option<String>,
         pcap: Option<String>,
+        header: Option<String>,
+        map: Option<String>,
+        report: Option<String>,
     },
     /// Plays the placed units, or a certificate's plan.
     Play {

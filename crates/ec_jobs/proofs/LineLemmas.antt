@@ -20,8 +20,8 @@ reads_cert (line.Cost (Some cert) svg) path is = tt
 reads_cert (line.Plan effort out places) path is = absurd (none-some is)
 reads_cert (line.Resume cert effort out places) path is = tt
 reads_cert (line.Check cert) path is = tt
-reads_cert (line.Frames cert None) path is = tt
-reads_cert (line.Frames cert (Some pcap)) path is = tt
+reads_cert (line.Frames cert None header table report) path is = tt
+reads_cert (line.Frames cert (Some pcap) header table report) path is = tt
 reads_cert (line.Play cert) path is = tt
 
 -- and one without such a path needs none
@@ -31,8 +31,8 @@ needs_none (line.Cost (Some cert) svg) is = absurd (some-none is)
 needs_none (line.Plan effort out places) is = refl
 needs_none (line.Resume cert effort out places) is = absurd (some-none is)
 needs_none (line.Check cert) is = absurd (some-none is)
-needs_none (line.Frames cert None) is = tt
-needs_none (line.Frames cert (Some pcap)) is = tt
+needs_none (line.Frames cert None header table report) is = tt
+needs_none (line.Frames cert (Some pcap) header table report) is = tt
 needs_none (line.Play cert) is = tt
 
 -- what a method answers of a path, which a line has or not

@@ -30,6 +30,9 @@ enum Choice {
     Cert,
     Picture,
     Capture,
+    Header,
+    Map,
+    Report,
     Workers,
     Nodes,
     Minutes,
@@ -40,10 +43,13 @@ enum Choice {
 }
 
 /// The options in the order of the help.
-const CHOICES: [Choice; 10] = [
+const CHOICES: [Choice; 13] = [
     Choice::Cert,
     Choice::Picture,
     Choice::Capture,
+    Choice::Header,
+    Choice::Map,
+    Choice::Report,
     Choice::Workers,
     Choice::Nodes,
     Choice::Minutes,
@@ -91,7 +97,9 @@ fn has(verb: Verb, choice: Choice) -> bool {
     match choice {
         Choice::Cert => !matches!(verb, Verb::Plan),
         Choice::Picture => matches!(verb, Verb::Cost),
-        Choice::Capture => matches!(verb, Verb::Frames),
+        Choice::Capture | Choice::Header | Choice::Map | Choice::Report => {
+            matches!(verb, Verb::Frames)
+        }
         Choice::File => true,
         _ => matches!(verb, Verb::Plan | Verb::Resume),
     }
@@ -184,6 +192,21 @@ fn arg_of<'a>(alloc: Global, verb: Verb, choice: Choice) -> Arg<'a> {
             alloc,
             "pcap",
             "Where to write the frames as a capture file, which Wireshark opens",
+        ),
+        Choice::Header => path_arg(
+            alloc,
+            "header",
+            "Where to write the plan as a C header for a master",
+        ),
+        Choice::Map => path_arg(
+            alloc,
+            "map",
+            "Where to write a table of the process bytes, as CSV",
+        ),
+        Choice::Report => path_arg(
+            alloc,
+            "report",
+            "Where to write a page about the plan, as HTML",
         ),
         Choice::Out => path_arg(
             alloc,

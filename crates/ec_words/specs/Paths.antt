@@ -16,5 +16,6 @@ HasPathsOf m (line.Cost cert svg) = IsPathOf m (codes "cert") cert × IsPathOf m
 HasPathsOf m (line.Plan effort out places) = IsPathOf m (codes "out") out × IsPathOf m (codes "places") places
 HasPathsOf m (line.Resume cert effort out places) = IsPathOf m (codes "cert") (Some cert) × IsPathOf m (codes "out") out × IsPathOf m (codes "places") places
 HasPathsOf m (line.Check cert) = IsPathOf m (codes "cert") (Some cert)
-HasPathsOf m (line.Frames cert pcap) = IsPathOf m (codes "cert") cert × IsPathOf m (codes "pcap") pcap
+HasPathsOf m (line.Frames cert pcap header table report) =
+    IsPathOf m (codes "cert") cert × IsPathOf m (codes "pcap") pcap × IsPathOf m (codes "header") header × IsPathOf m (codes "map") table × IsPathOf m (codes "report") report
 HasPathsOf m (line.Play cert) = IsPathOf m (codes "cert") cert

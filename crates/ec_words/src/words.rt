@@ -200,7 +200,16 @@ fn frames_line(alloc: Global, matches: &ArgMatches<'_>) -> Result<Line, LineFaul
 {
     let cert = path_of(alloc, matches, "cert")?;
     let pcap = path_of(alloc, matches, "pcap")?;
-    Ok(Line::Frames { cert, pcap })
+    let header = path_of(alloc, matches, "header")?;
+    let map = path_of(alloc, matches, "map")?;
+    let report = path_of(alloc, matches, "report")?;
+    Ok(Line::Frames {
+        cert,
+        pcap,
+        header,
+        map,
+        report,
+    })
 }
 
 /// The line of a command with these options.

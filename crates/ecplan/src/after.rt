@@ -1,8 +1,11 @@
-//! What is written after the text of a job: the picture of costs, and the units with the places of a plan.
+//! What is written after the text of a job: the picture of costs, the units with the places of a plan, and what is handed over
+//! with frames.
 
 use crate::faults::tell_fault;
+use crate::handing::hand_over;
 use crate::targets::Target;
 use crate::telling::{CHANGED, NO_FORM, tell_path};
+use ec_answers::Told;
 use ec_command::Line;
 use ec_files::{Content, FileFault, are_one, write_whole};
 use ec_lines::placed_plan;
@@ -33,7 +36,7 @@ impl From<FileFault> for AfterFault {
 }
 
 /// Want of memory.
-fn no_memory() -> FileFault {
+pub(crate) fn no_memory() -> FileFault {
     FileFault::Unwritten {
         why: io::Error::from(ErrorKind::OutOfMemory),
     }
@@ -136,15 +139,16 @@ fn tell_after<R: AllocGlobal + Eprint>(rt: &R, path: &str, content: Content, fau
     }
 }
 
-/// Writes what a line wants after the text of its job, which told of this plan: the picture of costs, and the units with the
-/// places of a plan that was found. Whether nothing is missing; tells what is.
+/// Writes what a line wants after the text of its job: the picture of costs, the units with the places of a plan that was
+/// found, and what is handed over with frames. Whether nothing is missing; tells what is.
 pub(crate) fn write_after<R: Files + AllocGlobal + Eprint>(
     rt: &R,
     line: &Line,
     units: &[u8],
-    plan: Option<&Plan>,
+    told: &Told,
     is_own: bool,
 ) -> bool {
+    let plan = told.plan();
     let (path, content, written) = match line {
         Line::Cost {
             svg: Some(path),
@@ -165,6 +169,7 @@ pub(crate) fn write_after<R: Files + AllocGlobal + Eprint>(
             ),
             None => return true,
         },
+        Line::Frames { .. } => return hand_over(rt, line, units, told),
         _ => return true,
     };
     if let Err(fault) = &written {

@@ -13,6 +13,9 @@ fn unwritten(content: Content) -> &'static str {
         Content::Capture => "The capture cannot be written to",
         Content::Picture => "The picture cannot be written to",
         Content::Units => "The units cannot be written to",
+        Content::Header => "The header cannot be written to",
+        Content::Map => "The map cannot be written to",
+        Content::Report => "The report cannot be written to",
     }
 }
 
@@ -23,6 +26,9 @@ fn whole(content: Content) -> &'static str {
         Content::Capture => "The capture is whole and lies at",
         Content::Picture => "The picture is whole and lies at",
         Content::Units => "The units with their places are whole and lie at",
+        Content::Header => "The header is whole and lies at",
+        Content::Map => "The map is whole and lies at",
+        Content::Report => "The report is whole and lies at",
     }
 }
 

@@ -5,6 +5,7 @@
 mod after;
 mod again;
 mod faults;
+mod handing;
 mod job;
 mod kept;
 mod progress;

@@ -181,7 +181,7 @@ fn tell_found<R: AllocGlobal + Eprint>(rt: &R, line: &Line, told: &Told) {
 
 /// Tells why the file of a job isn't at its path.
 fn tell_file<R: AllocGlobal + Eprint>(rt: &R, line: &Line, fault: &FileFault) {
-    let [target, _] = targets_of(line);
+    let [target, _, _, _] = targets_of(line);
     if let Some(target) = target {
         let Target { path, content } = target;
         tell_fault(rt, Target { path, content }, fault);

@@ -20,6 +20,9 @@ fn kept(content: Content) -> &'static str {
         Content::Capture => "The capture is not written over the file",
         Content::Picture => "The picture is not written over the file",
         Content::Units => "The units are not written over the file",
+        Content::Header => "The header is not written over the file",
+        Content::Map => "The map is not written over the file",
+        Content::Report => "The report is not written over the file",
     }
 }
 
@@ -32,6 +35,9 @@ fn unwritable(content: Content) -> &'static str {
         Content::Picture => "The picture cannot be written to",
         Content::Units =>
             "The search goes on and tells its plan, but the units cannot be written to",
+        Content::Header => "The header cannot be written to",
+        Content::Map => "The map cannot be written to",
+        Content::Report => "The report cannot be written to",
     }
 }
 
@@ -47,15 +53,28 @@ fn target_at(path: &Option<String>, content: Content) -> Option<Target<'_>> {
 }
 
 /// What a line writes: the file of its job, and what is written after its text.
-pub(crate) fn targets_of(line: &Line) -> [Option<Target<'_>>; 2] {
+pub(crate) fn targets_of(line: &Line) -> [Option<Target<'_>>; 4] {
     match line {
-        Line::Cost { svg, .. } => [None, target_at(svg, Content::Picture)],
+        Line::Cost { svg, .. } => [None, target_at(svg, Content::Picture), None, None],
         Line::Plan { out, places, .. } | Line::Resume { out, places, .. } => [
             target_at(out, Content::Certificate),
             target_at(places, Content::Units),
+            None,
+            None,
         ],
-        Line::Frames { pcap, .. } => [target_at(pcap, Content::Capture), None],
-        Line::Check { .. } | Line::Play { .. } => [None, None],
+        Line::Frames {
+            pcap,
+            header,
+            map,
+            report,
+            ..
+        } => [
+            target_at(pcap, Content::Capture),
+            target_at(header, Content::Header),
+            target_at(map, Content::Map),
+            target_at(report, Content::Report),
+        ],
+        Line::Check { .. } | Line::Play { .. } => [None, None, None, None],
     }
 }
 
@@ -109,11 +128,39 @@ fn are_same<H: Files + AllocGlobal + Eprint>(
     is_one
 }
 
+/// Whether what stands at one of some paths is left as it is; tells why.
+fn is_any_kept<H: Files + AllocGlobal + Eprint>(rt: &H, targets: &[Option<Target<'_>>]) -> bool {
+    for target in targets {
+        if is_kept(rt, *target) {
+            return true;
+        }
+    }
+    false
+}
+
+/// Whether a path to write is one of some others; tells that.
+fn is_among<H: Files + AllocGlobal + Eprint>(
+    rt: &H,
+    one: Option<Target<'_>>,
+    others: &[Option<Target<'_>>],
+) -> bool {
+    for other in others {
+        if are_same(rt, one, *other) {
+            return true;
+        }
+    }
+    false
+}
+
 /// Whether a line may write what it says: none of its paths is one whose file is left as it is, and no two are one. Tells
 /// what is wrong.
 pub(crate) fn may_write<H: Files + AllocGlobal + Eprint>(rt: &H, line: &Line) -> bool {
-    let [one, other] = targets_of(line);
-    !is_kept(rt, one) && !is_kept(rt, other) && !are_same(rt, one, other)
+    let targets = targets_of(line);
+    let [one, second, third, _] = targets;
+    !is_any_kept(rt, &targets)
+        && !is_among(rt, one, &targets[1..])
+        && !is_among(rt, second, &targets[2..])
+        && !is_among(rt, third, &targets[3..])
 }
 
 /// Tells that a path can't be written, if it can't.

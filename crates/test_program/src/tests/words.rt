@@ -145,6 +145,8 @@ const LINES: &str = "cost : <cost - ->|\
     frames --pcap line.pcap : <capture - line.pcap>|\
     frames --pcap=p --cert q : <capture q p>|\
     frames --cert=p --pcap=q : <capture p q>|\
+    frames --header h --map=m --report r : <frames - ->|\
+    frames --report r --cert q --pcap=p : <capture q p>|\
     play : <play - ->|\
     play --cert line.cert : <play line.cert ->|\
     play --cert=p q : <play p -> q -|\
@@ -216,6 +218,10 @@ const REFUSED: &str = " : requires a subcommand|\
     frames --out p : unexpected argument '--out'|\
     frames --pcap : a value is required for '--pcap <PATH>'|\
     frames --pcap p --pcap q : '--pcap <PATH>' cannot be used multiple times|\
+    frames --header : a value is required for '--header <PATH>'|\
+    frames --map p --map q : '--map <PATH>' cannot be used multiple times|\
+    cost --report p : unexpected argument '--report'|\
+    plan --header p : unexpected argument '--header'|\
     cost --pcap p : unexpected argument '--pcap'|\
     check --cert p --pcap q : unexpected argument '--pcap'|\
     plan --pcap p : unexpected argument '--pcap'|\
