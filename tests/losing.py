@@ -93,7 +93,7 @@ def try_read_and_written(output, words, put, written, trial):
 
 def read_and_written(outputs):
     """What a run reads under the name at which it could make its file."""
-    cert, resumed, capture, picture, places = outputs
+    cert, resumed, capture, picture, places, header, *_ = outputs
     whole, placed = resumed.whole, places.whole
     resume = ["resume", "--out", "c", "units.toml", "--cert"]
 
@@ -116,6 +116,8 @@ def read_and_written(outputs):
               {"x.part": capture.units}, {"x": capture.whole})
     yield way("cost --svg x x.part", picture, ["cost", "--svg", "x", "x.part"],
               {"x.part": picture.units}, {"x": picture.whole})
+    yield way("frames --header x x.part", header, ["frames", "--header", "x", "x.part"],
+              {"x.part": header.units}, {"x": header.whole})
     for out, to in (("x", "x.part"), ("x.part", "x")):
         yield way(f"plan --out {out} --places {to}", cert, ["plan", "--out", out, "--places", to, "units.toml"], {},
                   {out: cert.whole, to: placed})

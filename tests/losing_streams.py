@@ -40,7 +40,7 @@ class Writing:
 def writings_of(outputs):
     """A run for each output, and runs that write a certificate and the places."""
     runs = [Writing(it, it.name, it.line("of-run"), {"of-run": it.whole}) for it in outputs]
-    cert, resumed, *_, places = outputs
+    cert, resumed, _capture, _picture, places, *_ = outputs
     for it in (cert, resumed):
         both = {"of-run": it.whole, "placed": places.whole}
         runs.append(Writing(it, f"{it.name} and the places", it.line("of-run", "--places", "placed"), both))

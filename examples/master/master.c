@@ -1,0 +1,247 @@
+/* A master for a plan of ecplan: it names the slaves, sends the frames of each tick in time, and checks what comes back.
+ *
+ *     master --print               writes the FMMU records and the frames, as `ecplan frames` does
+ *     master INTERFACE TICKS [MS]  sends so many ticks; waits for the frames of a tick until the next one, or so many ms
+ *
+ * plan.h is what `ecplan frames --header plan.h` writes. The status is 0 where all came back right. */
+#define _GNU_SOURCE
+#include "plan.h"
+#include <arpa/inet.h>
+#include <linux/if_packet.h>
+#include <net/if.h>
+#include <poll.h>
+#include <stdio.h>
+#include <stdlib.h>
+#include <string.h>
+#include <sys/socket.h>
+#include <time.h>
+#include <unistd.h>
+
+enum { ETHERCAT = 0x88A4, LRW = 12, AHEAD = 16, HEAD = 10, TAIL = 2, LEAST = 60, MOST = 1514, START_MS = 1000 };
+static const uint8_t ETHERNET[14] = { 0xff, 0xff, 0xff, 0xff, 0xff, 0xff, 2, 0, 0, 0, 0, 1, 0x88, 0xa4 };
+
+/* The process image, outputs as they are sent and inputs as they came, and what is counted. */
+static uint8_t outputs[ECPLAN_IMAGE_BYTES], inputs[ECPLAN_IMAGE_BYTES];
+static unsigned long sent, lost, changed, disordered, late, fallen[ECPLAN_GROUPS];
+static unsigned fallen_to[ECPLAN_GROUPS];
+
+static unsigned get16(const uint8_t *at) { return at[0] | (unsigned)at[1] << 8; }
+static void put16(uint8_t *at, unsigned number) { at[0] = (uint8_t)(number & 0xff), at[1] = (uint8_t)(number >> 8); }
+
+/* Adds the datagram of a group; more of them follow, or none. Its end. */
+static size_t add_group(uint8_t *frame, size_t at, const struct ecplan_group *group, unsigned index, int is_last)
+{
+    frame[at] = LRW;
+    frame[at + 1] = (uint8_t)index;
+    put16(frame + at + 2, group->address & 0xffff);
+    put16(frame + at + 4, group->address >> 16);
+    put16(frame + at + 6, group->bytes | (is_last ? 0u : 0x8000u));
+    memcpy(frame + at + HEAD, outputs + group->offset, group->bytes);
+    return at + HEAD + group->bytes + TAIL;
+}
+
+/* Makes a frame of the plan. The index of a datagram is its place in the frame, or the number of the frame. Its length. */
+static size_t make(uint8_t *frame, const struct ecplan_frame *plan, int number)
+{
+    size_t at = AHEAD;
+    memset(frame, 0, MOST);
+    memcpy(frame, ETHERNET, sizeof ETHERNET);
+    for (unsigned k = 0; k < plan->groups; k++) {
+        const struct ecplan_group *group = &ecplan_groups[ecplan_sent[plan->first + k]];
+        at = add_group(frame, at, group, number < 0 ? k : (unsigned)number, k + 1u == plan->groups);
+    }
+    put16(frame + 14, 0x1000u | (unsigned)(at - AHEAD));
+    return at < LEAST ? LEAST : at;
+}
+
+static void print_hex(const uint8_t *bytes, size_t count)
+{
+    for (size_t i = 0; i < count; i++)
+        printf("%02x", bytes[i]);
+    putchar('\n');
+}
+
+static int print_plan(void)
+{
+    uint8_t frame[MOST];
+    for (unsigned i = 0; i < ECPLAN_SLAVES; i++)
+        for (unsigned k = 0; k < 2; k++) {
+            printf("fmmu %u %u ", ecplan_slaves[i].station, k);
+            print_hex(ecplan_slaves[i].fmmu + 16 * k, 16);
+        }
+    for (unsigned tick = 0; tick < ECPLAN_TICKS; tick++)
+        for (unsigned k = 0; k < ecplan_ticks[tick].frames; k++) {
+            const struct ecplan_frame *plan = &ecplan_frames[ecplan_ticks[tick].first + k];
+            printf("frame %u %u %u ", tick, plan->slot, plan->wire_bytes);
+            print_hex(frame, make(frame, plan, -1));
+        }
+    return 0;
+}
+
+static int64_t now(void)
+{
+    struct timespec t;
+    clock_gettime(CLOCK_MONOTONIC, &t);
+    return (int64_t)t.tv_sec * 1000000000 + t.tv_nsec;
+}
+
+static void sleep_until(int64_t ns)
+{
+    struct timespec t = { (time_t)(ns / 1000000000), (long)(ns % 1000000000) };
+    while (clock_nanosleep(CLOCK_MONOTONIC, TIMER_ABSTIME, &t, NULL) != 0)
+        ;
+}
+
+/* Waits for a frame, at most until a time. Its length; 0 where none came. */
+static size_t receive(int line, uint8_t *frame, int64_t until)
+{
+    struct pollfd ready = { line, POLLIN, 0 };
+    int64_t left = until - now();
+    struct timespec t = { (time_t)(left / 1000000000), (long)(left % 1000000000) };
+    if (ppoll(&ready, 1, left < 0 ? &(struct timespec){ 0, 0 } : &t, NULL) < 1)
+        return 0;
+    ssize_t got = recv(line, frame, MOST, MSG_TRUNC);
+    return got < AHEAD || MOST < got ? AHEAD : (size_t)got;
+}
+
+/* Sends a start frame, and says what is wrong with its answer. Whether nothing is. */
+static int start(int line, unsigned i)
+{
+    const struct ecplan_start *plan = &ecplan_starts[i];
+    const uint8_t *frame = ecplan_start_bytes + plan->first;
+    uint8_t back[MOST];
+    size_t at = AHEAD + HEAD + (get16(frame + AHEAD + 6) & 0x7ff);
+    int64_t until = now() + (int64_t)START_MS * 1000000;
+    if (send(line, frame, plan->bytes, 0) < 0)
+        perror("send");
+    for (;;) {
+        size_t got = receive(line, back, until);
+        if (got == 0)
+            return printf("start %u lost\n", i), 0;
+        /* the position of the address changes on its way, the command and the offset don't */
+        if (got != plan->bytes || back[AHEAD] != frame[AHEAD] || memcmp(back + AHEAD + 4, frame + AHEAD + 4, 4) != 0)
+            continue;
+        if (get16(back + at) != plan->counter)
+            printf("start %u want %u got %u\n", i, plan->counter, get16(back + at));
+        return get16(back + at) == plan->counter;
+    }
+}
+
+/* The application: it sets the outputs of a group before they are sent. Put your own in its place. */
+static void set_outputs(unsigned group, unsigned long tick)
+{
+    for (unsigned i = 0; i < ECPLAN_SLAVES; i++)
+        for (unsigned k = 0; ecplan_slaves[i].group == group && k < ecplan_slaves[i].out_bytes; k++)
+            outputs[ecplan_slaves[i].out_offset + k] = (uint8_t)((tick + i + k) & 0xff);
+}
+
+/* Takes the inputs of a group from the data of its datagram. */
+static void take_inputs(unsigned group, const uint8_t *data)
+{
+    for (unsigned i = 0; i < ECPLAN_SLAVES; i++)
+        if (ecplan_slaves[i].group == group && 0 < ecplan_slaves[i].in_bytes)
+            memcpy(inputs + ecplan_slaves[i].in_offset, data + (ecplan_slaves[i].in_offset - ecplan_groups[group].offset),
+                   ecplan_slaves[i].in_bytes);
+}
+
+/* Checks a frame that came back beside the one that was sent: its lengths and headers, and each counter. */
+static void check(const struct ecplan_frame *plan, const uint8_t *frame, const uint8_t *back, size_t got)
+{
+    size_t at = AHEAD;
+    int is_same = got == plan->bytes && memcmp(back + 12, frame + 12, 4) == 0;
+    for (unsigned k = 0; is_same && k < plan->groups; k++) {
+        is_same = memcmp(back + at, frame + at, 8) == 0;
+        at += HEAD + ecplan_groups[ecplan_sent[plan->first + k]].bytes + TAIL;
+    }
+    if (!is_same) {
+        changed++;
+        return;
+    }
+    at = AHEAD;
+    for (unsigned k = 0; k < plan->groups; k++) {
+        unsigned group = ecplan_sent[plan->first + k];
+        unsigned counter = get16(back + at + HEAD + ecplan_groups[group].bytes);
+        if (counter == ecplan_groups[group].counter)
+            take_inputs(group, back + at + HEAD);
+        else
+            fallen[group]++, fallen_to[group] = counter;
+        at += HEAD + ecplan_groups[group].bytes + TAIL;
+    }
+}
+
+/* Sends the frames of a tick, and takes what comes back until a time. */
+static void do_tick(int line, unsigned long number, int64_t until)
+{
+    static uint8_t frames[ECPLAN_SLOTS][MOST], back[MOST];
+    const struct ecplan_tick *tick = &ecplan_ticks[number % ECPLAN_TICKS];
+    unsigned first = (unsigned)(number * ECPLAN_SLOTS), next = 0;
+    for (unsigned k = 0; k < tick->frames; k++) {
+        const struct ecplan_frame *plan = &ecplan_frames[tick->first + k];
+        for (unsigned i = 0; i < plan->groups; i++)
+            set_outputs(ecplan_sent[plan->first + i], number);
+        if (send(line, frames[k], make(frames[k], plan, (int)((first + k) & 0xff)), 0) < 0)
+            perror("send");
+        sent++;
+    }
+    while (next < tick->frames) {
+        size_t got = receive(line, back, until);
+        if (got == 0)
+            break;
+        unsigned k = (back[AHEAD + 1] - first) & 0xff; /* which frame of this tick it is, by its number */
+        if (got == AHEAD || tick->frames <= k || k < next) {
+            disordered++;
+            continue;
+        }
+        lost += k - next;
+        check(&ecplan_frames[tick->first + k], frames[k], back, got);
+        next = k + 1;
+    }
+    lost += tick->frames - next;
+}
+
+static int tell(unsigned long ticks)
+{
+    int is_right = lost + changed + disordered == 0;
+    printf("ticks %lu frames %lu lost %lu changed %lu disordered %lu late %lu\n", ticks, sent, lost, changed, disordered, late);
+    for (unsigned i = 0; i < ECPLAN_GROUPS; i++)
+        if (0 < fallen[i]) {
+            is_right = 0;
+            printf("short %u want %u got %u times %lu\n", i, ecplan_groups[i].counter, fallen_to[i], fallen[i]);
+        }
+    for (unsigned i = 0; i < ECPLAN_SLAVES; i++) {
+        printf("outputs %u ", ecplan_slaves[i].station);
+        print_hex(outputs + ecplan_slaves[i].out_offset, ecplan_slaves[i].out_bytes);
+        printf("inputs %u ", ecplan_slaves[i].station);
+        print_hex(inputs + ecplan_slaves[i].in_offset, ecplan_slaves[i].in_bytes);
+    }
+    return is_right ? 0 : 1;
+}
+
+int main(int count, char **words)
+{
+    if (count == 2 && strcmp(words[1], "--print") == 0)
+        return print_plan();
+    if (count < 3)
+        return fprintf(stderr, "usage: master --print | master INTERFACE TICKS [MS]\n"), 2;
+    unsigned long ticks = strtoul(words[2], NULL, 10);
+    int64_t wait = count < 4 ? ECPLAN_TICK_NS : (int64_t)strtoul(words[3], NULL, 10) * 1000000;
+    struct sockaddr_ll place = { .sll_family = AF_PACKET, .sll_protocol = htons(ETHERCAT) };
+    place.sll_ifindex = (int)if_nametoindex(words[1]);
+    int line = socket(AF_PACKET, SOCK_RAW, htons(ETHERCAT));
+    if (line < 0 || bind(line, (struct sockaddr *)&place, sizeof place) != 0)
+        return perror(words[1]), 2;
+    for (unsigned i = 0; i < ECPLAN_STARTS; i++)
+        if (!start(line, i))
+            return 1;
+    int64_t begin = now();
+    for (unsigned long number = 0; number < ticks; number++) {
+        sleep_until(begin);
+        do_tick(line, number, begin + wait);
+        begin += ECPLAN_TICK_NS;
+        if (begin < now()) { /* the next tick would be late: it begins now */
+            late++;
+            begin = now();
+        }
+    }
+    return tell(ticks);
+}
