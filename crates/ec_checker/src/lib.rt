@@ -12,7 +12,7 @@ mod shown;
 mod walk;
 
 pub use checking::{check, check_in};
+pub use ec_symmetry::Rules;
 pub use fault::{CheckFault, Verdict};
 pub use law::faults_refute;
-pub use ec_symmetry::Rules;
 pub use shown::{level, level_in};

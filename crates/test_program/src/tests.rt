@@ -6,7 +6,6 @@ ghost use Rattle.ec_command.specs.Words.{IsPlain};
 use ec_command::Job;
 use ec_drafts::Draft;
 use ec_jobs::{run, run_plain};
-use test_streams::Slow;
 use ec_wire::Io;
 use ec_workers::Quiet;
 use std::alloc::{AllocError, Global};
@@ -14,6 +13,7 @@ use std::io;
 use std::io::Read;
 use std::sync::Wait;
 use std::thread::Threads;
+use test_streams::Slow;
 
 mod doing;
 mod late;

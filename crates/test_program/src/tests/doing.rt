@@ -9,7 +9,6 @@ use super::words::asked;
 use ec_command::Line;
 use ec_drafts::Draft;
 use ec_jobs::do_line;
-use test_streams::Slow;
 use ec_wire::Io;
 use ec_workers::Quiet;
 use std::alloc::AllocError;
@@ -18,6 +17,7 @@ use std::rt::Files;
 use std::sync::Wait;
 use std::thread::Threads;
 use std::{fs, io};
+use test_streams::Slow;
 
 /// The units that always meet in one of six ticks.
 const MEETING: &str =

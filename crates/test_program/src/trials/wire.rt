@@ -1,9 +1,9 @@
 ghost use Rattle.std.specs.Prelude.{Some};
 
-use test_streams::FailsAt;
 use ec_wire::*;
 use std::io;
 use std::io::{ErrorKind, Read, Write};
+use test_streams::FailsAt;
 
 /// A writer that takes at most three bytes at a time, and fails at a call, or takes nothing from there on.
 #[derive(Drop)]

@@ -8,7 +8,6 @@ ghost use Rattle.ec_jobs.specs.Runs.{HasCert};
 use crate::table::row::Row;
 use ec_command::Job;
 use ec_jobs::{Status, run, run_plain};
-use test_streams::{FailsAt, Slow};
 use ec_wire::Io;
 use ec_workers::Quiet;
 use std::alloc::Global;
@@ -16,6 +15,7 @@ use std::io;
 use std::io::{Read, Write};
 use std::sync::Wait;
 use std::thread::Threads;
+use test_streams::{FailsAt, Slow};
 
 /// A way to do a job.
 #[derive(Clone, Copy)]
