@@ -227,6 +227,8 @@ int main(int count, char **words)
     int64_t wait = count < 4 ? ECPLAN_TICK_NS : (int64_t)strtoul(words[3], NULL, 10) * 1000000;
     struct sockaddr_ll place = { .sll_family = AF_PACKET, .sll_protocol = htons(ETHERCAT) };
     place.sll_ifindex = (int)if_nametoindex(words[1]);
+    if (place.sll_ifindex == 0)
+        return perror(words[1]), 2;
     int line = socket(AF_PACKET, SOCK_RAW, htons(ETHERCAT));
     if (line < 0 || bind(line, (struct sockaddr *)&place, sizeof place) != 0)
         return perror(words[1]), 2;
