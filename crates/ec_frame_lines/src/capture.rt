@@ -33,8 +33,9 @@ fn push_four(file: &mut Vec<u8>, number: u32) -> Result<(), AllocError>
     Ok(())
 }
 
-/// Adds a frame that is sent so many ns after the start.
-fn push_record(file: &mut Vec<u8>, ns: u64, frame: &[u8]) -> Result<(), AllocError>
+/// Adds the record of a frame that passes so many ns after the start, less than 2,000,000,000,000: stamp, lengths and bytes.
+/// An error is want of memory.
+pub fn push_record(file: &mut Vec<u8>, ns: u64, frame: &[u8]) -> Result<(), AllocError>
     requires soon { ns < 2000000000000 }
     requires short { length frame.now ≤ 1514 }
     ensures { OnOk result (file.new.items ≡ file.old.items ++ frame_record ns frame.now) }
@@ -46,6 +47,15 @@ fn push_record(file: &mut Vec<u8>, ns: u64, frame: &[u8]) -> Result<(), AllocErr
     push_four(file, held)?;
     file.extend_from_slice(frame)?;
     Ok(())
+}
+
+/// A capture file without frames: its head. An error is want of memory.
+pub fn capture_head(alloc: Global) -> Result<Vec<u8>, AllocError>
+    ensures { IfOk result (λ file. file.items ≡ file_header) }
+{
+    let mut file = Vec::new(alloc);
+    file.extend_from_slice(&FILE_HEADER)?;
+    Ok(file)
 }
 
 /// Adds the frames of a tick that begins so many ns after the start, each once those before it have passed.
@@ -121,8 +131,7 @@ pub fn capture_of(alloc: Global, units: &Units, mapping: &Mapping) -> Result<Vec
     let Ok(image) = blank(alloc, mapping) else {
         return Err(TextFault::Frames);
     };
-    let mut file = Vec::new(alloc);
-    file.extend_from_slice(&FILE_HEADER)?;
+    let mut file = capture_head(alloc)?;
     let ticks = units.hyper().ticks();
     push_ticks(alloc, &mut file, units, mapping, image.as_slice(), ticks)?;
     Ok(file)

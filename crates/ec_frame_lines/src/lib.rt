@@ -8,7 +8,7 @@ mod lines;
 mod stations;
 mod ticks;
 
-pub use capture::capture_of;
+pub use capture::{capture_head, capture_of, push_record};
 pub use ec_outcome::TextFault;
 pub use lines::{blank, frames_text};
 pub use stations::stations_of;

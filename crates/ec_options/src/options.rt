@@ -29,6 +29,7 @@ const VERBS: [Verb; 6] = [
 enum Choice {
     Cert,
     Picture,
+    Lose,
     Capture,
     Header,
     Map,
@@ -43,9 +44,10 @@ enum Choice {
 }
 
 /// The options in the order of the help.
-const CHOICES: [Choice; 13] = [
+const CHOICES: [Choice; 14] = [
     Choice::Cert,
     Choice::Picture,
+    Choice::Lose,
     Choice::Capture,
     Choice::Header,
     Choice::Map,
@@ -97,9 +99,9 @@ fn has(verb: Verb, choice: Choice) -> bool {
     match choice {
         Choice::Cert => !matches!(verb, Verb::Plan),
         Choice::Picture => matches!(verb, Verb::Cost),
-        Choice::Capture | Choice::Header | Choice::Map | Choice::Report => {
-            matches!(verb, Verb::Frames)
-        }
+        Choice::Lose => matches!(verb, Verb::Play),
+        Choice::Capture => matches!(verb, Verb::Frames | Verb::Play),
+        Choice::Header | Choice::Map | Choice::Report => matches!(verb, Verb::Frames),
         Choice::File => true,
         _ => matches!(verb, Verb::Plan | Verb::Resume),
     }
@@ -126,6 +128,27 @@ fn path_arg<'a>(alloc: Global, name: &'a str, help: &'a str) -> Arg<'a> {
         .value_name("PATH")
         .action(ArgAction::Set)
         .help(help)
+}
+
+/// What the help says of the capture file that a command writes.
+fn capture_help<'a>(verb: Verb) -> &'a str {
+    match verb {
+        Verb::Play =>
+            "Where to write the frames as they are sent and as they come back, as a capture file",
+        _ => "Where to write the frames as a capture file, which Wireshark opens",
+    }
+}
+
+/// Which slave is lost.
+fn lose_arg<'a>(alloc: Global) -> Arg<'a> {
+    Arg::new(alloc, "lose")
+        .long("lose")
+        .value_name("STATION")
+        .action(ArgAction::Append)
+        .value_parser(value_parser!(u16).range(1..=65_535))
+        .help(
+            "The station of a slave that passes each frame of the ticks on as it is; may stand several times",
+        )
 }
 
 /// How many workers search.
@@ -188,11 +211,8 @@ fn arg_of<'a>(alloc: Global, verb: Verb, choice: Choice) -> Arg<'a> {
             "svg",
             "Where to write a picture of the ticks, as SVG",
         ),
-        Choice::Capture => path_arg(
-            alloc,
-            "pcap",
-            "Where to write the frames as a capture file, which Wireshark opens",
-        ),
+        Choice::Lose => lose_arg(alloc),
+        Choice::Capture => path_arg(alloc, "pcap", capture_help(verb)),
         Choice::Header => path_arg(
             alloc,
             "header",

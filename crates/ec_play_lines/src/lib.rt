@@ -7,5 +7,5 @@ mod lines;
 mod played;
 
 pub use ec_outcome::PlayTextFault;
-pub use lines::play_text;
-pub use played::{played_text, played_together};
+pub use lines::{play_text, push_tick};
+pub use played::{new_slaves, played_text, played_together};

@@ -8,8 +8,8 @@ use ec_play::{Rows, TickRow};
 use std::alloc::{AllocError, Global};
 use std::fmt::Write;
 
-/// Adds the line of a tick.
-fn push_tick(text: &mut String, tick: usize, row: &TickRow) -> Result<(), AllocError>
+/// Adds the line of a tick, `tick T frames N bytes B counters C,C,..`. An error is want of memory.
+pub fn push_tick(text: &mut String, tick: usize, row: &TickRow) -> Result<(), AllocError>
     ensures { OnOk result (string_bytes text.new ≡ string_bytes text.old ++ tick_line tick row.now) }
 {
     let TickRow { frames, bytes, .. } = row;

@@ -36,8 +36,8 @@ struct Line {
     slaves: Vec<SlaveBox>,
 }
 
-/// So many new slaves.
-fn new_slaves(alloc: Global, count: usize) -> Result<Vec<SlaveBox>, AllocError>
+/// So many new slaves. An error is want of memory.
+pub fn new_slaves(alloc: Global, count: usize) -> Result<Vec<SlaveBox>, AllocError>
     ensures { IfOk result (λ v. v.items ≡ replicate count (replicate 65536 0)) }
 {
     let mut slaves = Vec::new(alloc);

@@ -3,4 +3,4 @@
 
 mod words;
 
-pub use words::{LineFault, Words, read_words};
+pub use words::{LineFault, Trial, Words, read_words};

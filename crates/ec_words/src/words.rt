@@ -6,6 +6,7 @@ ghost use Rattle.ec_command.specs.Words.{JobFits, job_of};
 ghost use Rattle.ec_words.specs.Names.{name_of};
 ghost use Rattle.ec_words.specs.Numbers.{EffortFits, HasEffortOf, HasNumbersOf, IsSaidBy};
 ghost use Rattle.ec_words.specs.Paths.{HasPathsOf, IsPathOf};
+ghost use Rattle.ec_words.specs.Trials.{AreSaidBy, HasCaptureOf, HasLostOf};
 ghost use Rattle.ec_words.specs.declared.words.LineFault.TheVariants.{Memory};
 
 use clap::error::ErrorKind;
@@ -39,6 +40,15 @@ pub struct Words {
     pub units: Option<String>,
     /// Whether the progress of a search is told also where standard error is no terminal.
     pub progress: bool,
+    /// What else is to be done with a play; nothing with another job.
+    pub trial: Trial,
+}
+
+/// What is to be done with a play: which slaves it loses, by their stations, and the path of the capture file of its frames.
+#[derive(Debug, Drop)]
+pub struct Trial {
+    pub lost: Vec<u16>,
+    pub pcap: Option<String>,
 }
 
 /// A refusal with this text, unless memory ran out.
@@ -234,6 +244,44 @@ fn line_of(alloc: Global, command: &str, matches: &ArgMatches<'_>) -> Result<Lin
     }
 }
 
+/// The stations of the slaves that are lost.
+fn lost_of(alloc: Global, matches: &ArgMatches<'_>) -> Result<Vec<u16>, LineFault>
+    ensures { IfOk result (λ lost. AreSaidBy matches.now (codes "lose") lost.items) }
+{
+    let mut lost = Vec::new(alloc);
+    let Some(texts) = matches.get_strs("lose") else {
+        return Ok(lost);
+    };
+    for text in texts {
+        let Ok(station) = text.parse::<u16>() else {
+            return Err(refused(alloc, "error: a number is out of range\n"));
+        };
+        let Ok(()) = lost.push(station) else {
+            return Err(LineFault::Memory);
+        };
+    }
+    Ok(lost)
+}
+
+/// What is to be done with the play of a line.
+fn trial_of(alloc: Global, line: &Line, matches: &ArgMatches<'_>) -> Result<Trial, LineFault>
+    ensures lost { IfOk result (HasLostOf matches.now line.now) }
+    ensures path { IfOk result (HasCaptureOf matches.now line.now) }
+{
+    let Line::Play { .. } = line else {
+        return Ok(Trial {
+            lost: Vec::new(alloc),
+            pcap: None,
+        });
+    };
+    let lost = lost_of(alloc, matches)?;
+    let capture = path_of(alloc, matches, "pcap")?;
+    Ok(Trial {
+        lost,
+        pcap: capture,
+    })
+}
+
 /// The path of the units, where they don't come on standard input.
 fn units_path(alloc: Global, matches: &ArgMatches<'_>) -> Result<Option<String>, AllocError> {
     match matches.get_str("file") {
@@ -256,9 +304,11 @@ pub fn read_words(alloc: Global, words: &[String]) -> Result<Words, LineFault>
     };
     let line = line_of(alloc, command, options)?;
     let units = units_path(alloc, options)?;
+    let trial = trial_of(alloc, &line, options)?;
     Ok(Words {
         line,
         units,
         progress: options.get_flag("progress"),
+        trial,
     })
 }

@@ -12,6 +12,7 @@ mod progress;
 mod remark;
 mod targets;
 mod telling;
+mod trial;
 
 use crate::job::do_words;
 use crate::telling::WAITING;

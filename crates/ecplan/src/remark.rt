@@ -131,7 +131,7 @@ fn refusal_text<'x, R: Files + AllocGlobal>(
 }
 
 /// Tells what a refusal means.
-fn tell_refusal<'x, R: Files + AllocGlobal + Eprint>(
+pub(crate) fn tell_refusal<'x, R: Files + AllocGlobal + Eprint>(
     rt: &R,
     refusal: &Refusal,
     line: &'x Line,

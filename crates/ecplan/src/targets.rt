@@ -79,7 +79,7 @@ pub(crate) fn targets_of(line: &Line) -> [Option<Target<'_>>; 4] {
 }
 
 /// Whether what stands at a path is left as it is; tells why.
-fn is_kept<H: Files + AllocGlobal + Eprint>(rt: &H, target: Option<Target<'_>>) -> bool {
+pub(crate) fn is_kept<H: Files + AllocGlobal + Eprint>(rt: &H, target: Option<Target<'_>>) -> bool {
     let Some(Target { path, content }) = target else {
         return false;
     };

@@ -1,4 +1,4 @@
-use Rattle.std.proofs.Common.{List, ap, ◌∙◌}
+use Rattle.std.proofs.Common.{List, [], refl, ap, ◌∙◌}
 use Rattle.ec_hyper.specs.Lcm.{lcm_of}
 use Rattle.ec_units.specs.declared.unit.Load.{Load}
 use Rattle.ec_units.specs.Load.{periods_of}
@@ -9,5 +9,5 @@ use Rattle.ec_frame_lines.proofs.capture.capture_of.Goals as goal
 
 pub returns : goal.returns
 returns c =
-    whole_capture c.args.mapping.now (units_view c.args.units.now) c.new-file.result.items _ _ c.ticks-ticks.result c.new-file.ensures.items
-    (c.ticks-ticks.ensures.value ∙ c.hyper.ensures.value ∙ ap (λ (ls : List Load). lcm_of (periods_of ls)) (loads_of-views c.args.units.now.units)) c.in_ok-extend_from_slice.ensures.items c.in_ok-push_ticks.ensures
+    whole_capture c.args.mapping.now (units_view c.args.units.now) [] _ _ c.ticks-ticks.result refl
+    (c.ticks-ticks.ensures.value ∙ c.hyper.ensures.value ∙ ap (λ (ls : List Load). lcm_of (periods_of ls)) (loads_of-views c.args.units.now.units)) c.in_ok-file.ensures c.in_ok-push_ticks.ensures

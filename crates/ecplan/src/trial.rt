@@ -1,0 +1,255 @@
+//! A play that loses slaves, or whose frames are written as a capture file.
+
+ghost use Rattle.std.specs.Prelude.{◌≡◌};
+ghost use Rattle.ec_command.specs.Words.{JobFits, job_of};
+
+use crate::faults::tell_fault;
+use crate::kept::Kept;
+use crate::progress::{Progress, Telling};
+use crate::remark::{Left, tell_refusal};
+use crate::targets::{Target, is_kept};
+use ec_answers::Told;
+use ec_files::{Content, write_whole};
+use ec_fmmu::layout;
+use ec_frame_lines::stations_of;
+use ec_jobs::{do_line, refuse, refuse_words};
+use ec_loads::{Plan, is_legal};
+use ec_outcome::PlayFault;
+use ec_refusals::Refusal;
+use ec_trial::{Trial, trial_capture, trial_text, try_plan};
+use ec_unit_text::read_units;
+use ec_units::Units;
+use ec_wire::Io;
+use ec_words::Words;
+use std::alloc::{AllocError, Global};
+use std::fmt::Write as _;
+use std::io;
+use std::io::Read;
+use std::rt::{Clock, Files};
+use std::sync::Wait;
+use std::thread::Threads;
+
+/// The most bytes of the units that are kept: as many as are read.
+const MOST_TEXT: usize = 1_048_577;
+
+/// Why nothing is told of such a play.
+#[derive(Drop)]
+enum TrialFault {
+    /// Its job was refused, or memory ran out.
+    Refused(Refusal),
+    /// No slave has a station that is to be lost; the text says which.
+    Station(String),
+}
+
+impl From<AllocError> for TrialFault {
+    fn from(_error: AllocError) -> TrialFault {
+        TrialFault::Refused(Refusal::Play(PlayFault::OutOfMemory))
+    }
+}
+
+/// What is told and written of such a play.
+#[derive(Drop)]
+struct Played {
+    /// Its lines; none where no slave is lost, so that they are those of any play.
+    text: Option<String>,
+    /// The capture file, if one is to be written.
+    capture: Option<Vec<u8>>,
+}
+
+/// The path of the capture file of a play, and what is written there.
+fn target_of(words: &Words) -> Option<Target<'_>> {
+    match &words.trial.pcap {
+        Some(path) => Some(Target {
+            path: path.as_str(),
+            content: Content::Capture,
+        }),
+        None => None,
+    }
+}
+
+/// Whether a play is told or written otherwise than by its job.
+pub(crate) fn is_trial(words: &Words) -> bool {
+    !words.trial.lost.is_empty() || words.trial.pcap.is_some()
+}
+
+/// Whether the capture file of a play may be written; tells why not.
+pub(crate) fn may_capture<H: Files + AllocGlobal + Eprint>(rt: &H, words: &Words) -> bool {
+    !is_kept(rt, target_of(words))
+}
+
+/// The first of some stations that no slave has.
+fn unknown_station(stations: &[u16], lost: &[u16]) -> Option<u16> {
+    for station in lost {
+        if !stations.contains(station) {
+            return Some(*station);
+        }
+    }
+    None
+}
+
+/// What is told of a station that no slave has, with those that there are.
+fn station_words(alloc: Global, unknown: u16, stations: &[u16]) -> Result<String, AllocError> {
+    let mut text = format!(in alloc;
+        "error: no slave has the station {unknown} of --lose\n\nThe stations are"
+    )?;
+    for station in stations {
+        write!(text, " {station}")?;
+    }
+    text.push_str("\n")?;
+    Ok(text)
+}
+
+/// That each station that is to be lost is one of a slave.
+fn know_stations(alloc: Global, units: &Units, lost: &[u16]) -> Result<(), TrialFault> {
+    let stations = stations_of(alloc, units.units.as_slice())?;
+    match unknown_station(stations.as_slice(), lost) {
+        Some(unknown) => {
+            let text = station_words(alloc, unknown, stations.as_slice())?;
+            Err(TrialFault::Station(text))
+        }
+        None => Ok(()),
+    }
+}
+
+/// What is told and written of a play that was tried.
+fn played_of(
+    alloc: Global,
+    words: &Words,
+    tick_ns: u32,
+    trial: &Trial,
+) -> Result<Played, AllocError> {
+    let text = if words.trial.lost.is_empty() {
+        None
+    } else {
+        Some(trial_text(alloc, trial)?)
+    };
+    let capture = if words.trial.pcap.is_some() {
+        Some(trial_capture(alloc, tick_ns, trial)?)
+    } else {
+        None
+    };
+    Ok(Played { text, capture })
+}
+
+/// Plays a plan of units that were found right once more, as the words say.
+fn try_words(
+    alloc: Global,
+    words: &Words,
+    units: &Units,
+    plan: &Plan,
+) -> Result<Played, TrialFault> {
+    let lost = words.trial.lost.as_slice();
+    know_stations(alloc, units, lost)?;
+    let Ok(()) = is_legal(units, plan) else {
+        return Err(TrialFault::from(AllocError));
+    };
+    let mapping = layout(alloc, units, plan)?;
+    let trial = try_plan(alloc, units, &mapping, lost)?;
+    Ok(played_of(alloc, words, units.tick_ns, &trial)?)
+}
+
+/// Plays the plan of which a job told once more, as the words say. Of units and plan, which were found right, only memory may be
+/// wanting.
+fn try_told(
+    alloc: Global,
+    words: &Words,
+    units: &[u8],
+    told: &Result<Told, Refusal>,
+) -> Result<Played, TrialFault> {
+    let told = match told {
+        Ok(told) => told,
+        Err(refusal) => return Err(TrialFault::Refused(*refusal)),
+    };
+    let (Ok(units), Some(plan)) = (read_units(alloc, units), told.plan()) else {
+        return Err(TrialFault::from(AllocError));
+    };
+    try_words(alloc, words, &units, plan)
+}
+
+/// Writes the capture file of a play, if there is one. Whether nothing is missing; tells what is.
+fn write_capture<H: Files + AllocGlobal + Eprint>(rt: &H, words: &Words, played: &Played) -> bool {
+    let (Some(Target { path, content }), Some(bytes)) = (target_of(words), &played.capture) else {
+        return true;
+    };
+    match write_whole(rt, rt.alloc(), path, content, bytes.as_slice()) {
+        Ok(()) => true,
+        Err(fault) => {
+            tell_fault(rt, Target { path, content }, &fault);
+            false
+        }
+    }
+}
+
+/// Writes a text. The status.
+fn write_text<H: Print>(rt: &H, text: &str) -> u8 {
+    match Io::new(io::writer(rt)).write_whole(text.as_bytes()) {
+        Ok(()) => 0,
+        Err(_) => 4,
+    }
+}
+
+/// Writes the capture file of a play, and then its text. The status.
+fn write_played<H: Files + AllocGlobal + Eprint + Print>(
+    rt: &H,
+    words: &Words,
+    told: &Result<Told, Refusal>,
+    played: &Played,
+) -> u8 {
+    if !write_capture(rt, words, played) {
+        return refuse(Refusal::Write, &mut Io::new(io::writer(rt))).code;
+    }
+    match (&played.text, told) {
+        (Some(text), _) => write_text(rt, text.as_str()),
+        (None, Ok(told)) => write_text(rt, told.answer.text.as_str()),
+        (None, Err(refusal)) => refuse(*refusal, &mut Io::new(io::writer(rt))).code,
+    }
+}
+
+/// Writes what comes of a play, or why nothing does, whose job told this of the units. The status.
+fn finish<'x, H: Files + AllocGlobal + Eprint + Print>(
+    rt: &H,
+    words: &'x Words,
+    left: Left<'x>,
+    told: &Result<Told, Refusal>,
+) -> u8 {
+    match try_told(rt.alloc(), words, left.units, told) {
+        Ok(played) => write_played(rt, words, told, &played),
+        Err(TrialFault::Station(text)) => {
+            refuse_words(&mut Io::new(io::writer(rt)), text.as_str()).code
+        }
+        Err(TrialFault::Refused(refusal)) => {
+            let status = refuse(refusal, &mut Io::new(io::writer(rt)));
+            tell_refusal(rt, &refusal, &words.line, left);
+            status.code
+        }
+    }
+}
+
+/// Does the job of a play on these units, and tells and writes what comes of it as the words say. The status.
+pub(crate) fn do_trial<
+    H: Files + AllocGlobal + Eprint + Print + Clock + Threads + Wait + Sync,
+    R: Read + Drop,
+>(rt: &H, words: &Words, reader: R) -> u8
+    requires { JobFits (job_of words.now.line) }
+{
+    let progress = Progress::new(rt, &words.line, Telling::Nothing);
+    let mut units = Kept::new(rt.alloc(), reader, MOST_TEXT);
+    let report = do_line(
+        rt,
+        rt,
+        rt.alloc(),
+        &words.line,
+        &mut Io::new(&mut units),
+        &mut Io::new(io::sink()),
+        &progress,
+    );
+    let left = Left {
+        path: match &words.units {
+            Some(path) => Some(path.as_str()),
+            None => None,
+        },
+        units: units.front(),
+        fault: units.fault(),
+    };
+    finish(rt, words, left, &report.told)
+}
