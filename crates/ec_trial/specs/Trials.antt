@@ -1,5 +1,5 @@
 -- A play that loses slaves.
-use Rattle.std.specs.Prelude.{ℕ, List, [], ◌++◌, length, map}
+use Rattle.std.specs.Prelude.{ℕ, List, map}
 use Rattle.std.specs.List.{range_with_len}
 use Rattle.ec_hyper.specs.Lcm.{lcm_of}
 use Rattle.ec_units.specs.declared.units.Units.{Units}

@@ -11,6 +11,7 @@ use crate::trial::Trial;
 use ec_frame_lines::{capture_head, push_record};
 use ec_frames::Frame;
 use ec_play::Trip;
+use ec_units::Units;
 use ec_wire::ns_of;
 use std::alloc::{AllocError, Global};
 
@@ -82,23 +83,22 @@ fn push_ticks(
     Ok(())
 }
 
-/// The frames of a play as a capture file of the kind that `capture_of` of `ec_frame_lines` makes: each frame as it is sent, and,
-/// stamped with what it takes on the wire (80 ns a byte) behind that, as it comes back. The start frames are sent first, each once
-/// the one before it came back; tick 0 begins with the first whole tick behind them, and each tick `tick_ns` after the one before
-/// it, 80 to 1,000,000,000.
+/// The frames of a play of these units as a capture file of the kind that `capture_of` of `ec_frame_lines` makes: each frame as it
+/// is sent, and, stamped with what it takes on the wire (80 ns a byte) behind that, as it comes back. The start frames are sent
+/// first, each once the one before it came back; tick 0 begins with the first whole tick behind them. Of a plan that doesn't fit
+/// its tick, the stamps of one tick run into those of the next.
 ///
 /// # Errors
 ///
 /// `AllocError` where memory ran out.
 #[tactic(auto, unfolding(crate::specs::Captures::trial_capture))]
-pub fn trial_capture(alloc: Global, tick_ns: u32, trial: &Trial) -> Result<Vec<u8>, AllocError>
-    requires { (80 ≤ tick_ns) × (tick_ns ≤ 1000000000) }
-    ensures { IfOk result (λ file. file.items ≡ capture_in tick_ns (round_in trial.now.start) (map tick_in trial.now.ticks.items)) }
+pub fn trial_capture(alloc: Global, units: &Units, trial: &Trial) -> Result<Vec<u8>, AllocError>
+    ensures { IfOk result (λ file. file.items ≡ capture_in units.now.tick_ns (round_in trial.now.start) (map tick_in trial.now.ticks.items)) }
 {
     let mut file = capture_head(alloc)?;
     let start = &trial.start;
     let after = push_round(&mut file, 0, start.trips.as_slice(), start.backs.as_slice())?;
-    let first = first_tick_ns(after, tick_ns);
-    push_ticks(&mut file, first, tick_ns, trial.ticks.as_slice())?;
+    let first = first_tick_ns(after, units.tick_ns);
+    push_ticks(&mut file, first, units.tick_ns, trial.ticks.as_slice())?;
     Ok(file)
 }

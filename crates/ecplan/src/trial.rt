@@ -9,7 +9,7 @@ use crate::progress::{Progress, Telling};
 use crate::remark::{Left, tell_refusal};
 use crate::targets::{Target, is_kept};
 use ec_answers::Told;
-use ec_files::{Content, write_whole};
+use ec_files::{Content, FileFault, write_whole};
 use ec_fmmu::layout;
 use ec_frame_lines::stations_of;
 use ec_jobs::{do_line, refuse, refuse_words};
@@ -17,14 +17,14 @@ use ec_loads::{Plan, is_legal};
 use ec_outcome::PlayFault;
 use ec_refusals::Refusal;
 use ec_trial::{Trial, trial_capture, trial_text, try_plan};
-use ec_unit_text::read_units;
+use ec_unit_text::{UnitFault, read_units};
 use ec_units::Units;
 use ec_wire::Io;
 use ec_words::Words;
 use std::alloc::{AllocError, Global};
 use std::fmt::Write as _;
 use std::io;
-use std::io::Read;
+use std::io::{ErrorKind, Read};
 use std::rt::{Clock, Files};
 use std::sync::Wait;
 use std::thread::Threads;
@@ -115,7 +115,7 @@ fn know_stations(alloc: Global, units: &Units, lost: &[u16]) -> Result<(), Trial
 fn played_of(
     alloc: Global,
     words: &Words,
-    tick_ns: u32,
+    units: &Units,
     trial: &Trial,
 ) -> Result<Played, AllocError> {
     let text = if words.trial.lost.is_empty() {
@@ -124,7 +124,7 @@ fn played_of(
         Some(trial_text(alloc, trial)?)
     };
     let capture = if words.trial.pcap.is_some() {
-        Some(trial_capture(alloc, tick_ns, trial)?)
+        Some(trial_capture(alloc, units, trial)?)
     } else {
         None
     };
@@ -145,7 +145,7 @@ fn try_words(
     };
     let mapping = layout(alloc, units, plan)?;
     let trial = try_plan(alloc, units, &mapping, lost)?;
-    Ok(played_of(alloc, words, units.tick_ns, &trial)?)
+    Ok(played_of(alloc, words, units, &trial)?)
 }
 
 /// Plays the plan of which a job told once more, as the words say. Of units and plan, which were found right, only memory may be
@@ -166,16 +166,30 @@ fn try_told(
     try_words(alloc, words, &units, plan)
 }
 
-/// Writes the capture file of a play, if there is one. Whether nothing is missing; tells what is.
-fn write_capture<H: Files + AllocGlobal + Eprint>(rt: &H, words: &Words, played: &Played) -> bool {
+/// The refusal of a capture file that isn't at its path.
+fn refusal_of(fault: &FileFault) -> Refusal {
+    match fault {
+        FileFault::Unwritten { why } if why.kind() == ErrorKind::OutOfMemory => {
+            Refusal::Unit(UnitFault::OutOfMemory)
+        }
+        _ => Refusal::Write,
+    }
+}
+
+/// Writes the capture file of a play, if there is one. The refusal where it can't; tells why.
+fn write_capture<H: Files + AllocGlobal + Eprint>(
+    rt: &H,
+    words: &Words,
+    played: &Played,
+) -> Option<Refusal> {
     let (Some(Target { path, content }), Some(bytes)) = (target_of(words), &played.capture) else {
-        return true;
+        return None;
     };
     match write_whole(rt, rt.alloc(), path, content, bytes.as_slice()) {
-        Ok(()) => true,
+        Ok(()) => None,
         Err(fault) => {
             tell_fault(rt, Target { path, content }, &fault);
-            false
+            Some(refusal_of(&fault))
         }
     }
 }
@@ -195,8 +209,8 @@ fn write_played<H: Files + AllocGlobal + Eprint + Print>(
     told: &Result<Told, Refusal>,
     played: &Played,
 ) -> u8 {
-    if !write_capture(rt, words, played) {
-        return refuse(Refusal::Write, &mut Io::new(io::writer(rt))).code;
+    if let Some(refusal) = write_capture(rt, words, played) {
+        return refuse(refusal, &mut Io::new(io::writer(rt))).code;
     }
     match (&played.text, told) {
         (Some(text), _) => write_text(rt, text.as_str()),

@@ -1,4 +1,4 @@
-use Rattle.std.proofs.Common.{◌≡◌, ℕ, List, ap, ◌∙◌, sym, rules}
+use Rattle.std.proofs.Common.{◌≡◌, ap, ◌∙◌, rules}
 use Rattle.ec_hyper.specs.Lcm.{lcm_of}
 use Rattle.ec_units.specs.Load.{loads_of, periods_of}
 use Rattle.ec_frame_lines.specs.Lines.{zeros}
@@ -7,7 +7,7 @@ use Rattle.ec_play.specs.Sent.{start_sents}
 use Rattle.ec_play.specs.Lines.{slaves_after}
 use Rattle.ec_play_lines.specs.Plays.{new_slaves}
 use Rattle.ec_trial.specs.Members.{members}
-use Rattle.ec_trial.specs.Trials.{ticks_of, stations_at, started_line}
+use Rattle.ec_trial.specs.Trials.{ticks_of, stations_at}
 use Rattle.ec_trial.proofs.TrialLemmas.{written_back}
 use Rattle.ec_trial.proofs.playing.try_plan.Goals as goal
 

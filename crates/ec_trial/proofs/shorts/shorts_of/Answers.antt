@@ -1,4 +1,4 @@
-use Rattle.std.proofs.Common.{◌≡◌, List, Vec, Global, ap, ◌∙◌, rules}
+use Rattle.std.proofs.Common.{Vec, Global, ap, ◌∙◌, rules}
 use Rattle.ec_play.specs.declared.faults.Wrong.{Wrong}
 use Rattle.ec_trial.specs.Shorts.{differ, wrong_at}
 use Rattle.ec_trial.proofs.TrialLemmas.{wrongs_yes, wrongs_no}
