@@ -265,12 +265,12 @@ def outputs_of(program, folder):
         Output("a certificate", ["plan"], "--out", twelve, older),
         Output("a certificate of a search that went on", resumed, "--out", twelve, older, short.whole),
         Output("a capture", ["frames"], "--pcap", line, made(["frames"], "--pcap", other).whole),
-        Output("a capture of a play", ["play"], "--pcap", line, made(["play"], "--pcap", other).whole),
         Output("a picture", ["cost"], "--svg", line, made(["cost"], "--svg", other).whole),
         Output("the places", ["plan"], "--places", twelve, other),
         Output("a header", ["frames"], "--header", line, made(["frames"], "--header", other).whole),
         Output("a map", ["frames"], "--map", line, made(["frames"], "--map", other).whole),
         Output("a report", ["frames"], "--report", line, made(["frames"], "--report", other).whole),
+        Output("a capture of a play", ["play"], "--pcap", line, made(["play"], "--pcap", other).whole),
     ]
     outputs[0].rival = outputs[1].rival = short
     return [it.run_undisturbed(trial) for it in outputs]

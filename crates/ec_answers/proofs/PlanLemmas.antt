@@ -34,6 +34,6 @@ pub search_untold : (is : Units → Outcome → Type 0) (fault : Refusal → Typ
 search_untold is fault r t eq why = rw eq (None, inr (record { refusal = r; why = why; line = refl; certificate = refl }), refl)
 
 -- what a search without a proof has
-pub unproved_of : (units : List SyncUnit) (n : ℕ) (o : Outcome) (best : Option Best) (order : Order) (tree : Tree) (why : Cut) → o ≡ outcome.Unproved best order tree why → (asked : Asked) × IsOutcome units n asked o
-    → (asked : Asked) × IsUnproved units n asked best order (shape_of tree) why
-unproved_of units n o best order tree why is h = subst (λ (x : Outcome). (asked : Asked) × IsOutcome units n asked x) is h
+pub unproved_of : (units : List SyncUnit) (n : ℕ) (o : Outcome) (best : Option Best) (order : Order) (tree : Tree) (strong : Bool) (why : Cut) → o ≡ outcome.Unproved best order tree strong why → (asked : Asked) × IsOutcome units n asked o
+    → (asked : Asked) × IsUnproved units n asked best order (shape_of tree) strong why
+unproved_of units n o best order tree strong why is h = subst (λ (x : Outcome). (asked : Asked) × IsOutcome units n asked x) is h

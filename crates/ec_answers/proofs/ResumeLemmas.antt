@@ -26,7 +26,7 @@ use Rattle.ec_checker.specs.Laws.{FaultsRefute}
 use Rattle.ec_checker.proofs.CheckLemmas.{claim_from}
 use Rattle.ec_outcome.specs.declared.search.Outcome.{Outcome}
 use Rattle.ec_outcome.specs.declared.search.Outcome.TheVariants as outcome
-use Rattle.ec_workers.specs.Answers.{Asked, asked_beyond, GoesBeyond, IsOutcome, HasOrder}
+use Rattle.ec_workers.specs.Answers.{Asked, asked_beyond, GoesBeyond, IsOutcome, HasOrder, is_strong}
 use Rattle.ec_workers.specs.Outcomes.{Shows, IsOptimal, IsWithoutPlan}
 use Rattle.ec_workers.proofs.GrowLemmas.{stays}
 use Rattle.ec_lines.specs.declared.answer.Answer.{Answer}
@@ -83,13 +83,13 @@ without_by refute trees levels units n c formed is none best =
 own_order : (c : CertView) (o : Outcome) → IsProofBy c o → HasOrder c.order o
 own_order c (outcome.Optimal plan b cert) own = ap (λ (x : CertView). x.order) own
 own_order c (outcome.NoPlan cert) own = ap (λ (x : CertView). x.order) own
-own_order c (outcome.Unproved best order tree why) own = absurd own
+own_order c (outcome.Unproved best order tree strong why) own = absurd own
 
 no_level : (l : ℕ) → None ≡ Some l → ⊥
 no_level l e = absurd cc
 
 -- a proof goes on from itself
-own_beyond : (nodes : ℕ) (us : Units) (c : CertView) (o : Outcome) → IsOutcome us.units us.slots (asked_beyond 1 0 c.tree) o → IsProofBy c o → GoesBeyond c.tree (value_of c.best) nodes o
+own_beyond : (nodes : ℕ) (us : Units) (c : CertView) (o : Outcome) → IsOutcome us.units us.slots (asked_beyond (is_strong c) 1 0 c.tree) o → IsProofBy c o → GoesBeyond c.tree (value_of c.best) nodes o
 own_beyond nodes us c (outcome.Optimal plan b cert) is own =
     let value : Some b ≡ value_of c.best = ap (λ x. Some x) (sym is.held.2) ∙ ap value_of (sym is.held.1) ∙ ap (λ (x : CertView). value_of x.best) own in
     subst (λ (t : Shape). GoesBeyond t (value_of c.best) nodes (outcome.Optimal plan b cert)) (ap (λ (x : CertView). x.tree) own)
@@ -98,13 +98,13 @@ own_beyond nodes us c (outcome.NoPlan cert) is own =
     let value : None ≡ value_of c.best = ap value_of (sym is.held) ∙ ap (λ (x : CertView). value_of x.best) own in
     subst (λ (t : Shape). GoesBeyond t (value_of c.best) nodes (outcome.NoPlan cert)) (ap (λ (x : CertView). x.tree) own)
     (subst (λ (v : Option ℕ). GoesBeyond (shape_of cert.tree) v nodes (outcome.NoPlan cert)) value (stays nodes (outcome.NoPlan cert)))
-own_beyond nodes us c (outcome.Unproved best order tree why) is own = absurd own
+own_beyond nodes us c (outcome.Unproved best order tree strong why) is own = absurd own
 
 pub goes_by_proof : (workers nodes : ℕ) (us : Units) (c : CertView) (o : Outcome) → IsCertified us.units us.slots c → c.level ≡ None → ((asked : Asked) → IsOutcome us.units us.slots asked o) → IsProofBy c o → GoesOn workers nodes us c o
 goes_by_proof workers nodes us c o right none is own = record {
   right = right;
-  answer = is (asked_beyond workers nodes c.tree);
-  beyond = own_beyond nodes us c o (is (asked_beyond 1 0 c.tree)) own;
+  answer = is (asked_beyond (is_strong c) workers nodes c.tree);
+  beyond = own_beyond nodes us c o (is (asked_beyond (is_strong c) 1 0 c.tree)) own;
   level = λ l some. absurd (no_level l (sym none ∙ some));
   proof = λ _. own;
   order = own_order c o own;
@@ -116,8 +116,7 @@ goes_by_proof workers nodes us c o right none is own = record {
 stopped_fault : (workers : ℕ) (bytes text : List ℕ) (us : Units) (c : CertView) (r : Refusal) → reading bytes ≡ Ok (units_view us) → cert_reading text ≡ Ok c → IsStopped workers us c r → IsResumeFault workers bytes text r
 stopped_fault workers bytes text us c r said read (inl memory) = inl (inr (inl memory))
 stopped_fault workers bytes text us c r said read (inr (inl h)) = inl (inr (inr h))
-stopped_fault workers bytes text us c r said read (inr (inr (inl h))) = inr (inr (inr (inl (h.0, h.1, record { units = us; said = said; cert = c; read = read; fault = h.2 }))))
-stopped_fault workers bytes text us c r said read (inr (inr (inr h))) = inr (inr (inr (inr (h.0, (c, read, h.1)))))
+stopped_fault workers bytes text us c r said read (inr (inr h)) = inr (inr (inr (h.0, h.1, record { units = us; said = said; cert = c; read = read; fault = h.2 })))
 
 -- a text from which nothing comes
 pub stopped_text : (workers : ℕ) (bytes text : List ℕ) (us : Units) (r : Refusal) → reading bytes ≡ Ok (units_view us) → IsStoppedFrom workers us text r → IsResumeFault workers bytes text r

@@ -34,14 +34,14 @@ use Rattle.ec_answers.proofs.ResumeLemmas.{resume_of, stopped_text, unresumed}
 -- ---- a job without a file
 
 abbrev IsSimple : Job → Type 0
-IsSimple (job.Plan workers nodes) = ⊥
+IsSimple (job.Plan workers nodes strong) = ⊥
 IsSimple (job.Resume workers nodes) = ⊥
 IsSimple job.Capture = ⊥
 IsSimple _ = Unit {0}
 
 simple_is : (j : Job) (bytes : List ℕ) (cert : Option (List ℕ)) (w : Written) → IsSimple j → (IsOutput j bytes cert w ⊎ IsNoMemory j w) → IsTold j bytes cert w None
 simple_is job.Cost bytes cert w simple h = (h, refl)
-simple_is (job.Plan workers nodes) bytes cert w simple h = absurd simple
+simple_is (job.Plan workers nodes strong) bytes cert w simple h = absurd simple
 simple_is (job.Resume workers nodes) bytes cert w simple h = absurd simple
 simple_is job.Check bytes cert w simple h = (h, refl)
 simple_is job.Frames bytes cert w simple h = (h, refl)
@@ -108,7 +108,7 @@ same_tells j bytes cert t s text file h = record { file = h.file; is = subst (λ
 
 pub plan_tells : (j : Job) (bytes : List ℕ) (cert : Option (List ℕ)) (us : Units) (plan : Plan) (t : Result Told Refusal) → IsOfPlan j → FramesFrom cert (Ok (us, plan)) bytes → IsPlanTold j (units_view us) plan.places t → TellsFor j bytes cert t
 plan_tells job.Cost bytes cert us plan t of from h = absurd of
-plan_tells (job.Plan workers nodes) bytes cert us plan t of from h = absurd of
+plan_tells (job.Plan workers nodes strong) bytes cert us plan t of from h = absurd of
 plan_tells (job.Resume workers nodes) bytes cert us plan t of from h = absurd of
 plan_tells job.Check bytes cert us plan t of from h = absurd of
 plan_tells job.Frames bytes cert us plan t of from h = simple_tells job.Frames bytes cert h.0 t tt h.1 h.2 (answered cert bytes us plan h.0 from h.3)
@@ -118,7 +118,7 @@ plan_tells job.Play bytes cert us plan t of from h = simple_tells job.Play bytes
 
 pub fault_tells : (j : Job) (bytes : List ℕ) (cert : Option (List ℕ)) (r : Refusal) (t : Result Told Refusal) → IsOfPlan j → t ≡ Err r → IsFramesFault cert bytes r → TellsFor j bytes cert t
 fault_tells job.Cost bytes cert r t of is h = absurd of
-fault_tells (job.Plan workers nodes) bytes cert r t of is h = absurd of
+fault_tells (job.Plan workers nodes strong) bytes cert r t of is h = absurd of
 fault_tells (job.Resume workers nodes) bytes cert r t of is h = absurd of
 fault_tells job.Check bytes cert r t of is h = absurd of
 fault_tells job.Frames bytes cert r t of is h = simple_untold job.Frames bytes cert r t tt is h
@@ -134,21 +134,21 @@ IsOutcomeTold us o t = IfOk t (λ a. (level : Option ℕ) × IsLevelOf us.units 
 abbrev IsWant : Result Told Refusal → Type 0
 IsWant t = IfErr t (λ r. r ≡ out_of_memory)
 
-pub planned_tells : (workers nodes : ℕ) (bytes : List ℕ) (cert : Option (List ℕ)) (us : Units) (o : Outcome) (t : Result Told Refusal) → AnswersUnits (Ok us) bytes → IsOutcome us.units us.slots (asked_for workers nodes) o → GoesBeyond open_leaf None nodes o → HasSearchOrder (loads_of us.units) o → IsOutcomeTold us o t → IsWant t
-    → TellsFor (job.Plan workers nodes) bytes cert t
-planned_tells workers nodes bytes cert us o t read found beyond order ok err =
-    let h = outcome_tells (IsPlanOf (asked_for workers nodes) bytes) (IsPlanFault (asked_for workers nodes) bytes) us o t (record { short = read.0; said = read.1; answer = found; beyond = beyond; order = order }) (inr (inl refl)) ok err in
+pub planned_tells : (workers nodes : ℕ) (strong : Bool) (bytes : List ℕ) (cert : Option (List ℕ)) (us : Units) (o : Outcome) (t : Result Told Refusal) → AnswersUnits (Ok us) bytes → IsOutcome us.units us.slots (asked_for strong workers nodes) o → GoesBeyond open_leaf None nodes o → HasSearchOrder strong (loads_of us.units) o → IsOutcomeTold us o t → IsWant t
+    → TellsFor (job.Plan workers nodes strong) bytes cert t
+planned_tells workers nodes strong bytes cert us o t read found beyond order ok err =
+    let h = outcome_tells (IsPlanOf (asked_for strong workers nodes) bytes) (IsPlanFault (asked_for strong workers nodes) bytes) us o t (record { short = read.0; said = read.1; answer = found; beyond = beyond; order = order }) (inr (inl refl)) ok err in
     record { file = h.0; is = h.1; made = h.2 }
 
-pub planned_untold : (workers nodes : ℕ) (bytes : List ℕ) (cert : Option (List ℕ)) (f : SolveFault) (t : Result Told Refusal) → t ≡ Err (refusal.Solve f) → IsSolveFault workers f → TellsFor (job.Plan workers nodes) bytes cert t
-planned_untold workers nodes bytes cert f t is h =
-    let w = search_untold (IsPlanOf (asked_for workers nodes) bytes) (IsPlanFault (asked_for workers nodes) bytes) (refusal.Solve f) t is (inr (inr (f, refl, h))) in
+pub planned_untold : (workers nodes : ℕ) (strong : Bool) (bytes : List ℕ) (cert : Option (List ℕ)) (f : SolveFault) (t : Result Told Refusal) → t ≡ Err (refusal.Solve f) → IsSolveFault workers f → TellsFor (job.Plan workers nodes strong) bytes cert t
+planned_untold workers nodes strong bytes cert f t is h =
+    let w = search_untold (IsPlanOf (asked_for strong workers nodes) bytes) (IsPlanFault (asked_for strong workers nodes) bytes) (refusal.Solve f) t is (inr (inr (f, refl, h))) in
     record { file = w.0; is = w.1; made = w.2 }
 
 -- memory ran out before the search
-pub planned_short : (workers nodes : ℕ) (bytes : List ℕ) (cert : Option (List ℕ)) (t : Result Told Refusal) → t ≡ Err out_of_memory → TellsFor (job.Plan workers nodes) bytes cert t
-planned_short workers nodes bytes cert t is =
-    let w = search_untold (IsPlanOf (asked_for workers nodes) bytes) (IsPlanFault (asked_for workers nodes) bytes) out_of_memory t is (inr (inl refl)) in
+pub planned_short : (workers nodes : ℕ) (strong : Bool) (bytes : List ℕ) (cert : Option (List ℕ)) (t : Result Told Refusal) → t ≡ Err out_of_memory → TellsFor (job.Plan workers nodes strong) bytes cert t
+planned_short workers nodes strong bytes cert t is =
+    let w = search_untold (IsPlanOf (asked_for strong workers nodes) bytes) (IsPlanFault (asked_for strong workers nodes) bytes) out_of_memory t is (inr (inl refl)) in
     record { file = w.0; is = w.1; made = w.2 }
 
 pub resumed_tells : (workers nodes : ℕ) (bytes text : List ℕ) (us : Units) (o : Outcome) (t : Result Told Refusal) → AnswersUnits (Ok us) bytes → GoesOnFrom workers nodes us text o → IsOutcomeTold us o t → IsWant t
@@ -181,17 +181,17 @@ check_unread bytes text r (inr (inl (inl h))) = inr (inl (h.0, rw h.1.1 (ap refu
 check_unread bytes text r (inr (inl (inr h))) = inr (inr (h.0, ap refused h.1))
 check_unread bytes text r (inr (inr h)) = inr (inl (h.1.0, rw (h.1.1, too_long text h.3) (ap refused h.2)))
 
-plan_unread : (workers nodes : ℕ) (bytes : List ℕ) (r : Refusal) → IsUnread bytes None r → IsPlanFault (asked_for workers nodes) bytes r
-plan_unread workers nodes bytes r (inl memory) = inr (inl memory)
-plan_unread workers nodes bytes r (inr fault) = inl fault
+plan_unread : (workers nodes : ℕ) (strong : Bool) (bytes : List ℕ) (r : Refusal) → IsUnread bytes None r → IsPlanFault (asked_for strong workers nodes) bytes r
+plan_unread workers nodes strong bytes r (inl memory) = inr (inl memory)
+plan_unread workers nodes strong bytes r (inr fault) = inl fault
 
 pub unread_tells : (j : Job) (bytes : List ℕ) (cert : Option (List ℕ)) (r : Refusal) (t : Result Told Refusal) → HasInput j cert → t ≡ Err r → IsUnread bytes cert r → TellsFor j bytes cert t
 unread_tells job.Cost bytes None r t has is h = simple_untold job.Cost bytes None r t tt is (cost_unread bytes r h)
 unread_tells job.Cost bytes (Some text) r t has is h = absurd cc
-unread_tells (job.Plan workers nodes) bytes None r t has is h =
-    let w = search_untold (IsPlanOf (asked_for workers nodes) bytes) (IsPlanFault (asked_for workers nodes) bytes) r t is (plan_unread workers nodes bytes r h) in
+unread_tells (job.Plan workers nodes strong) bytes None r t has is h =
+    let w = search_untold (IsPlanOf (asked_for strong workers nodes) bytes) (IsPlanFault (asked_for strong workers nodes) bytes) r t is (plan_unread workers nodes strong bytes r h) in
     record { file = w.0; is = w.1; made = w.2 }
-unread_tells (job.Plan workers nodes) bytes (Some text) r t has is h = absurd cc
+unread_tells (job.Plan workers nodes strong) bytes (Some text) r t has is h = absurd cc
 unread_tells (job.Resume workers nodes) bytes None r t has is h = absurd has
 unread_tells (job.Resume workers nodes) bytes (Some text) r t has is h =
     let w = search_untold (IsResumeOf workers nodes bytes text) (IsResumeFault workers bytes text) r t is (unresumed workers bytes text r h) in

@@ -13,14 +13,13 @@ use Rattle.ec_cert.specs.Shapes.{CertView, cert_view, shape_of}
 use Rattle.ec_cert_text.specs.Reading.{Fails, reading as cert_reading}
 use Rattle.ec_cert_text.specs.Text.{certificate_text}
 use Rattle.ec_cert_text.specs.declared.fault.CertFault.{CertFault}
-use Rattle.ec_cert_text.specs.declared.fault.CertFault.TheVariants as text_fault
 use Rattle.ec_checker.specs.Certified.{IsCertified, IsFaultOf}
 use Rattle.ec_checker.specs.declared.fault.CheckFault.{CheckFault}
 use Rattle.ec_checker.specs.declared.fault.Verdict.TheVariants as verdict
 use Rattle.ec_outcome.specs.declared.search.Outcome.{Outcome}
 use Rattle.ec_outcome.specs.declared.search.Outcome.TheVariants as outcome
 use Rattle.ec_outcome.specs.declared.search.SolveFault.{SolveFault}
-use Rattle.ec_workers.specs.Answers.{Asked, asked_beyond, GoesBeyond, HasLevelFrom, IsOutcome, IsSolveFault, HasOrder, HasSearchOrder}
+use Rattle.ec_workers.specs.Answers.{Asked, asked_beyond, GoesBeyond, HasLevelFrom, IsOutcome, IsSolveFault, HasOrder, HasSearchOrder, is_strong}
 use Rattle.ec_workers.specs.Outcomes.{partial_for, Shows}
 use Rattle.ec_refusals.specs.declared.refusal.Refusal.{Refusal}
 use Rattle.ec_refusals.specs.declared.refusal.Refusal.TheVariants as refusal
@@ -33,8 +32,8 @@ use Rattle.ec_refusals.specs.Refusals.{out_of_memory, check_memory}
 abbrev pub outcome_cert : Units → Outcome → Option ℕ → Option (List ℕ)
 outcome_cert us (outcome.Optimal plan b cert) level = Some (certificate_text (cert_view cert))
 outcome_cert us (outcome.NoPlan cert) level = Some (certificate_text (cert_view cert))
-outcome_cert us (outcome.Unproved best order tree why) level =
-    option_map (λ l. certificate_text (partial_for us.units us.slots order best l (shape_of tree))) level
+outcome_cert us (outcome.Unproved best order tree strong why) level =
+    option_map (λ l. certificate_text (partial_for us.units us.slots strong order best l (shape_of tree))) level
 
 -- ---- what comes of a search over the units that were read, and why nothing does
 
@@ -44,7 +43,7 @@ pub record IsPlanOf (asked : Asked) (bytes : List ℕ) (us : Units) (o : Outcome
   pub said : reading bytes ≡ Ok (units_view us)
   pub answer : IsOutcome us.units us.slots asked o
   pub beyond : GoesBeyond open_leaf None asked.nodes o
-  pub order : HasSearchOrder (loads_of us.units) o
+  pub order : HasSearchOrder asked.strong (loads_of us.units) o
 
 -- why a search by so many workers over the units that bytes say has no outcome: they give no units, memory ran out over them, before the search or over the text
 -- that is written, or the search has none: memory ran out before it began, or none of several workers could be started
@@ -59,31 +58,25 @@ IsPlanFault asked bytes r = IsSearchFault asked.workers bytes r
 abbrev pub IsProofBy : CertView → Outcome → Type 0
 IsProofBy c (outcome.Optimal plan b cert) = cert_view cert ≡ c
 IsProofBy c (outcome.NoPlan cert) = cert_view cert ≡ c
-IsProofBy c (outcome.Unproved best order tree why) = ⊥
+IsProofBy c (outcome.Unproved best order tree strong why) = ⊥
 
 -- what comes of going on with a certificate to which the checker says yes: where it is a proof, that one; else what a search finds that goes on with its tree, in
 -- its order of the units, where new nodes alone are counted. Its tree grows from the certificate's, its value is at most that of the
 -- certificate, and what it shows of every plan is at least the certificate's level
 pub record GoesOn (workers nodes : ℕ) (us : Units) (c : CertView) (o : Outcome) : Type 0 where
   pub right : IsCertified us.units us.slots c
-  pub answer : IsOutcome us.units us.slots (asked_beyond workers nodes c.tree) o
+  pub answer : IsOutcome us.units us.slots (asked_beyond (is_strong c) workers nodes c.tree) o
   pub beyond : GoesBeyond c.tree (value_of c.best) nodes o
   pub level : (l : ℕ) → c.level ≡ Some l → HasLevelFrom us.units us.slots l o
   pub proof : c.level ≡ None → IsProofBy c o
   pub order : HasOrder c.order o
 
--- a certificate of version 4 that shows no more than a level: no search goes on by the strong rules
-abbrev pub IsBeyondSearch : CertView → Type 0
-IsBeyondSearch c = (4 ≤ c.version) × ((l : ℕ) × (c.level ≡ Some l))
-
--- why nothing comes of it: no search goes on with it, which is told as a version that isn't known; the checker says no, memory ran out, or the search has no
--- outcome
+-- why nothing comes of it: the checker says no, memory ran out, or the search has no outcome
 abbrev pub IsStopped : ℕ → Units → CertView → Refusal → Type 0
 IsStopped workers us c r =
     (r ≡ out_of_memory)
     ⊎ (((f : SolveFault) × (r ≡ refusal.Solve f) × IsSolveFault workers f)
-    ⊎ (((f : CheckFault) × (r ≡ refusal.Check f) × IsFaultOf us.units us.slots c f)
-    ⊎ ((r ≡ refusal.Cert text_fault.Version) × IsBeyondSearch c)))
+    ⊎ ((f : CheckFault) × (r ≡ refusal.Check f) × IsFaultOf us.units us.slots c f))
 
 -- the text has this fault, or memory ran out over it
 abbrev pub IsTextFault : List ℕ → Refusal → Type 0
@@ -113,15 +106,10 @@ pub record IsNoFor (bytes text : List ℕ) (f : CheckFault) : Type 0 where
   pub read : cert_reading text ≡ Ok cert
   pub fault : IsFaultOf units.units units.slots cert f
 
--- no search goes on with the certificate that the text says
-abbrev pub IsTextBeyond : List ℕ → Refusal → Type 0
-IsTextBeyond text r = (r ≡ refusal.Cert text_fault.Version) × ((c : CertView) × (cert_reading text ≡ Ok c) × IsBeyondSearch c)
-
--- why there is no outcome of it: as of a plan, or memory ran out over the room for the check, or the text has a fault, or no search goes on with its
--- certificate, or the checker says no
+-- why there is no outcome of it: as of a plan, or memory ran out over the room for the check, or the text has a fault, or the checker says no
 abbrev pub IsResumeFault : ℕ → List ℕ → List ℕ → Refusal → Type 0
 IsResumeFault workers bytes text r =
-    IsSearchFault workers bytes r ⊎ ((r ≡ check_memory) ⊎ (IsTextFault text r ⊎ (((f : CheckFault) × (r ≡ refusal.Check f) × IsNoFor bytes text f) ⊎ IsTextBeyond text r)))
+    IsSearchFault workers bytes r ⊎ ((r ≡ check_memory) ⊎ (IsTextFault text r ⊎ ((f : CheckFault) × (r ≡ refusal.Check f) × IsNoFor bytes text f)))
 
 -- ---- what is written for it
 
@@ -129,8 +117,8 @@ IsResumeFault workers bytes text r =
 abbrev pub IsShownAt : Units → Outcome → Option ℕ → Type 0
 IsShownAt us (outcome.Optimal plan b cert) level = Unit {0}
 IsShownAt us (outcome.NoPlan cert) level = Unit {0}
-IsShownAt us (outcome.Unproved best order tree why) level =
-    (l : ℕ) × (level ≡ Some l) × Shows us.units us.slots (partial_for us.units us.slots order best l (shape_of tree)) (verdict.AtLeast l)
+IsShownAt us (outcome.Unproved best order tree strong why) level =
+    (l : ℕ) × (level ≡ Some l) × Shows us.units us.slots (partial_for us.units us.slots strong order best l (shape_of tree)) (verdict.AtLeast l)
 
 -- written is the text of an outcome, and this is its certificate
 pub record IsOutcomeWritten (is : Units → Outcome → Type 0) (w : Written) (cert : Option (List ℕ)) : Type 0 where

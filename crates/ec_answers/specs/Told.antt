@@ -47,7 +47,7 @@ plan_of (file.Capture bytes) plan = option_map (λ p. p.places) plan
 abbrev pub ending_of : Outcome → Option ℕ → Option Ending
 ending_of (outcome.Optimal plan b cert) level = None
 ending_of (outcome.NoPlan cert) level = None
-ending_of (outcome.Unproved best order tree why) level = option_map (λ l. record { best = option_map (λ b. b.busiest) best; cut = why; level = l }) level
+ending_of (outcome.Unproved best order tree strong why) level = option_map (λ l. record { best = option_map (λ b. b.busiest) best; cut = why; level = l; strong = strong }) level
 
 -- what is written for what a job answers
 abbrev pub told : Result Told Refusal → Written
@@ -70,7 +70,7 @@ IsPlainTold j bytes cert w file = (IsOutput j bytes cert w ⊎ IsNoMemory j w) �
 -- what is told of a job for the bytes of units, and of a certificate where there is one
 abbrev pub IsTold : Job → List ℕ → Option (List ℕ) → Written → Option (List ℕ) → Type 0
 IsTold job.Cost bytes cert w file = IsPlainTold job.Cost bytes cert w file
-IsTold (job.Plan workers nodes) bytes cert w file = IsPlanWritten (asked_for workers nodes) bytes w file
+IsTold (job.Plan workers nodes strong) bytes cert w file = IsPlanWritten (asked_for strong workers nodes) bytes w file
 IsTold (job.Resume workers nodes) bytes None w file = ⊥
 IsTold (job.Resume workers nodes) bytes (Some text) w file = IsResumeWritten workers nodes bytes text w file
 IsTold job.Check bytes cert w file = IsPlainTold job.Check bytes cert w file
@@ -122,7 +122,7 @@ IsOfPlan _ = ⊥
 -- a cost and a plan read no certificate; a check, the cost of a plan and a resumed search read one; frames and a play may
 abbrev pub HasInput : Job → Option (List ℕ) → Type 0
 HasInput job.Cost cert = cert ≡ None
-HasInput (job.Plan workers nodes) cert = cert ≡ None
+HasInput (job.Plan workers nodes strong) cert = cert ≡ None
 HasInput (job.Resume workers nodes) None = ⊥
 HasInput (job.Resume workers nodes) (Some text) = Unit {0}
 HasInput job.Check None = ⊥

@@ -29,17 +29,18 @@ fn tell_plan_of<T: Threads + Wait + Sync, G: Gate + Sync>(
     alloc: Global,
     workers: usize,
     nodes: u32,
+    strong: bool,
     units: &Units,
     gate: &G,
 ) -> Result<Told, Refusal>
     requires workers { (1 ≤ workers) × (workers ≤ 16) }
     requires nodes { (1 ≤ nodes) × (nodes ≤ 10000000) }
-    ensures told { (bytes : List ℕ) (cert : Option (List ℕ)) → AnswersUnits (OkOf units.now) bytes → TellsFor (Plan workers nodes) bytes cert result }
+    ensures told { (bytes : List ℕ) (cert : Option (List ℕ)) → AnswersUnits (OkOf units.now) bytes → TellsFor (Plan workers nodes strong) bytes cert result }
     ensures text { IsWritable result }
 {
     let mut loads = Loads::new(alloc, units)?;
     let lines = lines_of(alloc, units)?;
-    let outcome = solve(rt, alloc, units, workers, nodes, gate)?;
+    let outcome = solve(rt, alloc, units, workers, nodes, strong, gate)?;
     tell_outcome(alloc, units, &mut loads, lines, outcome)
 }
 
@@ -71,15 +72,16 @@ fn tell_plan<T: Threads + Wait + Sync, G: Gate + Sync>(
     alloc: Global,
     workers: usize,
     nodes: u32,
+    strong: bool,
     inputs: Inputs,
     gate: &G,
 ) -> Result<Told, Refusal>
     requires workers { (1 ≤ workers) × (workers ≤ 16) }
     requires nodes { (1 ≤ nodes) × (nodes ≤ 10000000) }
-    ensures told { (bytes : List ℕ) (cert : Option (List ℕ)) → Says bytes cert inputs → TellsFor (Plan workers nodes) bytes cert result }
+    ensures told { (bytes : List ℕ) (cert : Option (List ℕ)) → Says bytes cert inputs → TellsFor (Plan workers nodes strong) bytes cert result }
     ensures text { IsWritable result }
 {
-    tell_plan_of(rt, alloc, workers, nodes, &inputs.units, gate)
+    tell_plan_of(rt, alloc, workers, nodes, strong, &inputs.units, gate)
 }
 
 /// What a search tells of its inputs that goes on with the certificate in them.
@@ -126,7 +128,11 @@ pub fn answer<T: Threads + Wait + Sync, G: Gate + Sync>(
     ensures text { IsWritable result }
 {
     match job {
-        Job::Plan { workers, nodes } => tell_plan(rt, alloc, *workers, *nodes, inputs, gate),
+        Job::Plan {
+            workers,
+            nodes,
+            strong,
+        } => tell_plan(rt, alloc, *workers, *nodes, *strong, inputs, gate),
         Job::Resume { workers, nodes } => tell_resume(rt, alloc, *workers, *nodes, inputs, gate),
         Job::Cost | Job::Check | Job::Frames | Job::Capture | Job::Play | Job::PlanCost => {
             answer_plain(&Together(rt), alloc, job, inputs)

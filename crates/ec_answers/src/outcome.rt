@@ -16,13 +16,13 @@ ghost use Rattle.ec_refusals.specs.Refusals.{out_of_memory};
 
 use crate::told::{File, Told};
 use ec_cert::{Cert, UnitLines};
-use ec_checker::{Rules, level_in};
+use ec_checker::level_in;
 use ec_lines::outcome_answer;
 use ec_loads::Loads;
 use ec_outcome::{Ending, Outcome};
 use ec_refusals::Refusal;
 use ec_units::Units;
-use ec_workers::partial;
+use ec_workers::{partial, rules_by};
 use std::alloc::Global;
 
 /// The level of a search without a proof: every legal plan has a tick that costs at least that many wire bytes. Of one
@@ -39,8 +39,16 @@ fn level_of(loads: &mut Loads, units: &Units, outcome: &Outcome) -> Option<u64>
             best,
             order,
             tree,
+            strong,
             ..
-        } => Some(level_in(loads, units, Rules::Turned, order.as_slice(), tree, best)),
+        } => Some(level_in(
+            loads,
+            units,
+            rules_by(*strong),
+            order.as_slice(),
+            tree,
+            best,
+        )),
     }
 }
 
@@ -61,9 +69,10 @@ fn cert_of(units: &Units, lines: UnitLines, outcome: Outcome, level: Option<u64>
             best,
             order,
             tree,
+            strong,
             ..
         } => match level {
-            Some(level) => partial(units, lines, order, best, tree, level),
+            Some(level) => partial(units, lines, order, best, tree, strong, level),
             None => unreachable!(),
         },
     }
@@ -73,7 +82,16 @@ fn cert_of(units: &Units, lines: UnitLines, outcome: Outcome, level: Option<u64>
 fn ending(outcome: &Outcome, level: Option<u64>) -> Option<Ending>
     ensures { result ≡ ending_of outcome.now level }
 {
-    let (Outcome::Unproved { best, cut, .. }, Some(level)) = (outcome, level) else {
+    let (
+        Outcome::Unproved {
+            best,
+            strong,
+            cut,
+            ..
+        },
+        Some(level),
+    ) = (outcome, level)
+    else {
         return None;
     };
     let best = match best {
@@ -84,6 +102,7 @@ fn ending(outcome: &Outcome, level: Option<u64>) -> Option<Ending>
         best,
         cut: *cut,
         level,
+        strong: *strong,
     })
 }
 

@@ -1,16 +1,16 @@
 //! What comes of going on with the search of a certificate.
 
-ghost use Rattle.std.specs.Prelude.{◌≡◌, ◌≤◌, ◌↔◌, IsTrue, None, IfOk, IfErr, OnOk};
+ghost use Rattle.std.specs.Prelude.{◌≡◌, ◌≤◌, None, IfOk, IfErr, OnOk};
 ghost use Rattle.ec_units.specs.Load.{loads_of};
 ghost use Rattle.ec_loads.specs.Held.{no_places};
 ghost use Rattle.ec_cert.specs.Shapes.{cert_view};
 ghost use Rattle.ec_cert.specs.WellFormed.{IsWellFormed};
 ghost use Rattle.ec_checker.specs.Certified.{IsCertified};
 ghost use Rattle.ec_workers.specs.Answers.{Asked, IsOutcome};
-ghost use Rattle.ec_answers.specs.Planned.{GoesOn, GoesOnFrom, IsBeyondSearch, IsProofBy, IsStopped, IsStoppedFrom};
+ghost use Rattle.ec_answers.specs.Planned.{GoesOn, GoesOnFrom, IsProofBy, IsStopped, IsStoppedFrom};
 
 use ec_cert::Cert;
-use ec_cert_text::{CertFault, read_cert};
+use ec_cert_text::read_cert;
 use ec_checker::{Verdict, check_in, faults_refute};
 use ec_crew::copy_of;
 use ec_loads::Loads;
@@ -47,13 +47,6 @@ fn proof_of(alloc: Global, units: &Units, cert: Cert) -> Result<Outcome, AllocEr
     })
 }
 
-/// Whether a certificate is of version 4 and shows no more than a level: no search goes on by the strong rules.
-fn is_beyond_search(cert: &Cert) -> bool
-    ensures { IsTrue result ↔ IsBeyondSearch (cert_view cert.now) }
-{
-    4 <= cert.version && cert.level.is_some()
-}
-
 /// What comes of going on with a certificate for the units. The loads are those of the units, with no place, and are so again
 /// afterwards.
 fn went_on<T: Threads + Wait + Sync, G: Gate + Sync>(
@@ -74,9 +67,6 @@ fn went_on<T: Threads + Wait + Sync, G: Gate + Sync>(
     ensures ok { IfOk result (GoesOn workers nodes units.now (cert_view cert)) }
     ensures err { IfErr result (IsStopped workers units.now (cert_view cert)) }
 {
-    if is_beyond_search(&cert) {
-        return Err(Refusal::Cert(CertFault::Version));
-    }
     match check_in(loads, units, &cert) {
         Ok(Verdict::AtLeast(_)) => Ok(solve_from(rt, alloc, units, cert, workers, nodes, gate)?),
         Ok(_) => Ok(proof_of(alloc, units, cert)?),

@@ -5,7 +5,7 @@ use Rattle.ec_units.specs.declared.unit.Unit.{Unit as SyncUnit}
 use Rattle.ec_units.specs.Load.{load_of, loads_of}
 use Rattle.ec_units.specs.declared.slave.Place.{Place}
 use Rattle.ec_loads.specs.Held.{Held, no_places}
-use Rattle.ec_loads.specs.Line.{turned_time, Line, line_by}
+use Rattle.ec_loads.specs.Line.{Rules, Line, line_by}
 use Rattle.ec_loads.specs.Shape.{Shape}
 use Rattle.ec_loads.specs.Search.{IsPartialTree, open_count}
 use Rattle.ec_cert.specs.declared.cert.Best.{Best}
@@ -62,16 +62,16 @@ pub order-given : (us : List SyncUnit) (n : ℕ) (held : Held) (order given : Li
 order-given us n held order given is_order held_is is = rw (held_is, is) (rw (length-map us load_of) is_order)
 
 -- what is true of each book is true of one that begins with a tree for these units
-pub kept-given : (us : List SyncUnit) (n : ℕ) (order : List ℕ) (best : Option Best) (given : Shape) (nodes : ℕ)
-    → IsOrder (length us) order → IsBestPlan (loads_of us) n best → IsPartialTree (line_by turned_time (loads_of us) n) (value_of best) given (no_places (loads_of us)) order
+pub kept-given : (us : List SyncUnit) (n : ℕ) (order : List ℕ) (rules : Rules) (best : Option Best) (given : Shape) (nodes : ℕ)
+    → IsOrder (length us) order → IsBestPlan (loads_of us) n best → IsPartialTree (line_by rules (loads_of us) n) (value_of best) given (no_places (loads_of us)) order
     → (held : Held) (pieces : List Piece) (prefixes : List (List Place)) (reports : List Report) (log : List Step) (room : ℕ) (leaves : List Tree) (most : ℕ)
     → held ≡ record { loads = loads_of us; slots = n; places = no_places (loads_of us) }
-    → pieces ≡ replicate (open_count given) Free → prefixes ≡ open_places (line_by turned_time (loads_of us) n) order given [] → reports ≡ [] → log ≡ [] → leaves ≡ [] → length prefixes ≤ most
-    → IsKept held order nodes pieces prefixes reports best 0 0 0 0 log given (value_of best) room leaves most
-kept-given us n order best given nodes is_order is_best tree held pieces prefixes reports log room leaves most held_is pieces_are prefixes_are reports_are log_is none enough =
+    → pieces ≡ replicate (open_count given) Free → prefixes ≡ open_places (line_by rules (loads_of us) n) order given [] → reports ≡ [] → log ≡ [] → leaves ≡ [] → length prefixes ≤ most
+    → IsKept held order rules nodes pieces prefixes reports best 0 0 0 0 log given (value_of best) room leaves most
+kept-given us n order rules best given nodes is_order is_best tree held pieces prefixes reports log room leaves most held_is pieces_are prefixes_are reports_are log_is none enough =
     rw (held_is, pieces_are, prefixes_are, reports_are, log_is) (record {
       for = record { order_is = rw (length-map us load_of) is_order; empty = refl; best_is = is_best };
       counted = counted-given given (value_of best) nodes room;
-      grown = grown-given given (line_by turned_time (loads_of us) n) order (value_of best) tree;
+      grown = grown-given given (line_by rules (loads_of us) n) order (value_of best) tree;
       spare = record { none = none; each = subst (λ (ps : List (List Place)). length ps ≤ most) prefixes_are enough };
     })

@@ -7,7 +7,7 @@ use Rattle.ec_loads.specs.Legal.{IsLegal, IsIllegalBy, IsFirstFull}
 use Rattle.ec_loads.specs.declared.item.Item.{Item}
 use Rattle.ec_loads.specs.declared.plan.Illegal.{Illegal}
 use Rattle.ec_loads.specs.declared.plan.Illegal.TheVariants as illegal
-use Rattle.ec_loads.specs.Line.{turned_time, line_by}
+use Rattle.ec_loads.specs.Line.{line_by}
 use Rattle.ec_loads.specs.Search.{IsAtMost}
 use Rattle.ec_symmetry.specs.Orders.{IsReachedPrefix}
 use Rattle.ec_book.specs.declared.piece.Piece.{Piece}
@@ -38,7 +38,7 @@ HasNothing b = NoneFreeBelow b.pieces (length b.pieces) ⊎ (left_of b ≡ 0)
 pub record IsGiven (old : BookView) (worker most : ℕ) (t : Given) (new : BookView) : Type 0 where
   pub free : slice_get old.pieces t.piece ≡ Some Free
   pub place : slice_get old.prefixes t.piece ≡ Some t.prefix
-  pub reached : IsReachedPrefix (line_by turned_time old.loads old.slots) old.order t.prefix
+  pub reached : IsReachedPrefix (line_by old.rules old.loads old.slots) old.order t.prefix
   pub value : t.value ≡ value_of old.best
   pub grant : t.grant ≡ min most (left_of old)
   pub some : 1 ≤ t.grant

@@ -1,7 +1,7 @@
 -- What a finished book gives.
 use Rattle.std.specs.Prelude.{◌≡◌, ℕ, ◌+◌, ◌≤◌}
 use Rattle.ec_loads.specs.Held.{no_places}
-use Rattle.ec_loads.specs.Line.{turned_time, line_by}
+use Rattle.ec_loads.specs.Line.{line_by}
 use Rattle.ec_loads.specs.Shape.{Shape}
 use Rattle.ec_loads.specs.Search.{IsTree, IsPartialTree, IsAtMost, node_count, open_count}
 use Rattle.ec_cert.specs.Shapes.{shape_of}
@@ -17,7 +17,7 @@ use Rattle.ec_book.specs.Views.{BookView, state_of, opening, given_nodes}
 abbrev pub ShowsPieces : BookView → Shape → Type 0
 ShowsPieces b shape =
     (t : Numbered) × (shape ≡ plain t) × HasPieces t b.pieces (given_nodes b + b.spent)
-    × NumberedTree (StandsAt b.loads b.order b.prefixes) (line_by turned_time b.loads b.slots) (value_of b.best) t (no_places b.loads) b.order
+    × NumberedTree (StandsAt b.loads b.order b.prefixes) (line_by b.rules b.loads b.slots) (value_of b.best) t (no_places b.loads) b.order
 
 -- the tree is the given one with some tree in place of each of its open leaves
 abbrev pub GrowsFrom : Shape → Shape → Type 0
@@ -28,8 +28,8 @@ GrowsFrom given shape = (f : ℕ → Shape) × (shape ≡ draw f (numbered 0 giv
 pub record IsFinishedOf (b : BookView) (f : Finished) : Type 0 where
   pub best : f.best ≡ b.best
   pub legal : IsBestPlan b.loads b.slots f.best
-  pub tree : IsPartialTree (line_by turned_time b.loads b.slots) (value_of b.best) (shape_of f.tree) (no_places b.loads) b.order
-  pub closed : open_count (shape_of f.tree) ≡ 0 → IsTree (line_by turned_time b.loads b.slots) (value_of b.best) (shape_of f.tree) (no_places b.loads) b.order
+  pub tree : IsPartialTree (line_by b.rules b.loads b.slots) (value_of b.best) (shape_of f.tree) (no_places b.loads) b.order
+  pub closed : open_count (shape_of f.tree) ≡ 0 → IsTree (line_by b.rules b.loads b.slots) (value_of b.best) (shape_of f.tree) (no_places b.loads) b.order
   pub pieces : ShowsPieces b (shape_of f.tree)
   pub live : open_count (shape_of f.tree) ≡ live_count b.pieces
   pub spent : f.spent ≡ b.spent

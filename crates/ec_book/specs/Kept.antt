@@ -2,7 +2,7 @@
 use Rattle.std.specs.Prelude.{◌≡◌, ◌≢◌, ℕ, ◌+◌, ◌<◌, ◌≤◌, List, [], Option, Some, length, slice_get, All}
 use Rattle.ec_units.specs.declared.slave.Place.{Place}
 use Rattle.ec_loads.specs.Held.{Held, no_places}
-use Rattle.ec_loads.specs.Line.{turned_time, Line, line_by}
+use Rattle.ec_loads.specs.Line.{Rules, Line, line_by}
 use Rattle.ec_loads.specs.Search.{node_count, open_count}
 use Rattle.ec_loads.specs.Shape.{Shape}
 use Rattle.ec_cert.specs.declared.cert.Best.{Best}
@@ -51,9 +51,9 @@ pub record HasLeaves (leaves : List Tree) (most : ℕ) (prefixes : List (List Pl
   pub none : leaves ≡ []
   pub each : length prefixes ≤ most
 
-pub record IsKept (held : Held) (order : List ℕ) (nodes : ℕ) (pieces : List Piece) (prefixes : List (List Place)) (reports : List Report) (best : Option Best)
+pub record IsKept (held : Held) (order : List ℕ) (rules : Rules) (nodes : ℕ) (pieces : List Piece) (prefixes : List (List Place)) (reports : List Report) (best : Option Best)
     (spent granted taken low : ℕ) (log : List Step) (given : Shape) (given_value : Option ℕ) (room : ℕ) (leaves : List Tree) (most : ℕ) : Type 0 where
   pub for : IsFor held order best
   pub counted : IsCounted (start given given_value) nodes pieces (value_of best) spent granted taken low log room
-  pub grown : IsGrown given (line_by turned_time held.loads held.slots) order pieces prefixes reports (value_of best) spent
+  pub grown : IsGrown given (line_by rules held.loads held.slots) order pieces prefixes reports (value_of best) spent
   pub spare : HasLeaves leaves most prefixes

@@ -9,3 +9,4 @@ pub mod Finishing
 pub mod Laws
 pub mod Books
 pub mod ShapeCode
+pub mod RulesCode

@@ -2,6 +2,7 @@
 use Rattle.std.specs.Prelude.{ℕ, ◌+◌, List, [], ◌∷◌, ◌++◌, length, set, replicate, Option, Some}
 use Rattle.ec_units.specs.declared.slave.Place.{Place}
 use Rattle.ec_units.specs.declared.unit.Load.{Load}
+use Rattle.ec_loads.specs.Line.{Rules}
 use Rattle.ec_loads.specs.Shape.{Shape}
 use Rattle.ec_loads.specs.Search.{node_count}
 use Rattle.ec_cert.specs.declared.cert.Best.{Best}
@@ -12,12 +13,13 @@ use Rattle.ec_book.specs.declared.piece.Piece.{Piece}
 use Rattle.ec_book.specs.declared.piece.Piece.TheVariants.{Free, Taken, Ended}
 use Rattle.ec_book.specs.Steps.{PiecesState, start}
 
--- the units' loads and the slot count, the order of the units, the nodes that may be spent; the pieces by their numbers and the places that lead to each;
+-- the units' loads and the slot count, the order of the units, the rules by which its trees are made, the nodes that may be spent; the pieces by their numbers and the places that lead to each;
 -- the best plan; the nodes spent; what happened; the tree that the search was given, an open leaf where it began afresh, and the value that it was given
 pub record BookView : Type 0 where
   pub loads : List Load
   pub slots : ℕ
   pub order : List ℕ
+  pub rules : Rules
   pub nodes : ℕ
   pub pieces : List Piece
   pub prefixes : List (List Place)
@@ -27,9 +29,9 @@ pub record BookView : Type 0 where
   pub given : Shape
   pub given_value : Option ℕ
 
-abbrev pub book_view : List Load → ℕ → List ℕ → ℕ → List Piece → List (List Place) → Option Best → ℕ → List Step → Shape → Option ℕ → BookView
-book_view loads slots order nodes pieces prefixes best spent log given given_value =
-    record { loads = loads; slots = slots; order = order; nodes = nodes; pieces = pieces; prefixes = prefixes; best = best; spent = spent; log = log; given = given; given_value = given_value }
+abbrev pub book_view : List Load → ℕ → List ℕ → Rules → ℕ → List Piece → List (List Place) → Option Best → ℕ → List Step → Shape → Option ℕ → BookView
+book_view loads slots order rules nodes pieces prefixes best spent log given given_value =
+    record { loads = loads; slots = slots; order = order; rules = rules; nodes = nodes; pieces = pieces; prefixes = prefixes; best = best; spent = spent; log = log; given = given; given_value = given_value }
 
 abbrev pub state_of : BookView → PiecesState
 state_of b = record { pieces = b.pieces; value = value_of b.best; spent = b.spent }

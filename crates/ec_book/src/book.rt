@@ -3,11 +3,12 @@
 ghost use Rattle.std.specs.Prelude.{◌≡◌, ◌≢◌, ℕ, ◌==◌, IsTrue, MatchBool, ◌+◌, ◌<◌, ◌≤◌, ◌^◌, ◌++◌, ◌∷◌, [], IfOk, IfSome, IfErr, OnOk, OnErr, OnSome, IsSome, IfNone, ◌↔◌, MatchOption, None, Some, length, slice_get, replicate, drop, vec_capacity, vec_len};
 ghost use Rattle.ec_units.specs.Load.{loads_of};
 ghost use Rattle.ec_loads.specs.Held.{no_places};
-ghost use Rattle.ec_loads.specs.Line.{turned_time, line_by};
+ghost use Rattle.ec_loads.specs.Line.{line_by};
 ghost use Rattle.ec_loads.specs.Shape.{open_leaf};
 ghost use Rattle.ec_loads.specs.Search.{IsPartialTree, open_count, node_count as node_count_of};
 ghost use Rattle.ec_cert.specs.Shapes.{shape_of};
 ghost use Rattle.ec_symmetry.specs.Orders.{IsOrder, prefix_of};
+ghost use Rattle.ec_symmetry.specs.Ruled.{line_rules};
 ghost use Rattle.ec_book.specs.declared.piece.Piece.TheVariants.{Free};
 ghost use Rattle.ec_book.specs.Steps.{live_one, live_count, taken_count, IsHistory};
 ghost use Rattle.ec_book.specs.Open.{open_places, AreOpened, IsAddedTo};
@@ -33,6 +34,7 @@ use crate::step::{Step, Steps};
 use crate::taken::{Taken, Took};
 use ec_cert::{Best, Cert, Subtree, Tree};
 use ec_loads::{Illegal, Loads, Places, Plan};
+use ec_symmetry::Rules;
 use ec_units::{Load, Place, Units};
 use std::alloc::{AllocError, Global};
 use std::marker::Model;
@@ -48,6 +50,7 @@ use std::marker::Model;
 pub struct Book {
     loads: Loads,
     order: Vec<u8>,
+    rules: Rules,
     nodes: u64,
     pieces: Vec<Piece>,
     prefixes: Vec<Places>,
@@ -67,17 +70,19 @@ impl Model for Book {
     ghost use Rattle.std.specs.Prelude.{vec_capacity};
     ghost use Rattle.std.specs.Coded.{codes};
     ghost use Rattle.ec_cert.specs.Shapes.{shape_of};
+    ghost use Rattle.ec_symmetry.specs.Ruled.{line_rules};
     ghost use Rattle.ec_book.specs.ShapeCode.{shape_code};
+    ghost use Rattle.ec_book.specs.RulesCode.{rules_code};
     ghost use Rattle.ec_book.specs.Views.{BookView, book_view};
     ghost use Rattle.ec_book.specs.Kept.{IsKept};
 
     ghost Value = { BookView };
 
-    ghost coded = { Prim.hlevel (codes, shape_code) };
+    ghost coded = { Prim.hlevel (codes, shape_code, rules_code) };
 
-    ghost view = { λ b. book_view b.loads.loads b.loads.slots b.order.items b.nodes b.pieces.items b.prefixes.items b.best b.spent b.log.items (shape_of b.given) b.given_value };
+    ghost view = { λ b. book_view b.loads.loads b.loads.slots b.order.items (line_rules b.rules) b.nodes b.pieces.items b.prefixes.items b.best b.spent b.log.items (shape_of b.given) b.given_value };
 
-    ghost invariant = { λ b. IsKept b.loads b.order.items b.nodes b.pieces.items b.prefixes.items b.reports.items b.best b.spent b.held b.taken b.low b.log.items (shape_of b.given) b.given_value (vec_capacity b.log) b.leaves.items (vec_capacity b.leaves) };
+    ghost invariant = { λ b. IsKept b.loads b.order.items (line_rules b.rules) b.nodes b.pieces.items b.prefixes.items b.reports.items b.best b.spent b.held b.taken b.low b.log.items (shape_of b.given) b.given_value (vec_capacity b.log) b.leaves.items (vec_capacity b.leaves) };
 }
 
 /// A finished search: the best plan, if one is known, the tree that its reports make of the tree that it was given,
@@ -183,11 +188,17 @@ fn add_free(pieces: &mut Vec<Piece>, count: usize)
 }
 
 impl Book {
-    /// A book for these units and this order of them, where at most so many nodes may be split or closed. Piece 0,
-    /// the empty prefix, is free.
-    pub fn new(alloc: Global, units: &Units, order: &[u8], nodes: u64) -> Result<Book, AllocError>
+    /// A book for these units, this order of them and these rules, where at most so many nodes may be split or closed.
+    /// Piece 0, the empty prefix, is free.
+    pub fn new(
+        alloc: Global,
+        units: &Units,
+        order: &[u8],
+        rules: Rules,
+        nodes: u64,
+    ) -> Result<Book, AllocError>
         requires { IsOrder (length units.now.units) order.now }
-        ensures { IfOk result (λ b. b ≡ book_view (loads_of units.now.units) units.now.slots order.now nodes (Free ∷ []) ([] ∷ []) None 0 [] open_leaf None) }
+        ensures { IfOk result (λ b. b ≡ book_view (loads_of units.now.units) units.now.slots order.now (line_rules rules) nodes (Free ∷ []) ([] ∷ []) None 0 [] open_leaf None) }
     {
         let order = Vec::from_slice(alloc, order)?;
         let mut pieces = Vec::new(alloc);
@@ -199,6 +210,7 @@ impl Book {
         Ok(Book {
             loads,
             order,
+            rules,
             nodes,
             pieces,
             prefixes,
@@ -215,15 +227,21 @@ impl Book {
         })
     }
 
-    /// A book that goes on with the tree of a certificate for these units, where at most so many nodes more may be split
-    /// or closed: its pieces are the open leaves of that tree, in preorder from 0, and its best plan is the
+    /// A book that goes on, by these rules, with the tree of a certificate for these units, where at most so many nodes more
+    /// may be split or closed: its pieces are the open leaves of that tree, in preorder from 0, and its best plan is the
     /// certificate's. Nothing of the certificate is copied.
-    pub fn resume(alloc: Global, units: &Units, cert: Cert, nodes: u64) -> Result<Book, AllocError>
+    pub fn resume(
+        alloc: Global,
+        units: &Units,
+        cert: Cert,
+        rules: Rules,
+        nodes: u64,
+    ) -> Result<Book, AllocError>
         requires order { IsOrder (length units.now.units) cert.order }
         requires best { IsBestPlan (loads_of units.now.units) units.now.slots cert.best }
-        requires tree { IsPartialTree (line_by turned_time (loads_of units.now.units) units.now.slots) (value_of cert.best) (shape_of cert.tree) (no_places (loads_of units.now.units)) cert.order }
-        ensures { IfOk result (λ b. b ≡ book_view (loads_of units.now.units) units.now.slots cert.order nodes (replicate (open_count (shape_of cert.tree)) Free)
-            (open_places (line_by turned_time (loads_of units.now.units) units.now.slots) cert.order (shape_of cert.tree) []) cert.best 0 [] (shape_of cert.tree) (value_of cert.best)) }
+        requires tree { IsPartialTree (line_by (line_rules rules) (loads_of units.now.units) units.now.slots) (value_of cert.best) (shape_of cert.tree) (no_places (loads_of units.now.units)) cert.order }
+        ensures { IfOk result (λ b. b ≡ book_view (loads_of units.now.units) units.now.slots cert.order (line_rules rules) nodes (replicate (open_count (shape_of cert.tree)) Free)
+            (open_places (line_by (line_rules rules) (loads_of units.now.units) units.now.slots) cert.order (shape_of cert.tree) []) cert.best 0 [] (shape_of cert.tree) (value_of cert.best)) }
     {
         let Cert {
             order,
@@ -233,7 +251,7 @@ impl Book {
         } = cert;
         let order = order.into_vec();
         let loads = Loads::new(alloc, units)?;
-        let prefixes = opened_by(alloc, &loads, order.as_slice(), &[], &given)?;
+        let prefixes = opened_by(alloc, &loads, order.as_slice(), rules, &[], &given)?;
         let count = prefixes.len();
         let mut pieces = Vec::with_capacity(alloc, count)?;
         let leaves = Vec::with_capacity(alloc, count)?;
@@ -242,6 +260,7 @@ impl Book {
         Ok(Book {
             loads,
             order,
+            rules,
             nodes,
             pieces,
             prefixes,
@@ -442,15 +461,23 @@ impl Book {
         prefix: &[Place],
         sub: Subtree,
     ) -> Result<(), (BookFault, Subtree)>
-        requires tree { IsPartialTree (line_by turned_time self.old.loads self.old.slots) sub.threshold (shape_of sub.tree) (prefix_of self.old.loads self.old.order prefix.now) (drop (length prefix.now) self.old.order) }
+        requires tree { IsPartialTree (line_by self.old.rules self.old.loads self.old.slots) sub.threshold (shape_of sub.tree) (prefix_of self.old.loads self.old.order prefix.now) (drop (length prefix.now) self.old.order) }
         requires some { 0 < node_count_of (shape_of sub.tree) }
         ensures welcome { OnOk result ((g : ℕ) × IsWelcome self.old.pieces self.old.prefixes (value_of self.old.best) worker piece prefix.now sub.threshold (node_count_of (shape_of sub.tree)) g) }
-        ensures ok { OnOk result (self.new ≡ after_report self.old worker piece (node_count_of (shape_of sub.tree)) (open_places (line_by turned_time self.old.loads self.old.slots) self.old.order (shape_of sub.tree) prefix.now)) }
+        ensures ok { OnOk result (self.new ≡ after_report self.old worker piece (node_count_of (shape_of sub.tree)) (open_places (line_by self.old.rules self.old.loads self.old.slots) self.old.order (shape_of sub.tree) prefix.now)) }
         ensures err { IfErr result (λ e. IsReportFault self.old.pieces self.old.prefixes (value_of self.old.best) worker piece prefix.now sub.threshold (node_count_of (shape_of sub.tree)) e.0
             × (e.1 ≡ sub) × (self.new ≡ self.old)) }
     {
         let alloc = *self.log.allocator();
-        let counted = Counted::of(alloc, &self.loads, self.order.as_slice(), prefix, sub);
+        let rules = self.rules;
+        let counted = Counted::of(
+            alloc,
+            &self.loads,
+            self.order.as_slice(),
+            rules,
+            prefix,
+            sub,
+        );
         match self.report_counted(worker, piece, prefix, counted) {
             Ok(()) => Ok(()),
             Err((fault, counted)) => Err((fault, counted.into_sub())),
@@ -467,12 +494,12 @@ impl Book {
         prefix: &[Place],
         counted: Counted,
     ) -> Result<(), (BookFault, Counted)>
-        requires tree { IsPartialTree (line_by turned_time self.old.loads self.old.slots) counted.sub.threshold (shape_of counted.sub.tree) (prefix_of self.old.loads self.old.order prefix.now) (drop (length prefix.now) self.old.order) }
+        requires tree { IsPartialTree (line_by self.old.rules self.old.loads self.old.slots) counted.sub.threshold (shape_of counted.sub.tree) (prefix_of self.old.loads self.old.order prefix.now) (drop (length prefix.now) self.old.order) }
         requires some { 0 < node_count_of (shape_of counted.sub.tree) }
-        requires opened { AreOpened (line_by turned_time self.old.loads self.old.slots) self.old.order (shape_of counted.sub.tree) prefix.now counted.opened }
+        requires opened { AreOpened (line_by self.old.rules self.old.loads self.old.slots) self.old.order (shape_of counted.sub.tree) prefix.now counted.opened }
         ensures known { OnOk result (IsSome counted.opened) }
         ensures welcome { OnOk result ((g : ℕ) × IsWelcome self.old.pieces self.old.prefixes (value_of self.old.best) worker piece prefix.now counted.sub.threshold (node_count_of (shape_of counted.sub.tree)) g) }
-        ensures ok { OnOk result (self.new ≡ after_report self.old worker piece (node_count_of (shape_of counted.sub.tree)) (open_places (line_by turned_time self.old.loads self.old.slots) self.old.order (shape_of counted.sub.tree) prefix.now)) }
+        ensures ok { OnOk result (self.new ≡ after_report self.old worker piece (node_count_of (shape_of counted.sub.tree)) (open_places (line_by self.old.rules self.old.loads self.old.slots) self.old.order (shape_of counted.sub.tree) prefix.now)) }
         ensures err { IfErr result (λ e. IsReportFault self.old.pieces self.old.prefixes (value_of self.old.best) worker piece prefix.now counted.sub.threshold (node_count_of (shape_of counted.sub.tree)) e.0
             × (e.1.sub ≡ counted.sub) × (self.new ≡ self.old)) }
     {
@@ -551,6 +578,13 @@ impl Book {
         ensures { result.now ≡ self.now.order }
     {
         self.order.as_slice()
+    }
+
+    /// The rules by which its trees are made.
+    pub fn rules(&self) -> Rules
+        ensures { line_rules result ≡ self.now.rules }
+    {
+        self.rules
     }
 
     /// The log: every step so far.

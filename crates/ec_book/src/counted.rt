@@ -1,16 +1,18 @@
 //! Subtrees that are counted before they are reported.
 
 ghost use Rattle.std.specs.Prelude.{◌≡◌, min, length, None};
-ghost use Rattle.ec_loads.specs.Line.{turned_time, line_of};
+ghost use Rattle.ec_loads.specs.Line.{line_of};
 ghost use Rattle.ec_loads.specs.Search.{node_count as node_count_of};
 ghost use Rattle.ec_cert.specs.Shapes.{shape_of};
 ghost use Rattle.ec_symmetry.specs.Orders.{IsOrder};
+ghost use Rattle.ec_symmetry.specs.Ruled.{line_rules};
 ghost use Rattle.ec_book.specs.Open.{AreOpened};
 
 use crate::judge::node_count;
 use crate::open::opened_by;
 use ec_cert::Subtree;
 use ec_loads::{Loads, Places};
+use ec_symmetry::Rules;
 use ec_units::Place;
 use std::alloc::Global;
 
@@ -26,16 +28,23 @@ pub struct Counted {
 }
 
 impl Counted {
-    /// Counts a subtree to which `prefix` leads. Its time and memory are in proportion to the subtree and what it leaves
+    /// Counts a subtree by these rules, to which `prefix` leads. Its time and memory are in proportion to the subtree and what it leaves
     /// open; where memory is refused, the places aren't known.
-    pub fn of(alloc: Global, loads: &Loads, order: &[u8], prefix: &[Place], sub: Subtree) -> Counted
+    pub fn of(
+        alloc: Global,
+        loads: &Loads,
+        order: &[u8],
+        rules: Rules,
+        prefix: &[Place],
+        sub: Subtree,
+    ) -> Counted
         requires order { IsOrder (length loads.now.loads) order.now }
         ensures sub { result.sub ≡ sub }
-        ensures opened { AreOpened (line_of turned_time loads.now) order.now (shape_of sub.tree) prefix.now result.opened }
+        ensures opened { AreOpened (line_of (line_rules rules) loads.now) order.now (shape_of sub.tree) prefix.now result.opened }
     {
         let nodes = node_count(&sub.tree);
         let opened = if prefix.len() <= order.len() {
-            opened_by(alloc, loads, order, prefix, &sub.tree).ok()
+            opened_by(alloc, loads, order, rules, prefix, &sub.tree).ok()
         } else {
             None
         };

@@ -1,23 +1,25 @@
 //! The prefixes of a tree's open leaves.
 
 ghost use Rattle.std.specs.Prelude.{◌≡◌, ℕ, ◌≤◌, ◌++◌, length, OnOk, IfOk};
-ghost use Rattle.ec_loads.specs.Line.{turned_time, line_of};
+ghost use Rattle.ec_loads.specs.Line.{line_of};
 ghost use Rattle.ec_cert.specs.Shapes.{shape_of};
 ghost use Rattle.ec_symmetry.specs.Orders.{IsOrder};
+ghost use Rattle.ec_symmetry.specs.Ruled.{line_rules};
 ghost use Rattle.ec_book.specs.Open.{open_places};
 
 use crate::tree::is_closed_leaf;
 use ec_cert::Tree;
 use ec_loads::{Loads, Places};
-use ec_symmetry::children_after;
+use ec_symmetry::{Rules, next_children};
 use ec_units::Place;
 use std::alloc::{AllocError, Global};
 
-/// Adds the places that lead to each open leaf of a tree, in preorder, where `path` leads to the tree. The path is
+/// Adds the places that lead to each open leaf of a tree by these rules, in preorder, where `path` leads to the tree. The path is
 /// as before afterwards. Each node is visited once, and no recursion is deeper than the order is long.
 pub(crate) fn add_open(
     loads: &Loads,
     order: &[u8],
+    rules: Rules,
     tree: &Tree,
     path: &mut Vec<Place>,
     out: &mut Vec<Places>,
@@ -25,7 +27,7 @@ pub(crate) fn add_open(
     requires order { IsOrder (length loads.now.loads) order.now }
     requires long { length path.old.items ≤ length order.now }
     ensures path { OnOk result (path.new.items ≡ path.old.items) }
-    ensures out { OnOk result (out.new.items ≡ out.old.items ++ open_places (line_of turned_time loads.now) order.now (shape_of tree.now) path.old.items) }
+    ensures out { OnOk result (out.new.items ≡ out.old.items ++ open_places (line_of (line_rules rules) loads.now) order.now (shape_of tree.now) path.old.items) }
 {
     match tree {
         Tree::Split(trees) => {
@@ -34,14 +36,14 @@ pub(crate) fn add_open(
                 return Ok(());
             }
             let unit = usize::from(order[path.len()]);
-            let mut places = children_after(loads, order, path.as_slice(), true);
+            let mut places = next_children(loads, order, path.as_slice(), rules);
             for i in 0..trees.len() {
                 let Some(place) = places.next() else {
                     return Ok(());
                 };
                 if !is_closed_leaf(&trees[i]) {
                     path.push(place)?;
-                    add_open(loads, order, &trees[i], path, out)?;
+                    add_open(loads, order, rules, &trees[i], path, out)?;
                     path.pop();
                 }
             }
@@ -56,20 +58,21 @@ pub(crate) fn add_open(
     }
 }
 
-/// The places that lead to each open leaf of a tree, in preorder, where `prefix` leads to the tree.
+/// The places that lead to each open leaf of a tree by these rules, in preorder, where `prefix` leads to the tree.
 pub(crate) fn opened_by(
     alloc: Global,
     loads: &Loads,
     order: &[u8],
+    rules: Rules,
     prefix: &[Place],
     tree: &Tree,
 ) -> Result<Vec<Places>, AllocError>
     requires order { IsOrder (length loads.now.loads) order.now }
     requires long { length prefix.now ≤ length order.now }
-    ensures { IfOk result (λ v. v.items ≡ open_places (line_of turned_time loads.now) order.now (shape_of tree.now) prefix.now) }
+    ensures { IfOk result (λ v. v.items ≡ open_places (line_of (line_rules rules) loads.now) order.now (shape_of tree.now) prefix.now) }
 {
     let mut path = Vec::from_slice(alloc, prefix)?;
     let mut out = Vec::new(alloc);
-    add_open(loads, order, tree, &mut path, &mut out)?;
+    add_open(loads, order, rules, tree, &mut path, &mut out)?;
     Ok(out)
 }

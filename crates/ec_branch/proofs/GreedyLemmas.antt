@@ -16,7 +16,7 @@ use Rattle.ec_loads.specs.Search.{Prefix, children}
 use Rattle.ec_loads.proofs.CostLemmas.{one_busiest}
 use Rattle.ec_symmetry.specs.Reached.{In}
 use Rattle.ec_symmetry.proofs.InLemmas.{children-In}
-use Rattle.ec_branch.specs.declared.first_plan.Choice.{Choice}
+use Rattle.ec_branch.specs.declared.greedy_plan.Choice.{Choice}
 use Rattle.ec_branch.specs.Greedy.{items_at, IsTooFull, FitsAt, IsBestChild, IsGreedyTo, IsStuck}
 use Rattle.ec_branch.specs.Walks.{IsReadyFor}
 use Rattle.ec_bounds.proofs.HeldLemmas.{with_place}

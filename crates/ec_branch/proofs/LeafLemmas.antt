@@ -1,7 +1,8 @@
 -- Leaves that close a prefix at a value, and at each value below it.
--- `first_below` is the least tick of what repeats. `match_map` says an answer of `MatchOption` otherwise. `shape_of
+-- `first_below` is the least tick of what repeats. `match_map` says an answer of `MatchOption` otherwise, `some_at` and `ok_at` one of
+-- `IfSome` and `IfOk`. A leaf of the kinds that all rules have closes a prefix by any of them. `shape_of
 -- (TickLeaf t)` doesn't unfold: use `shape_of-TickLeaf` and its like, by `search (rules, the_lemmas)`.
-use Rattle.std.proofs.Common.{◌≡◌, ℕ, ◌%◌, ◌<◌, ◌≤◌, inl, inr, All, List, length, Option, Some, None, MatchOption, refl, sym, ◌∙◌, subst, arith, rules}
+use Rattle.std.proofs.Common.{◌≡◌, ℕ, ◌%◌, ◌<◌, ◌≤◌, inl, inr, All, List, length, Option, Some, None, Result, Ok, Err, IfOk, IfSome, MatchOption, refl, sym, ◌∙◌, subst, arith, rules}
 use Rattle.std.proofs.lemmas.Bool.{cases_lt}
 use Rattle.std.proofs.lemmas.Nat.{mod_below}
 use Rattle.ec_hyper.specs.Lcm.{lcm_of}
@@ -27,6 +28,16 @@ use Rattle.ec_branch.specs.Walks.{IsClosing}
 pub match_map : {A : Type 0} {P Q : Type 0} {F G : A → Type 0} (r : Option A) → (P → Q) → ((a : A) → F a → G a) → MatchOption r P F → MatchOption r Q G
 match_map None none some h = none h
 match_map (Some a) none some h = some a h
+
+-- the same of an answer of `IfSome`
+pub some_at : {A : Type 0} {F G : A → Type 0} (r : Option A) → ((a : A) → F a → G a) → IfSome r F → IfSome r G
+some_at None some h = h
+some_at (Some a) some h = some a h
+
+-- the same of an answer of `IfOk`
+pub ok_at : {A E : Type 0} {F G : A → Type 0} (r : Result A E) → ((a : A) → F a → G a) → IfOk r F → IfOk r G
+ok_at (Ok a) some h = some a h
+ok_at (Err e) some h = h
 
 -- what an answer that gives nothing says
 pub at_none : {A : Type 0} {P : Type 0} (F : A → Type 0) (r : Option A) → ((a : A) → r ≡ Some a → ⊥) → MatchOption r P F → P

@@ -1,7 +1,12 @@
+pub mod FirstLemmas
 pub mod GreedyLemmas
 pub mod KnownLemmas
 pub mod LeafLemmas
+pub mod OneGreedyLemmas
 pub mod OrderLemmas
 pub mod ReadyLemmas
+pub mod RoomLeafLemmas
 pub mod StackLemmas
+pub mod StrongLemmas
+pub mod TurnLemmas
 pub mod WalkLemmas

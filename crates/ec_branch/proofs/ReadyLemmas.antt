@@ -14,7 +14,7 @@ use Rattle.ec_units.specs.Load.{load_of, loads_of}
 use Rattle.ec_loads.specs.declared.item.Item.{Item}
 use Rattle.ec_loads.specs.Cost.{items, item}
 use Rattle.ec_loads.specs.Held.{Held, no_places}
-use Rattle.ec_loads.specs.Line.{turned_time, Line, line_by, line_of}
+use Rattle.ec_loads.specs.Line.{Rules, Line, line_by, line_of}
 use Rattle.ec_loads.specs.Search.{Prefix, nobody}
 use Rattle.ec_loads.specs.Shape.{Shape}
 use Rattle.ec_symmetry.specs.Reached.{IsInRange}
@@ -121,21 +121,21 @@ held_prefix loads n order prefix first held at made = made ∙ ap (λ (w : Held)
 pub later_units : (order : List ℕ) (k : ℕ) → take (length order - k) (drop k order) ≡ drop k order
 later_units order k = take_all (length order - k) (drop k order) (omega (arith, length-drop k order))
 
-pub reached_ready : (loads : List Load) (n : ℕ) (order : List ℕ) (prefix : List Place) (held : Held) (later : List ℕ) → IsOrder (length loads) order → IsReachedPrefix (line_by turned_time loads n) order prefix → held ≡ record { loads = loads; slots = n; places = prefix_of loads order prefix } → later ≡ drop (length prefix) order → IsReadyFor held.loads held.slots held.places later
-reached_ready loads n order prefix held later is reached at rest =
+pub reached_ready : (rules : Rules) (loads : List Load) (n : ℕ) (order : List ℕ) (prefix : List Place) (held : Held) (later : List ℕ) → IsOrder (length loads) order → IsReachedPrefix (line_by rules loads n) order prefix → held ≡ record { loads = loads; slots = n; places = prefix_of loads order prefix } → later ≡ drop (length prefix) order → IsReadyFor held.loads held.slots held.places later
+reached_ready rules loads n order prefix held later is reached at rest =
     subst (λ (w : Held). IsReadyFor w.loads w.slots w.places later) (sym at)
     (subst (IsReadyFor loads n (prefix_of loads order prefix)) (sym rest)
-    (prefix_ready (line_by turned_time loads n) (no_places loads) order prefix (order_ready loads n order is) reached))
+    (prefix_ready (line_by rules loads n) (no_places loads) order prefix (order_ready loads n order is) reached))
 
 -- what the walk below the prefix gave
 pub explored :
-    (loads : List Load) (n floor : ℕ) (order : List ℕ) (prefix : List Place) (held : Held) (later : List ℕ) (was : Option ℕ) (had : ℕ) (now : Option ℕ) (left : ℕ) (halted : Bool) (tree : Shape) →
+    (rules : Rules) (loads : List Load) (n floor : ℕ) (order : List ℕ) (prefix : List Place) (held : Held) (later : List ℕ) (was : Option ℕ) (had : ℕ) (now : Option ℕ) (left : ℕ) (halted : Bool) (tree : Shape) →
     held ≡ record { loads = loads; slots = n; places = prefix_of loads order prefix } → later ≡ drop (length prefix) order →
-    IsWalked (line_of turned_time held) floor held.places later was had now left halted tree →
-    IsWalked (line_by turned_time loads n) floor (prefix_of loads order prefix) (drop (length prefix) order) was had now left halted tree
-explored loads n floor order prefix held later was had now left halted tree at rest walked =
-    subst (λ w. IsWalked (line_by turned_time loads n) floor (prefix_of loads order prefix) w was had now left halted tree) rest
-    (subst (λ (w : Held). IsWalked (line_of turned_time w) floor w.places later was had now left halted tree) at walked)
+    IsWalked (line_of rules held) floor held.places later was had now left halted tree →
+    IsWalked (line_by rules loads n) floor (prefix_of loads order prefix) (drop (length prefix) order) was had now left halted tree
+explored rules loads n floor order prefix held later was had now left halted tree at rest walked =
+    subst (λ w. IsWalked (line_by rules loads n) floor (prefix_of loads order prefix) w was had now left halted tree) rest
+    (subst (λ (w : Held). IsWalked (line_of rules w) floor w.places later was had now left halted tree) at walked)
 
 -- one more place of the prefix
 pub with_more : (ps : Prefix) (order : List ℕ) (places : List Place) (i u d : ℕ) (e : Place) → i < length order → i < length places → u ≡ get_or order i d → with_places ps (drop i order) (drop i places) ≡ with_places (set ps u (Some (get_or places i e))) (drop (i + 1) order) (drop (i + 1) places)
@@ -180,17 +180,17 @@ still_below first held walked order prefix is none placed same =
 
 -- no unit has a place again
 pub back_again :
-    (first held walked last : Held) (order : List ℕ) (prefix : List Place) →
-    IsOrder (length first.loads) order → IsReachedPrefix (line_of turned_time first) order prefix → first.places ≡ no_places first.loads →
+    (rules : Rules) (first held walked last : Held) (order : List ℕ) (prefix : List Place) →
+    IsOrder (length first.loads) order → IsReachedPrefix (line_of rules first) order prefix → first.places ≡ no_places first.loads →
     held ≡ record { loads = first.loads; slots = first.slots; places = with_places first.places order prefix } → walked ≡ held →
-    ((before : Prefix) → IsReadyFor walked.loads walked.slots before order → AreChildren (line_of turned_time walked) before order prefix → walked.places ≡ with_places before order prefix
+    ((ruled : Rules) (before : Prefix) → IsReadyFor walked.loads walked.slots before order → AreChildren (line_of ruled walked) before order prefix → walked.places ≡ with_places before order prefix
     → last ≡ record { loads = walked.loads; slots = walked.slots; places = before }) →
     last ≡ first
-back_again first held walked last order prefix is reached none placed same back =
+back_again rules first held walked last order prefix is reached none placed same back =
     let whole : walked ≡ record { loads = first.loads; slots = first.slots; places = prefix_of first.loads order prefix } =
     same ∙ placed ∙ (λ j. record { loads = first.loads; slots = first.slots; places = with_places (none j) order prefix }) in
-    back (no_places first.loads)
+    back rules (no_places first.loads)
     (subst (λ (w : Held). IsReadyFor w.loads w.slots (no_places first.loads) order) (sym whole) (order_ready first.loads first.slots order is))
-    (subst (λ (w : Held). AreChildren (line_of turned_time w) (no_places first.loads) order prefix) (sym whole) reached)
+    (subst (λ (w : Held). AreChildren (line_of rules w) (no_places first.loads) order prefix) (sym whole) reached)
     (ap (λ (w : Held). w.places) whole)
     ∙ (λ j. record { loads = (ap (λ (w : Held). w.loads) whole) j; slots = (ap (λ (w : Held). w.slots) whole) j; places = (sym none) j })

@@ -9,7 +9,7 @@ use Rattle.std.proofs.lemmas.List.{append_assoc, append-nil, reverse-append, len
 use Rattle.std.proofs.lemmas.Option.{slice_get_within}
 use Rattle.ec_units.specs.declared.slave.Place.{Place}
 use Rattle.ec_loads.specs.Held.{Held}
-use Rattle.ec_loads.specs.Line.{turned_time, Line, line_of}
+use Rattle.ec_loads.specs.Line.{Rules, Line, line_of}
 use Rattle.ec_loads.specs.Search.{Prefix, children, nobody, IsAtMost}
 use Rattle.ec_loads.specs.Shape.{Shape, open_leaf}
 use Rattle.ec_bounds.specs.Left.{Left, IsRestOf}
@@ -231,44 +231,44 @@ stack_later task (l ∷ ls) ps later now (before, from, top, stack) =
     (omega (arith, count), drop-suc task.order (length ls) l.unit later deep.1)
 
 -- the units that a walk goes on with
-pub on_later : (task : Task) (ls : Vec Level Global) (held : Held) (left : Left) (now : State) (turn : Turn) (order : List ℕ) (k : ℕ) → (on : IsOn task ls held left now turn) → order ≡ task.order → k ≡ length ls.items
+pub on_later : (rules : Rules) (task : Task) (ls : Vec Level Global) (held : Held) (left : Left) (now : State) (turn : Turn) (order : List ℕ) (k : ℕ) → (on : IsOn rules task ls held left now turn) → order ≡ task.order → k ≡ length ls.items
     → (k ≤ length order) × (take (length order - k) (drop k order) ≡ on.later)
-on_later task ls held left now turn order k on same is =
+on_later rules task ls held left now turn order k on same is =
     let at = stack_later task (reverse ls.items) held.places on.later on.from on.stack in
     let long = length-reverse ls.items in
     let count = at.0 in
     let all = ap length same in
     (omega (arith, count, long, all, is), take_all (length order - k) (drop k order) (omega (arith, length-drop k order)) ∙ (λ j. drop ((is ∙ sym long) j) (same j)) ∙ at.1)
 
-line_loads : (held : Held) (line : Line) → line_of turned_time held ≡ line → held.loads ≡ line.loads
-line_loads held line e = ap (λ (l : Line). l.loads) e
+line_loads : (rules : Rules) (held : Held) (line : Line) → line_of rules held ≡ line → held.loads ≡ line.loads
+line_loads rules held line e = ap (λ (l : Line). l.loads) e
 
-line_slots : (held : Held) (line : Line) → line_of turned_time held ≡ line → held.slots ≡ line.slots
-line_slots held line e = ap (λ (l : Line). l.slots) e
+line_slots : (rules : Rules) (held : Held) (line : Line) → line_of rules held ≡ line → held.slots ≡ line.slots
+line_slots rules held line e = ap (λ (l : Line). l.slots) e
 
 -- one unit more or less has a place
-pub line_after : (held placed : Held) (u : ℕ) (o : Option Place) (line : Line) → line_of turned_time held ≡ line → placed ≡ with_place held u o → line_of turned_time placed ≡ line
-line_after held placed u o line e made = ap (λ (h : Held). line_of turned_time h) made ∙ e
+pub line_after : (rules : Rules) (held placed : Held) (u : ℕ) (o : Option Place) (line : Line) → line_of rules held ≡ line → placed ≡ with_place held u o → line_of rules placed ≡ line
+line_after rules held placed u o line e made = ap (λ (h : Held). line_of rules h) made ∙ e
 
 -- a walk that is ready at a node
-pub on_ready : (task : Task) (ls : Vec Level Global) (held : Held) (left : Left) (now : State) (turn : Turn) (order : List ℕ) → (on : IsOn task ls held left now turn) → order ≡ on.later → IsReadyFor held.loads held.slots held.places order
-on_ready task ls held left now turn order on same =
+pub on_ready : (rules : Rules) (task : Task) (ls : Vec Level Global) (held : Held) (left : Left) (now : State) (turn : Turn) (order : List ℕ) → (on : IsOn rules task ls held left now turn) → order ≡ on.later → IsReadyFor held.loads held.slots held.places order
+on_ready rules task ls held left now turn order on same =
     subst (λ o. IsReadyFor held.loads held.slots held.places o) (sym same)
-    (subst (λ n. IsReadyFor held.loads n held.places on.later) (sym (line_slots held task.line on.line))
-    (subst (λ l. IsReadyFor l task.line.slots held.places on.later) (sym (line_loads held task.line on.line)) on.ready))
+    (subst (λ n. IsReadyFor held.loads n held.places on.later) (sym (line_slots rules held task.line on.line))
+    (subst (λ l. IsReadyFor l task.line.slots held.places on.later) (sym (line_loads rules held task.line on.line)) on.ready))
 
-pub for_loads : (task : Task) (ls : Vec Level Global) (held : Held) (left : Left) (now : State) (turn : Turn) (order : List ℕ) (frame : Frame) → IsOn task ls held left now turn → IsFor task order frame → frame.loads ≡ held.loads
-for_loads task ls held left now turn order frame on is = is.loads ∙ sym (line_loads held task.line on.line)
+pub for_loads : (rules : Rules) (task : Task) (ls : Vec Level Global) (held : Held) (left : Left) (now : State) (turn : Turn) (order : List ℕ) (frame : Frame) → IsOn rules task ls held left now turn → IsFor task order frame → frame.loads ≡ held.loads
+for_loads rules task ls held left now turn order frame on is = is.loads ∙ sym (line_loads rules held task.line on.line)
 
-pub for_slots : (task : Task) (ls : Vec Level Global) (held : Held) (left : Left) (now : State) (turn : Turn) (order : List ℕ) (frame : Frame) → IsOn task ls held left now turn → IsFor task order frame → frame.slots ≡ held.slots
-for_slots task ls held left now turn order frame on is = is.slots ∙ sym (line_slots held task.line on.line)
+pub for_slots : (rules : Rules) (task : Task) (ls : Vec Level Global) (held : Held) (left : Left) (now : State) (turn : Turn) (order : List ℕ) (frame : Frame) → IsOn rules task ls held left now turn → IsFor task order frame → frame.slots ≡ held.slots
+for_slots rules task ls held left now turn order frame on is = is.slots ∙ sym (line_slots rules held task.line on.line)
 
 -- a node is closed, or stays open
 pub on_leaf :
-    (task : Task) (ls : Vec Level Global) (held : Held) (left : Left) (old now : State) (order : List ℕ) (floor : ℕ) (tree : Tree) →
-    (on : IsOn task ls held left old Enter) → order ≡ on.later → floor ≡ task.floor →
-    IsExplored (line_of turned_time held) floor held.places order on.from now (shape_of tree) → IsOn task ls held left now (Up tree)
-on_leaf task ls held left old now order floor tree on same floor_is explored = record {
+    (rules : Rules) (task : Task) (ls : Vec Level Global) (held : Held) (left : Left) (old now : State) (order : List ℕ) (floor : ℕ) (tree : Tree) →
+    (on : IsOn rules task ls held left old Enter) → order ≡ on.later → floor ≡ task.floor →
+    IsExplored (line_of rules held) floor held.places order on.from now (shape_of tree) → IsOn rules task ls held left now (Up tree)
+on_leaf rules task ls held left old now order floor tree on same floor_is explored = record {
   line = on.line;
   rest = on.rest;
   later = on.later;
@@ -283,15 +283,15 @@ on_leaf task ls held left old now order floor tree on same floor_is explored = r
 }
 
 -- the guide was asked for it
-pub on_asked : (task : Task) (ls : Vec Level Global) (held : Held) (left : Left) (old : State) (floor : ℕ) → (on : IsOn task ls held left old Enter) → floor ≡ task.floor → IsAsked floor on.from old
-on_asked task ls held left old floor on floor_is = subst (λ f. IsAsked f on.from old) (sym floor_is) on.entered
+pub on_asked : (rules : Rules) (task : Task) (ls : Vec Level Global) (held : Held) (left : Left) (old : State) (floor : ℕ) → (on : IsOn rules task ls held left old Enter) → floor ≡ task.floor → IsAsked floor on.from old
+on_asked rules task ls held left old floor on floor_is = subst (λ f. IsAsked f on.from old) (sym floor_is) on.entered
 
 -- a node is split
 pub on_split :
-    (task : Task) (ls : Vec Level Global) (held : Held) (left : Left) (old now : State) (order : List ℕ) (floor : ℕ) (level : Level) →
-    (on : IsOn task ls held left old Enter) → order ≡ on.later → floor ≡ task.floor →
-    IsOpened (line_of turned_time held) floor held.places order on.from now level → IsPaused task ls held left now level
-on_split task ls held left old now order floor level on same floor_is opened =
+    (rules : Rules) (task : Task) (ls : Vec Level Global) (held : Held) (left : Left) (old now : State) (order : List ℕ) (floor : ℕ) (level : Level) →
+    (on : IsOn rules task ls held left old Enter) → order ≡ on.later → floor ≡ task.floor →
+    IsOpened (line_of rules held) floor held.places order on.from now level → IsPaused rules task ls held left now level
+on_split rules task ls held left old now order floor level on same floor_is opened =
     let next : on.later ≡ level.unit ∷ opened.later = sym same ∙ opened.next in
     let long = ap length next in
     let none = ap length opened.none in record {
@@ -312,17 +312,17 @@ on_split task ls held left old now order floor level on same floor_is opened =
 
 -- between two children, with the line of the loads and the guide's floor
 pub paused_among :
-    (task : Task) (ls : Vec Level Global) (held : Held) (left : Left) (now : State) (level : Level) (floor : ℕ) → (paused : IsPaused task ls held left now level) → floor ≡ task.floor →
-    IsAmong (line_of turned_time held) floor held.places paused.later paused.done paused.from now level
-paused_among task ls held left now level floor paused floor_is =
+    (rules : Rules) (task : Task) (ls : Vec Level Global) (held : Held) (left : Left) (now : State) (level : Level) (floor : ℕ) → (paused : IsPaused rules task ls held left now level) → floor ≡ task.floor →
+    IsAmong (line_of rules held) floor held.places paused.later paused.done paused.from now level
+paused_among rules task ls held left now level floor paused floor_is =
     subst (λ l. IsAmong l floor held.places paused.later paused.done paused.from now level) (sym paused.line)
     (subst (λ f. IsAmong task.line f held.places paused.later paused.done paused.from now level) (sym floor_is)
     (record { free = paused.ready.0; kids = paused.kids; under = paused.under; trees = paused.trees }))
 
 pub among_paused :
-    (task : Task) (ls : Vec Level Global) (held : Held) (left : Left) (old now : State) (level level2 : Level) (floor : ℕ) (done : List Place) → (paused : IsPaused task ls held left old level) →
-    floor ≡ task.floor → level2.unit ≡ level.unit → IsAmong (line_of turned_time held) floor held.places paused.later done paused.from now level2 → IsPaused task ls held left now level2
-among_paused task ls held left old now level level2 floor done paused floor_is unit_is among =
+    (rules : Rules) (task : Task) (ls : Vec Level Global) (held : Held) (left : Left) (old now : State) (level level2 : Level) (floor : ℕ) (done : List Place) → (paused : IsPaused rules task ls held left old level) →
+    floor ≡ task.floor → level2.unit ≡ level.unit → IsAmong (line_of rules held) floor held.places paused.later done paused.from now level2 → IsPaused rules task ls held left now level2
+among_paused rules task ls held left old now level level2 floor done paused floor_is unit_is among =
     let at =
     subst (λ f. IsAmong task.line f held.places paused.later done paused.from now level2) floor_is
     (subst (λ l. IsAmong l floor held.places paused.later done paused.from now level2) paused.line among) in
@@ -342,11 +342,11 @@ among_paused task ls held left old now level level2 floor done paused floor_is u
 
 -- no child is left to be explored
 pub paused_up :
-    (task : Task) (ls : Vec Level Global) (held : Held) (left : Left) (now : State) (level : Level) (b : Box (Vec Tree Global) Global) →
-    (paused : IsPaused task ls held left now level) →
+    (rules : Rules) (task : Task) (ls : Vec Level Global) (held : Held) (left : Left) (now : State) (level : Level) (b : Box (Vec Tree Global) Global) →
+    (paused : IsPaused rules task ls held left now level) →
     IsUnderWay task.line task.floor held.places level.unit paused.later (children task.line held.places level.unit) paused.from now b.value.items →
-    IsOn task ls held left now (Up (Split b))
-paused_up task ls held left now level b paused under = record {
+    IsOn rules task ls held left now (Up (Split b))
+paused_up rules task ls held left now level b paused under = record {
   line = paused.line;
   rest = paused.rest;
   later = level.unit ∷ paused.later;
@@ -358,12 +358,12 @@ paused_up task ls held left now level b paused under = record {
 }
 
 pub paused_open :
-    (task : Task) (ls : Vec Level Global) (held : Held) (left : Left) (now : State) (level : Level) (b : Box (Vec Tree Global) Global) →
-    IsPaused task ls held left now level → (length level.places ≡ 0) ⊎ IsSpent now → b.value.items ≡ level.trees.items ++ replicate (length level.places) OpenLeaf →
-    IsOn task ls held left now (Up (Split b))
-paused_open task ls held left now level b paused why made =
+    (rules : Rules) (task : Task) (ls : Vec Level Global) (held : Held) (left : Left) (now : State) (level : Level) (b : Box (Vec Tree Global) Global) →
+    IsPaused rules task ls held left now level → (length level.places ≡ 0) ⊎ IsSpent now → b.value.items ≡ level.trees.items ++ replicate (length level.places) OpenLeaf →
+    IsOn rules task ls held left now (Up (Split b))
+paused_open rules task ls held left now level b paused why made =
     let under = under_open task.line task.floor held.places level.unit paused.later paused.done level.places paused.from now level.trees.items why paused.under in
-    paused_up task ls held left now level b paused
+    paused_up rules task ls held left now level b paused
     (subst (λ ts. IsUnderWay task.line task.floor held.places level.unit paused.later (children task.line held.places level.unit) paused.from now ts) (sym made)
     (subst (λ k. IsUnderWay task.line task.floor held.places level.unit paused.later k paused.from now (level.trees.items ++ replicate (length level.places) OpenLeaf)) paused.kids under))
 
@@ -373,12 +373,12 @@ length-last (y ∷ xs) x = let rest = length-last xs x in omega (arith, rest)
 
 -- the next child gets its place
 pub paused_next :
-    (task : Task) (ls ls2 : Vec Level Global) (held held2 : Held) (left left2 : Left) (now asked : State) (level : Level) (p : Place) (places : List Place) →
-    IsPaused task ls held left now level → IsAsked task.floor now asked → level.places ≡ p ∷ places →
+    (rules : Rules) (task : Task) (ls ls2 : Vec Level Global) (held held2 : Held) (left left2 : Left) (now asked : State) (level : Level) (p : Place) (places : List Place) →
+    IsPaused rules task ls held left now level → IsAsked task.floor now asked → level.places ≡ p ∷ places →
     ls2.items ≡ ls.items ++ record { unit = level.unit; places = places; trees = level.trees; room = level.room } ∷ [] → vec_capacity ls2 ≡ vec_capacity ls →
     held2 ≡ with_place held level.unit (Some p) → left2 ≡ with_flag left level.unit false →
-    IsOn task ls2 held2 left2 asked Enter
-paused_next task ls ls2 held held2 left left2 now asked level p places paused entered steps pushed same made flagged =
+    IsOn rules task ls2 held2 left2 asked Enter
+paused_next rules task ls ls2 held held2 left left2 now asked level p places paused entered steps pushed same made flagged =
     let u = level.unit in
     let level2 : Level = record { unit = level.unit; places = places; trees = level.trees; room = level.room } in
     let kids : paused.done ++ p ∷ places ≡ children task.line held.places u = ap (λ w. paused.done ++ w) (sym steps) ∙ paused.kids in
@@ -398,7 +398,7 @@ paused_next task ls ls2 held held2 left left2 now asked level p places paused en
       room = omega (arith, trees, fewer);
     } in
     record {
-      line = line_after held held2 u (Some p) task.line paused.line made;
+      line = line_after rules held held2 u (Some p) task.line paused.line made;
       rest = rest_follows held held2 left left2 u (Some p) paused.rest made flagged;
       later = paused.later;
       ready = subst (λ q. IsReadyFor task.line.loads task.line.slots q paused.later) (sym at) (paused.ready.1 p range.0 range.2);
@@ -410,16 +410,16 @@ paused_next task ls ls2 held held2 left left2 now asked level p places paused en
 
 -- the place of the innermost level is taken back
 pub taken_back :
-    (task : Task) (ls : List Level) (level : Level) (held held2 : Held) (left left2 : Left) (later : List ℕ) (from : State) →
-    line_of turned_time held ≡ task.line → IsRestOf left held → (stack : IsStack task (level ∷ ls) held.places later from) →
+    (rules : Rules) (task : Task) (ls : List Level) (level : Level) (held held2 : Held) (left left2 : Left) (later : List ℕ) (from : State) →
+    line_of rules held ≡ task.line → IsRestOf left held → (stack : IsStack task (level ∷ ls) held.places later from) →
     held2 ≡ with_place held level.unit None → left2 ≡ with_flag left level.unit true →
-    (line_of turned_time held2 ≡ task.line) × IsRestOf left2 held2 × (held2.places ≡ stack.0)
-taken_back task ls level held held2 left left2 later from line rest (before, entered, top, stack) made flagged =
+    (line_of rules held2 ≡ task.line) × IsRestOf left2 held2 × (held2.places ≡ stack.0)
+taken_back rules task ls level held held2 left left2 later from line rest (before, entered, top, stack) made flagged =
     let u = level.unit in
     let under : Held = record { loads = held.loads; slots = held.slots; places = before } in
     let was : held ≡ with_place under u (Some top.place) = λ j. record { loads = held.loads; slots = held.slots; places = top.made j } in
     let back : held2 ≡ under = restored under held held held2 u top.place was refl made top.ready.0 in (
-      line_after held held2 u None task.line line made,
+      line_after rules held held2 u None task.line line made,
       rest_follows held held2 left left2 u None rest made flagged,
       ap (λ (h : Held). h.places) back,
     )
@@ -432,15 +432,15 @@ top_within task ls level held later from (before, entered, top, stack) =
 
 -- the tree of a child is there
 pub on_rise :
-    (task : Task) (ls ls2 : Vec Level Global) (held held2 : Held) (left left2 : Left) (now : State) (tree : Tree) (level : Level) (v : Vec Tree Global) →
-    IsOn task ls held left now (Up tree) → ls.items ≡ ls2.items ++ level ∷ [] → vec_capacity ls2 ≡ vec_capacity ls →
+    (rules : Rules) (task : Task) (ls ls2 : Vec Level Global) (held held2 : Held) (left left2 : Left) (now : State) (tree : Tree) (level : Level) (v : Vec Tree Global) →
+    IsOn rules task ls held left now (Up tree) → ls.items ≡ ls2.items ++ level ∷ [] → vec_capacity ls2 ≡ vec_capacity ls →
     held2 ≡ with_place held level.unit None → left2 ≡ with_flag left level.unit true →
     v.items ≡ level.trees.items ++ tree ∷ [] → vec_capacity v ≡ vec_capacity level.trees →
-    IsPaused task ls2 held2 left2 now (record { unit = level.unit; places = level.places; trees = v; room = level.room })
-on_rise task ls ls2 held held2 left left2 now tree level v on popped same made flagged trees_are room_is =
+    IsPaused rules task ls2 held2 left2 now (record { unit = level.unit; places = level.places; trees = v; room = level.room })
+on_rise rules task ls ls2 held held2 left left2 now tree level v on popped same made flagged trees_are room_is =
     let u = level.unit in
     let stack : IsStack task (level ∷ reverse ls2.items) held.places on.later on.from = subst (λ w. IsStack task w held.places on.later on.from) (ap reverse popped ∙ reverse-push ls2.items level) on.stack in
-    let back = taken_back task (reverse ls2.items) level held held2 left left2 on.later on.from on.line on.rest stack made flagged in
+    let back = taken_back rules task (reverse ls2.items) level held held2 left left2 on.later on.from on.line on.rest stack made flagged in
     let before = stack.0 in
     let top = stack.2 in
     let explored = subst (λ ps. IsExplored task.line task.floor ps on.later on.from now (shape_of tree)) top.made on.entered in
@@ -470,8 +470,8 @@ on_rise task ls ls2 held held2 left left2 now tree level v on popped same made f
     length-tree (y ∷ xs) x = let rest = length-tree xs x in omega (arith, rest)
 
 -- the walk is over
-pub on_end : (task : Task) (ls : Vec Level Global) (held : Held) (left : Left) (now : State) (tree : Tree) → IsOn task ls held left now (Up tree) → ls.items ≡ [] → IsEnd task held left now tree
-on_end task ls held left now tree on none =
+pub on_end : (rules : Rules) (task : Task) (ls : Vec Level Global) (held : Held) (left : Left) (now : State) (tree : Tree) → IsOn rules task ls held left now (Up tree) → ls.items ≡ [] → IsEnd rules task held left now tree
+on_end rules task ls held left now tree on none =
     let at = subst (λ w. IsStack task (reverse w) held.places on.later on.from) none on.stack in record {
       back = record { line = on.line; rest = on.rest; places = at.0 };
       explored =
@@ -485,15 +485,15 @@ no_levels [] h = refl
 no_levels (l ∷ ls) h = absurd (omega arith)
 
 -- where memory is refused
-pub on_within : (task : Task) (ls : Vec Level Global) (held : Held) (left : Left) (now : State) (turn : Turn) → IsOn task ls held left now turn → IsWithin task (reverse ls.items) held left
-on_within task ls held left now turn on = record { line = on.line; rest = on.rest; later = on.later; from = on.from; stack = on.stack }
+pub on_within : (rules : Rules) (task : Task) (ls : Vec Level Global) (held : Held) (left : Left) (now : State) (turn : Turn) → IsOn rules task ls held left now turn → IsWithin rules task (reverse ls.items) held left
+on_within rules task ls held left now turn on = record { line = on.line; rest = on.rest; later = on.later; from = on.from; stack = on.stack }
 
 pub within_less :
-    (task : Task) (ls ls2 : List Level) (level : Level) (held held2 : Held) (left left2 : Left) → IsWithin task (reverse ls) held left → ls ≡ ls2 ++ level ∷ [] →
-    held2 ≡ with_place held level.unit None → left2 ≡ with_flag left level.unit true → IsWithin task (reverse ls2) held2 left2
-within_less task ls ls2 level held held2 left left2 at popped made flagged =
+    (rules : Rules) (task : Task) (ls ls2 : List Level) (level : Level) (held held2 : Held) (left left2 : Left) → IsWithin rules task (reverse ls) held left → ls ≡ ls2 ++ level ∷ [] →
+    held2 ≡ with_place held level.unit None → left2 ≡ with_flag left level.unit true → IsWithin rules task (reverse ls2) held2 left2
+within_less rules task ls ls2 level held held2 left left2 at popped made flagged =
     let stack = subst (λ w. IsStack task w held.places at.later at.from) (ap reverse popped ∙ reverse-push ls2 level) at.stack in
-    let back = taken_back task (reverse ls2) level held held2 left left2 at.later at.from at.line at.rest stack made flagged in record {
+    let back = taken_back rules task (reverse ls2) level held held2 left left2 at.later at.from at.line at.rest stack made flagged in record {
       line = back.0;
       rest = back.1;
       later = level.unit ∷ at.later;
@@ -501,25 +501,25 @@ within_less task ls ls2 level held held2 left left2 at popped made flagged =
       stack = subst (λ ps. IsStack task (reverse ls2) ps (level.unit ∷ at.later) stack.1) (sym back.2) stack.3;
     }
 
-pub within_unit : (task : Task) (ls ls2 : List Level) (level : Level) (held : Held) (left : Left) → IsWithin task (reverse ls) held left → ls ≡ ls2 ++ level ∷ [] → level.unit < length held.places
-within_unit task ls ls2 level held left at popped =
+pub within_unit : (rules : Rules) (task : Task) (ls ls2 : List Level) (level : Level) (held : Held) (left : Left) → IsWithin rules task (reverse ls) held left → ls ≡ ls2 ++ level ∷ [] → level.unit < length held.places
+within_unit rules task ls ls2 level held left at popped =
     top_within task (reverse ls2) level held at.later at.from (subst (λ w. IsStack task w held.places at.later at.from) (ap reverse popped ∙ reverse-push ls2 level) at.stack)
 
-pub within_end : (task : Task) (ls : List Level) (held : Held) (left : Left) → IsWithin task (reverse ls) held left → ls ≡ [] → IsBack task held left
-within_end task ls held left at none =
+pub within_end : (rules : Rules) (task : Task) (ls : List Level) (held : Held) (left : Left) → IsWithin rules task (reverse ls) held left → ls ≡ [] → IsBack rules task held left
+within_end rules task ls held left at none =
     let stack = subst (λ w. IsStack task (reverse w) held.places at.later at.from) none at.stack in
     record { line = at.line; rest = at.rest; places = stack.0 }
 
 -- all is as it was
-pub held_same : (a b : Held) → line_of turned_time a ≡ line_of turned_time b → a.places ≡ b.places → a ≡ b
-held_same a b line places = λ j. record { loads = (ap (λ (l : Line). l.loads) line) j; slots = (ap (λ (l : Line). l.slots) line) j; places = places j }
+pub held_same : (rules : Rules) (a b : Held) → line_of rules a ≡ line_of rules b → a.places ≡ b.places → a ≡ b
+held_same rules a b line places = λ j. record { loads = (ap (λ (l : Line). l.loads) line) j; slots = (ap (λ (l : Line). l.slots) line) j; places = places j }
 
 -- the walk over all that the loads leave
-abbrev pub walk_task : Held → List ℕ → Frame → State → Task
-walk_task held order frame first = record { line = line_of turned_time held; floor = frame.floor; places = held.places; order = order; first = first }
+abbrev pub walk_task : Rules → Held → List ℕ → Frame → State → Task
+walk_task rules held order frame first = record { line = line_of rules held; floor = frame.floor; places = held.places; order = order; first = first }
 
-pub for_walk : (held : Held) (order : List ℕ) (first now : Frame) (s : State) → now ≡ first → first.loads ≡ held.loads → first.slots ≡ held.slots → IsFor (walk_task held order first s) order now
-for_walk held order first now s same loads slots = record {
+pub for_walk : (rules : Rules) (held : Held) (order : List ℕ) (first now : Frame) (s : State) → now ≡ first → first.loads ≡ held.loads → first.slots ≡ held.slots → IsFor (walk_task rules held order first s) order now
+for_walk rules held order first now s same loads slots = record {
   units = refl;
   loads = ap (λ (f : Frame). f.loads) same ∙ loads;
   slots = ap (λ (f : Frame). f.slots) same ∙ slots;
@@ -528,9 +528,9 @@ for_walk held order first now s same loads slots = record {
 
 -- the walk begins
 pub on_start :
-    (held : Held) (left : Left) (order : List ℕ) (frame : Frame) (s now : State) (ls : Vec Level Global) →
-    IsRestOf left held → IsReadyFor held.loads held.slots held.places order → ls.items ≡ [] → length order ≤ vec_capacity ls → IsAsked frame.floor s now → IsOn (walk_task held order frame s) ls held left now Enter
-on_start held left order frame s now ls rest ready none room asked =
+    (rules : Rules) (held : Held) (left : Left) (order : List ℕ) (frame : Frame) (s now : State) (ls : Vec Level Global) →
+    IsRestOf left held → IsReadyFor held.loads held.slots held.places order → ls.items ≡ [] → length order ≤ vec_capacity ls → IsAsked frame.floor s now → IsOn rules (walk_task rules held order frame s) ls held left now Enter
+on_start rules held left order frame s now ls rest ready none room asked =
     let long = ap length none in record {
       line = refl;
       rest = rest;
@@ -538,6 +538,6 @@ on_start held left order frame s now ls rest ready none room asked =
       ready = ready;
       room = omega (arith, long, room);
       from = s;
-      stack = subst (λ w. IsStack (walk_task held order frame s) (reverse w) held.places order s) (sym none) (refl, refl, refl);
+      stack = subst (λ w. IsStack (walk_task rules held order frame s) (reverse w) held.places order s) (sym none) (refl, refl, refl);
       entered = asked;
     }

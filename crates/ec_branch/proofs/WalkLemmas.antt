@@ -11,7 +11,7 @@ use Rattle.ec_units.specs.declared.unit.Load.{Load}
 use Rattle.ec_loads.specs.Cost.{items, plan_items, tick_cost, IsBusiest, IsFirstBusiest}
 use Rattle.ec_loads.specs.Held.{Held, items_of}
 use Rattle.ec_loads.specs.Legal.{IsLegal, Fits}
-use Rattle.ec_loads.specs.Line.{turned_time, Line, line_of}
+use Rattle.ec_loads.specs.Line.{Rules, Line, line_of}
 use Rattle.ec_loads.specs.Shape.{Shape, tick, leaf}
 use Rattle.ec_loads.specs.Search.{Prefix, TickHolds, HaveShortTicks, HasShortTicks, IsAtMost, open_count, open_counts, node_count, node_counts}
 use Rattle.ec_symmetry.specs.Reached.{In, here, there, IsInRange}
@@ -146,20 +146,20 @@ below_value loads n None ps c t at none = tt
 
 -- a whole plan that was found and told
 pub found_walked :
-    (f : Frame) (h : Held) (floor : ℕ) (order : List ℕ) (plan : List Place) (was first : Option ℕ) (had left : ℕ) (halted : Bool) (c b t : ℕ) →
+    (rules : Rules) (f : Frame) (h : Held) (floor : ℕ) (order : List ℕ) (plan : List Place) (was first : Option ℕ) (had left : ℕ) (halted : Bool) (c b t : ℕ) →
     f.loads ≡ h.loads → f.slots ≡ h.slots → f.floor ≡ floor → IsReadyFor h.loads h.slots h.places order → order ≡ [] → map Some plan ≡ h.places →
     Fits (items_of h) h.slots → IsFirstBusiest (items_of h) h.slots c t → t ≤ 1023 → ((i : ℕ) → ¬ (TickHolds h.loads h.slots first h.places i)) →
     left + 1 ≡ had → IsAtMost first was → (b ≤ c) × (min c f.floor ≤ b) →
-    IsWalked (line_of turned_time h) floor h.places order was had (Some b) left halted (shape_of (TickLeaf t))
-found_walked f h floor order plan was first had left halted c b t loads_are slots_are floor_is ready none same fits busiest short unreached spent low value =
+    IsWalked (line_of rules h) floor h.places order was had (Some b) left halted (shape_of (TickLeaf t))
+found_walked rules f h floor order plan was first had left halted c b t loads_are slots_are floor_is ready none same fits busiest short unreached spent low value =
     let legal = legal_found h.loads h.slots h.places order plan ready none same fits in
     let top : IsBusiest (plan_items h.loads plan) h.slots c = subst (λ q. IsBusiest (items h.loads q) h.slots c) (sym same) busiest.busiest in
     let reached = busiest.reached in
     let under : IsAtMost (Some b) (Some c) = value.0 in
     let above = below_value h.loads h.slots first h.places c t reached unreached in
-    subst (IsWalked (line_of turned_time h) floor h.places order was had (Some b) left halted) (sym (shape_of-TickLeaf t))
-    (closed_walked (line_of turned_time h) floor h.places order was (Some b) had left halted (leaf (tick t))
-    (closing_leaf (line_of turned_time h) (Some b) h.places (tick t) (b, refl, omega (arith, reached, value.0)) short)
+    subst (IsWalked (line_of rules h) floor h.places order was had (Some b) left halted) (sym (shape_of-TickLeaf t))
+    (closed_walked (line_of rules h) floor h.places order was (Some b) had left halted (leaf (tick t))
+    (closing_leaf (line_of rules h) (Some b) h.places (tick t) (b, refl, omega (arith, reached, value.0)) short)
     spent
     (IsAtMost-trans (Some b) first was (IsAtMost-trans (Some b) (Some c) first under above) low)
     (λ g. fair_found floor h.loads h.slots plan c b legal top (subst (λ k. min c k ≤ b) floor_is value.1)))

@@ -1,5 +1,9 @@
+pub mod Draws
+pub mod FirstPlans
 pub mod Frames
 pub mod Greedy
 pub mod Stacks
+pub mod StrongOrders
+pub mod Turns
 pub mod Walks
 pub mod Weights

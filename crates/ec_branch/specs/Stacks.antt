@@ -3,7 +3,7 @@ use Rattle.std.specs.Prelude.{◌≡◌, ℕ, suc, ◌+◌, ◌*◌, ◌^◌, �
 use Rattle.std.proofs.Common.{Vec, Global, vec_capacity}
 use Rattle.ec_units.specs.declared.slave.Place.{Place}
 use Rattle.ec_loads.specs.Held.{Held}
-use Rattle.ec_loads.specs.Line.{turned_time, Line, line_of}
+use Rattle.ec_loads.specs.Line.{Rules, Line, line_of}
 use Rattle.ec_loads.specs.Search.{Prefix, children, IsAtMost}
 use Rattle.ec_loads.specs.Shape.{Shape}
 use Rattle.ec_bounds.specs.Left.{Left, IsRestOf}
@@ -121,9 +121,9 @@ abbrev pub IsTurn : Task → Prefix → List ℕ → State → State → Turn �
 IsTurn task ps later from now Enter = IsAsked task.floor from now
 IsTurn task ps later from now (Up tree) = IsExplored task.line task.floor ps later from now (shape_of tree)
 
--- where a walk is
-pub record IsOn (task : Task) (ls : Vec Level Global) (held : Held) (left : Left) (now : State) (turn : Turn) : Type 0 where
-  pub line : line_of turned_time held ≡ task.line
+-- where a walk by these rules is
+pub record IsOn (rules : Rules) (task : Task) (ls : Vec Level Global) (held : Held) (left : Left) (now : State) (turn : Turn) : Type 0 where
+  pub line : line_of rules held ≡ task.line
   pub rest : IsRestOf left held
   pub later : List ℕ
   pub ready : IsReadyFor task.line.loads task.line.slots held.places later
@@ -133,8 +133,8 @@ pub record IsOn (task : Task) (ls : Vec Level Global) (held : Held) (left : Left
   pub entered : IsTurn task held.places later from now turn
 
 -- the same between two children of a split
-pub record IsPaused (task : Task) (ls : Vec Level Global) (held : Held) (left : Left) (now : State) (level : Level) : Type 0 where
-  pub line : line_of turned_time held ≡ task.line
+pub record IsPaused (rules : Rules) (task : Task) (ls : Vec Level Global) (held : Held) (left : Left) (now : State) (level : Level) : Type 0 where
+  pub line : line_of rules held ≡ task.line
   pub rest : IsRestOf left held
   pub later : List ℕ
   pub ready : IsReadyFor task.line.loads task.line.slots held.places (level.unit ∷ later)
@@ -147,27 +147,27 @@ pub record IsPaused (task : Task) (ls : Vec Level Global) (held : Held) (left : 
   pub trees : length level.trees.items + length level.places ≤ vec_capacity level.trees
 
 -- the places are those that the levels, the innermost first, lead to
-pub record IsWithin (task : Task) (ls : List Level) (held : Held) (left : Left) : Type 0 where
-  pub line : line_of turned_time held ≡ task.line
+pub record IsWithin (rules : Rules) (task : Task) (ls : List Level) (held : Held) (left : Left) : Type 0 where
+  pub line : line_of rules held ≡ task.line
   pub rest : IsRestOf left held
   pub later : List ℕ
   pub from : State
   pub stack : IsStack task ls held.places later from
 
 -- the places are as they were when the walk began
-pub record IsBack (task : Task) (held : Held) (left : Left) : Type 0 where
-  pub line : line_of turned_time held ≡ task.line
+pub record IsBack (rules : Rules) (task : Task) (held : Held) (left : Left) : Type 0 where
+  pub line : line_of rules held ≡ task.line
   pub rest : IsRestOf left held
   pub places : held.places ≡ task.places
 
 -- the walk is over
-pub record IsEnd (task : Task) (held : Held) (left : Left) (now : State) (tree : Tree) : Type 0 where
-  pub back : IsBack task held left
+pub record IsEnd (rules : Rules) (task : Task) (held : Held) (left : Left) (now : State) (tree : Tree) : Type 0 where
+  pub back : IsBack rules task held left
   pub explored : IsExplored task.line task.floor task.places task.order task.first now (shape_of tree)
 
-abbrev pub IsStepped : Task → Vec Level Global → Held → Left → State → Stepped → Type 0
-IsStepped task ls held left now (On turn) = IsOn task ls held left now turn
-IsStepped task ls held left now (Done tree) = IsEnd task held left now tree
+abbrev pub IsStepped : Rules → Task → Vec Level Global → Held → Left → State → Stepped → Type 0
+IsStepped rules task ls held left now (On turn) = IsOn rules task ls held left now turn
+IsStepped rules task ls held left now (Done tree) = IsEnd rules task held left now tree
 
 -- the walk is in this order, and its guide for these units
 pub record IsFor (task : Task) (order : List ℕ) (frame : Frame) : Type 0 where

@@ -3,9 +3,10 @@
 ghost use Rattle.std.specs.Prelude.{◌≡◌, ℕ, ◌<◌, ◌≤◌, IfOk, All, length, drop, false, Some};
 ghost use Rattle.ec_units.specs.Load.{loads_of};
 ghost use Rattle.ec_loads.specs.Held.{no_places};
-ghost use Rattle.ec_loads.specs.Line.{turned_time, line_by, line_of};
+ghost use Rattle.ec_loads.specs.Line.{Rules as LineRules, line_by, line_of};
 ghost use Rattle.ec_loads.specs.Search.{Prefix, IsAtMost, IsPartialTree, node_count, open_count};
 ghost use Rattle.ec_symmetry.specs.Orders.{IsOrder, AreChildren, IsReachedPrefix, with_places, prefix_of};
+ghost use Rattle.ec_symmetry.specs.Ruled.{line_rules};
 ghost use Rattle.ec_bounds.specs.Left.{IsRestOf};
 ghost use Rattle.ec_cert.specs.Shapes.{shape_of};
 ghost use Rattle.ec_branch.specs.Frames.{Frame, IsFair};
@@ -18,6 +19,7 @@ use crate::walk::walk;
 use ec_bounds::Rest;
 use ec_cert::Subtree;
 use ec_loads::Loads;
+use ec_symmetry::Rules;
 use ec_units::{Place, Units};
 use std::alloc::{AllocError, Global};
 
@@ -41,8 +43,8 @@ fn remove_all(loads: &mut Loads, rest: &mut Rest, order: &[u8], prefix: &[Place]
     requires long { length prefix.now ≤ length order.now }
     requires below { All (λ u. u < length loads.old.places) order.now }
     requires left { IsRestOf rest.old loads.old }
-    ensures removed { (before : Prefix) → IsReadyFor loads.old.loads loads.old.slots before order.now →
-        AreChildren (line_of turned_time loads.old) before order.now prefix.now → loads.old.places ≡ with_places before order.now prefix.now →
+    ensures removed { (rules : LineRules) (before : Prefix) → IsReadyFor loads.old.loads loads.old.slots before order.now →
+        AreChildren (line_of rules loads.old) before order.now prefix.now → loads.old.places ≡ with_places before order.now prefix.now →
         loads.new ≡ record loads.old { places = before } }
     ensures left { IsRestOf rest.new loads.new }
 {
@@ -54,13 +56,14 @@ fn remove_all(loads: &mut Loads, rest: &mut Rest, order: &[u8], prefix: &[Place]
     }
 }
 
-/// Explores below a prefix, as `explore` does, in loads that the caller owns, and what is left of them: no unit has a
+/// Explores below a prefix by these rules, as `explore` does, in loads that the caller owns, and what is left of them: no unit has a
 /// place before and afterwards, also where memory is refused. So a piece of few nodes costs no more than these.
 pub fn explore_in<G: Guide>(
     alloc: Global,
     loads: &mut Loads,
     rest: &mut Rest,
     order: &[u8],
+    rules: Rules,
     prefix: &[Place],
     guide: &mut G,
     grant: u32,
@@ -68,7 +71,7 @@ pub fn explore_in<G: Guide>(
     requires empty { loads.old.places ≡ no_places loads.old.loads }
     requires left { IsRestOf rest.old loads.old }
     requires order { IsOrder (length loads.old.loads) order.now }
-    requires reached { IsReachedPrefix (line_of turned_time loads.old) order.now prefix.now }
+    requires reached { IsReachedPrefix (line_of (line_rules rules) loads.old) order.now prefix.now }
     requires loads { (G.frame guide.old).loads ≡ loads.old.loads }
     requires slots { (G.frame guide.old).slots ≡ loads.old.slots }
     requires running { G.halted guide.old ≡ false }
@@ -76,7 +79,7 @@ pub fn explore_in<G: Guide>(
     ensures same { loads.new ≡ loads.old }
     ensures left { IsRestOf rest.new loads.new }
     ensures frame { G.frame guide.new ≡ G.frame guide.old }
-    ensures partial { IfOk result (λ sub. IsPartialTree (line_of turned_time loads.old) sub.threshold (shape_of sub.tree) (prefix_of loads.old.loads order.now prefix.now) (drop (length prefix.now) order.now)) }
+    ensures partial { IfOk result (λ sub. IsPartialTree (line_of (line_rules rules) loads.old) sub.threshold (shape_of sub.tree) (prefix_of loads.old.loads order.now prefix.now) (drop (length prefix.now) order.now)) }
     ensures least { IfOk result (λ sub. IsFair (G.frame guide.old).floor loads.old.loads loads.old.slots sub.threshold) }
     ensures known { IfOk result (λ sub. sub.threshold ≡ G.known guide.new) }
     ensures upper { IfOk result (λ sub. IsAtMost sub.threshold (G.known guide.old)) }
@@ -89,7 +92,7 @@ pub fn explore_in<G: Guide>(
         left: grant,
     };
     let later = &order[prefix.len()..];
-    let walked = walk(alloc, loads, rest, later, guide, &mut search);
+    let walked = walk(alloc, loads, rest, later, rules, guide, &mut search);
     remove_all(loads, rest, order, prefix);
     let tree = walked?;
     Ok(Subtree {
@@ -98,9 +101,10 @@ pub fn explore_in<G: Guide>(
     })
 }
 
-/// Explores below a prefix: the places of the first units of the order, which the children reach. Splits and closes
-/// at most `grant` nodes, each before its children and the first child first; where these are used up, or the guide
-/// stops, the rest stays open.
+/// Explores below a prefix: the places of the first units of the order, which the children by these rules reach. Splits
+/// and closes at most `grant` nodes, each before its children and the first child first; where these are used up, or
+/// the guide stops, the rest stays open. By the strong rules a node is closed also where two slots can be one, where
+/// units don't find room, or where new groups cost too much, and not by the average.
 ///
 /// The closed leaves hold at the threshold, the least of all values (costs of a busiest tick, in wire bytes) that
 /// the guide answered: what it knows in the end, which is at most what it knew. Of each whole plan below it that is cheaper than the value in use the guide is told.
@@ -109,18 +113,19 @@ pub fn explore<G: Guide>(
     alloc: Global,
     units: &Units,
     order: &[u8],
+    rules: Rules,
     prefix: &[Place],
     guide: &mut G,
     grant: u32,
 ) -> Result<Subtree, AllocError>
     requires order { IsOrder (length units.now.units) order.now }
-    requires reached { IsReachedPrefix (line_by turned_time (loads_of units.now.units) units.now.slots) order.now prefix.now }
+    requires reached { IsReachedPrefix (line_by (line_rules rules) (loads_of units.now.units) units.now.slots) order.now prefix.now }
     requires loads { (G.frame guide.old).loads ≡ loads_of units.now.units }
     requires slots { (G.frame guide.old).slots ≡ units.now.slots }
     requires running { G.halted guide.old ≡ false }
     requires some { 1 ≤ grant }
     ensures frame { G.frame guide.new ≡ G.frame guide.old }
-    ensures partial { IfOk result (λ sub. IsPartialTree (line_by turned_time (loads_of units.now.units) units.now.slots) sub.threshold (shape_of sub.tree) (prefix_of (loads_of units.now.units) order.now prefix.now) (drop (length prefix.now) order.now)) }
+    ensures partial { IfOk result (λ sub. IsPartialTree (line_by (line_rules rules) (loads_of units.now.units) units.now.slots) sub.threshold (shape_of sub.tree) (prefix_of (loads_of units.now.units) order.now prefix.now) (drop (length prefix.now) order.now)) }
     ensures least { IfOk result (λ sub. IsFair (G.frame guide.old).floor (loads_of units.now.units) units.now.slots sub.threshold) }
     ensures known { IfOk result (λ sub. sub.threshold ≡ G.known guide.new) }
     ensures upper { IfOk result (λ sub. IsAtMost sub.threshold (G.known guide.old)) }
@@ -129,5 +134,7 @@ pub fn explore<G: Guide>(
 {
     let mut loads = Loads::new(alloc, units)?;
     let mut rest = Rest::all(units);
-    explore_in(alloc, &mut loads, &mut rest, order, prefix, guide, grant)
+    explore_in(
+        alloc, &mut loads, &mut rest, order, rules, prefix, guide, grant,
+    )
 }

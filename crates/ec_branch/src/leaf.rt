@@ -4,7 +4,7 @@ ghost use Rattle.std.specs.Prelude.{◌≡◌, ℕ, ◌<◌, ◌≤◌, IfOk, If
 ghost use Rattle.ec_loads.specs.Cost.{IsFirstBusiest};
 ghost use Rattle.ec_loads.specs.Held.{items_of};
 ghost use Rattle.ec_loads.specs.Legal.{Fits};
-ghost use Rattle.ec_loads.specs.Line.{turned_time, line_of};
+ghost use Rattle.ec_loads.specs.Line.{Rules, line_of};
 ghost use Rattle.ec_loads.specs.Search.{TickHolds, FullHolds, nobody};
 ghost use Rattle.ec_bounds.specs.Left.{IsRestOf};
 ghost use Rattle.ec_cert.specs.Shapes.{shape_of};
@@ -44,19 +44,32 @@ pub(crate) fn top_of(loads: &Loads) -> (u64, u32)
     loads.top()
 }
 
-/// The leaf without weights that closes the places so far at a value: a payload that is too large, else a tick that
-/// costs at least the value, else the average.
-fn plain_leaf(loads: &Loads, rest: &Rest, value: Option<u64>) -> Option<Tree>
-    requires { IsRestOf rest.now loads.now }
+/// The leaf that closes the places so far at a value by a payload that is too large, else by a tick that costs at least
+/// the value.
+pub(crate) fn costly_leaf(loads: &Loads, value: Option<u64>) -> Option<Tree>
     ensures { MatchOption result
         (Fits (items_of loads.now) loads.now.slots × ((t : ℕ) → ¬ (TickHolds loads.now.loads loads.now.slots value loads.now.places t)))
-        (λ tree. IsClosing (line_of turned_time loads.now) value loads.now.places (shape_of tree)) }
+        (λ tree. (rules : Rules) → IsClosing (line_of rules loads.now) value loads.now.places (shape_of tree)) }
 {
     if let Some((tick, slot)) = full_leaf(loads) {
         return Some(Tree::FullLeaf(tick, slot));
     }
     if let Some(tick) = tick_leaf(loads, value) {
         return Some(Tree::TickLeaf(tick));
+    }
+    None
+}
+
+/// The leaf without weights that closes the places so far at a value: a payload that is too large, else a tick that
+/// costs at least the value, else the average.
+fn plain_leaf(loads: &Loads, rest: &Rest, value: Option<u64>) -> Option<Tree>
+    requires { IsRestOf rest.now loads.now }
+    ensures { MatchOption result
+        (Fits (items_of loads.now) loads.now.slots × ((t : ℕ) → ¬ (TickHolds loads.now.loads loads.now.slots value loads.now.places t)))
+        (λ tree. (rules : Rules) → IsClosing (line_of rules loads.now) value loads.now.places (shape_of tree)) }
+{
+    if let Some(leaf) = costly_leaf(loads, value) {
+        return Some(leaf);
     }
     if average_bound(loads, rest, value) {
         return Some(Tree::Average);
@@ -75,7 +88,7 @@ pub(crate) fn raised_leaf(
     requires free { slice_get loads.now.places unit ≡ Some None }
     requires phase { place.phase < (get_or loads.now.loads unit nobody).period }
     requires slot { place.slot < loads.now.slots }
-    ensures { IfSome result (λ tree. IsClosing (line_of turned_time loads.now) value (slice_set loads.now.places unit (Some place)) (shape_of tree)) }
+    ensures { IfSome result (λ tree. (rules : Rules) → IsClosing (line_of rules loads.now) value (slice_set loads.now.places unit (Some place)) (shape_of tree)) }
 {
     let Some(least) = value else {
         return None;
@@ -103,7 +116,7 @@ pub(crate) fn leaf_of(
     requires { IsRestOf rest.now loads.now }
     ensures { IfOk result (λ leaf. MatchOption leaf
         (Fits (items_of loads.now) loads.now.slots × ((t : ℕ) → ¬ (TickHolds loads.now.loads loads.now.slots value loads.now.places t)))
-        (λ tree. IsClosing (line_of turned_time loads.now) value loads.now.places (shape_of tree))) }
+        (λ tree. (rules : Rules) → IsClosing (line_of rules loads.now) value loads.now.places (shape_of tree))) }
 {
     match plain_leaf(loads, rest, value) {
         None => weighted_leaf(alloc, loads, rest, value),

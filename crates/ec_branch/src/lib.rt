@@ -3,19 +3,30 @@
 
 mod ask;
 mod back;
+mod bettered;
+mod choice;
+mod classes;
 mod exploring;
-mod first_plan;
+mod greedy_plan;
 mod guide;
 mod leaf;
 mod level;
+mod moves;
 mod node;
 mod order;
+mod pairs;
 mod plan;
+mod strong;
+mod strong_leaf;
+mod turns;
 mod value;
+mod waiting;
 mod walk;
 mod weighted;
 
+pub use bettered::first_plan;
 pub use exploring::{explore, explore_in};
-pub use first_plan::greedy;
+pub use greedy_plan::greedy;
 pub use guide::Guide;
 pub use order::search_order;
+pub use strong::strong_order;

@@ -1,21 +1,23 @@
 //! A node: closed, told to the guide, or split.
 
 ghost use Rattle.std.specs.Prelude.{◌≡◌, IfOk, true};
-ghost use Rattle.ec_loads.specs.Line.{turned_time, line_of};
+ghost use Rattle.ec_loads.specs.Line.{line_of};
+ghost use Rattle.ec_symmetry.specs.Ruled.{line_rules};
 ghost use Rattle.ec_bounds.specs.Left.{IsRestOf};
 ghost use Rattle.ec_branch.specs.Frames.{Frame};
 ghost use Rattle.ec_branch.specs.Stacks.{State, IsAsked, IsEntered, state_of};
 ghost use Rattle.ec_branch.specs.Walks.{IsReadyFor};
 
+use crate::choice::leaf_by;
 use crate::guide::Guide;
-use crate::leaf::{leaf_of, top_of};
+use crate::leaf::top_of;
 use crate::level::Level;
 use crate::plan::whole;
 use crate::value::Search;
 use ec_bounds::Rest;
 use ec_cert::Tree;
 use ec_loads::Loads;
-use ec_symmetry::children_of;
+use ec_symmetry::{Rules, children_by};
 use std::alloc::{AllocError, Global};
 
 /// What became of a node.
@@ -28,12 +30,13 @@ pub(crate) enum Entered {
 }
 
 /// Closes the node at the places so far, for which the guide was asked, or tells the guide of the plan that they make,
-/// or splits the node by the next unit. The node stays open where the guide then stops.
+/// or splits the node by the next unit, all by these rules. The node stays open where the guide then stops.
 pub(crate) fn enter<G: Guide>(
     alloc: Global,
     loads: &Loads,
     rest: &Rest,
     order: &[u8],
+    rules: Rules,
     guide: &mut G,
     search: &mut Search,
 ) -> Result<Entered, AllocError>
@@ -45,9 +48,9 @@ pub(crate) fn enter<G: Guide>(
     ensures frame { G.frame guide.new ≡ G.frame guide.old }
     ensures stays { G.halted guide.old ≡ true → G.halted guide.new ≡ true }
     ensures entered { IfOk result (λ node. (from : State) → IsAsked (G.frame guide.old).floor from (state_of search.old (G.halted guide.old) (G.known guide.old)) →
-        IsEntered (line_of turned_time loads.now) (G.frame guide.old).floor loads.now.places order.now from (state_of search.new (G.halted guide.new) (G.known guide.new)) node) }
+        IsEntered (line_of (line_rules rules) loads.now) (G.frame guide.old).floor loads.now.places order.now from (state_of search.new (G.halted guide.new) (G.known guide.new)) node) }
 {
-    if let Some(leaf) = leaf_of(alloc, loads, rest, search.value)? {
+    if let Some(leaf) = leaf_by(alloc, loads, rest, order, search.value, rules)? {
         search.left -= 1;
         return Ok(Entered::Leaf(leaf));
     }
@@ -67,7 +70,7 @@ pub(crate) fn enter<G: Guide>(
         Some((unit, _)) => {
             let unit = usize::from(*unit);
             search.left -= 1;
-            let places = children_of(loads, unit, true);
+            let places = children_by(loads, unit, rules);
             let trees = Vec::with_capacity(alloc, places.len())?;
             let room = Box::new(alloc, Vec::new(alloc))?;
             Ok(Entered::Split(Level {

@@ -1,7 +1,8 @@
 //! The walk over the prefixes.
 
 ghost use Rattle.std.specs.Prelude.{◌≡◌, ℕ, ◌<◌, IfOk, IfErr, true, reverse};
-ghost use Rattle.ec_loads.specs.Line.{turned_time, line_of};
+ghost use Rattle.ec_loads.specs.Line.{Rules as LineRules, line_of};
+ghost use Rattle.ec_symmetry.specs.Ruled.{line_rules};
 ghost use Rattle.ec_bounds.specs.Left.{IsRestOf};
 ghost use Rattle.ec_cert.specs.Shapes.{shape_of};
 ghost use Rattle.ec_branch.specs.Frames.{Frame};
@@ -17,6 +18,7 @@ use crate::value::Search;
 use ec_bounds::Rest;
 use ec_cert::Tree;
 use ec_loads::Loads;
+use ec_symmetry::Rules;
 use std::alloc::{AllocError, Global};
 
 /// What a step of the walk leads to.
@@ -30,8 +32,8 @@ pub(crate) enum Stepped {
 
 /// Takes the places of the splits that are under way back, the innermost first.
 fn undo(loads: &mut Loads, rest: &mut Rest, levels: &mut Vec<Level>)
-    requires { (task : Task) × IsWithin task (reverse levels.old.items) loads.old rest.old }
-    ensures { (task : Task) → IsWithin task (reverse levels.old.items) loads.old rest.old → IsBack task loads.new rest.new }
+    requires { (rules : LineRules) × (task : Task) × IsWithin rules task (reverse levels.old.items) loads.old rest.old }
+    ensures { (rules : LineRules) (task : Task) → IsWithin rules task (reverse levels.old.items) loads.old rest.old → IsBack rules task loads.new rest.new }
 {
     while let Some(level) = levels.pop() {
         take_back(loads, rest, level.unit);
@@ -45,27 +47,36 @@ fn step<G: Guide>(
     loads: &mut Loads,
     rest: &mut Rest,
     order: &[u8],
+    rules: Rules,
     guide: &mut G,
     search: &mut Search,
     levels: &mut Vec<Level>,
     turn: Turn,
 ) -> Result<Stepped, AllocError>
-    requires on { (task : Task) × IsFor task order.now (G.frame guide.old) × IsOn task levels.old loads.old rest.old (state_of search.old (G.halted guide.old) (G.known guide.old)) turn }
+    requires on { (task : Task) × IsFor task order.now (G.frame guide.old) × IsOn (line_rules rules) task levels.old loads.old rest.old (state_of search.old (G.halted guide.old) (G.known guide.old)) turn }
     ensures frame { G.frame guide.new ≡ G.frame guide.old }
     ensures stays { G.halted guide.old ≡ true → G.halted guide.new ≡ true }
     ensures on { IfOk result (λ s. (task : Task) → IsFor task order.now (G.frame guide.old) →
-        IsOn task levels.old loads.old rest.old (state_of search.old (G.halted guide.old) (G.known guide.old)) turn →
-        IsStepped task levels.new loads.new rest.new (state_of search.new (G.halted guide.new) (G.known guide.new)) s) }
+        IsOn (line_rules rules) task levels.old loads.old rest.old (state_of search.old (G.halted guide.old) (G.known guide.old)) turn →
+        IsStepped (line_rules rules) task levels.new loads.new rest.new (state_of search.new (G.halted guide.new) (G.known guide.new)) s) }
     ensures less { IfOk result (λ s. is_less search.new.left levels.new.items s (effort search.old.left levels.old.items turn)) }
     ensures levels { IfErr result (λ _. levels.new.items ≡ levels.old.items) }
     ensures loads { IfErr result (λ _. loads.new ≡ loads.old) }
     ensures rest { IfErr result (λ _. rest.new ≡ rest.old) }
 {
     match turn {
-        Turn::Enter => match enter(alloc, loads, rest, &order[levels.len()..], guide, search)? {
+        Turn::Enter => match enter(
+            alloc,
+            loads,
+            rest,
+            &order[levels.len()..],
+            rules,
+            guide,
+            search,
+        )? {
             Entered::Leaf(tree) => Ok(Stepped::On(Turn::Up(tree))),
             Entered::Split(level) => {
-                Ok(Stepped::On(next_child(loads, rest, guide, search, levels, level)))
+                Ok(Stepped::On(next_child(loads, rest, rules, guide, search, levels, level)))
             }
         },
         Turn::Up(tree) => {
@@ -74,18 +85,19 @@ fn step<G: Guide>(
             };
             take_back(loads, rest, level.unit);
             level.trees.push_reserved(tree);
-            Ok(Stepped::On(next_child(loads, rest, guide, search, levels, level)))
+            Ok(Stepped::On(next_child(loads, rest, rules, guide, search, levels, level)))
         }
     }
 }
 
-/// Explores below the places so far, unit by unit in this order, with a stack that is as deep as the order is long
+/// Explores below the places so far by these rules, unit by unit in this order, with a stack that is as deep as the order is long
 /// and made once. The places are as before afterwards, also where memory is refused.
 pub(crate) fn walk<G: Guide>(
     alloc: Global,
     loads: &mut Loads,
     rest: &mut Rest,
     order: &[u8],
+    rules: Rules,
     guide: &mut G,
     search: &mut Search,
 ) -> Result<Tree, AllocError>
@@ -98,7 +110,7 @@ pub(crate) fn walk<G: Guide>(
     ensures frame { G.frame guide.new ≡ G.frame guide.old }
     ensures stays { G.halted guide.old ≡ true → G.halted guide.new ≡ true }
     ensures known { IfOk result (λ _. FollowsGuide search.old.left (G.halted guide.old) search.old.value (G.known guide.old) search.new.value (G.known guide.new)) }
-    ensures walked { IfOk result (λ tree. IsWalked (line_of turned_time loads.old) (G.frame guide.old).floor loads.old.places order.now search.old.value search.old.left search.new.value search.new.left (G.halted guide.new) (shape_of tree)) }
+    ensures walked { IfOk result (λ tree. IsWalked (line_of (line_rules rules) loads.old) (G.frame guide.old).floor loads.old.places order.now search.old.value search.old.left search.new.value search.new.left (G.halted guide.new) (shape_of tree)) }
 {
     let mut levels = Vec::with_capacity(alloc, order.len())?;
     if !ask(guide, search) {
@@ -106,7 +118,17 @@ pub(crate) fn walk<G: Guide>(
     }
     let mut turn = Turn::Enter;
     loop {
-        match step(alloc, loads, rest, order, guide, search, &mut levels, turn) {
+        match step(
+            alloc,
+            loads,
+            rest,
+            order,
+            rules,
+            guide,
+            search,
+            &mut levels,
+            turn,
+        ) {
             Ok(Stepped::On(next)) => turn = next,
             Ok(Stepped::Done(tree)) => return Ok(tree),
             Err(error) => {

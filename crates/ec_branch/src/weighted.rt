@@ -1,7 +1,7 @@
 //! The leaf that is weighted by what the ticks cost.
 
 ghost use Rattle.std.specs.Prelude.{ℕ, ◌≤◌, IfOk, IfSome, length, All};
-ghost use Rattle.ec_loads.specs.Line.{turned_time, line_of};
+ghost use Rattle.ec_loads.specs.Line.{Rules, line_of};
 ghost use Rattle.ec_bounds.specs.Left.{IsRestOf};
 ghost use Rattle.ec_cert.specs.Shapes.{shape_of};
 ghost use Rattle.ec_branch.specs.Walks.{IsClosing};
@@ -65,7 +65,7 @@ pub(crate) fn weighted_leaf(
     value: Option<u64>,
 ) -> Result<Option<Tree>, AllocError>
     requires { IsRestOf rest.now loads.now }
-    ensures { IfOk result (λ leaf. IfSome leaf (λ tree. IsClosing (line_of turned_time loads.now) value loads.now.places (shape_of tree))) }
+    ensures { IfOk result (λ leaf. IfSome leaf (λ tree. (rules : Rules) → IsClosing (line_of rules loads.now) value loads.now.places (shape_of tree))) }
 {
     match value {
         Some(least) if may_hold(loads, rest, least) => {

@@ -10,7 +10,7 @@ use Rattle.ec_command.specs.declared.line.Line.TheVariants as line
 
 -- the numbers of a job are within the limits: 1 to 16 workers, and 1 to 10,000,000 nodes
 abbrev pub JobFits : Job → Type 0
-JobFits (job.Plan workers nodes) = (1 ≤ workers) × (workers ≤ 16) × (1 ≤ nodes) × (nodes ≤ 10000000)
+JobFits (job.Plan workers nodes strong) = (1 ≤ workers) × (workers ≤ 16) × (1 ≤ nodes) × (nodes ≤ 10000000)
 JobFits (job.Resume workers nodes) = (1 ≤ workers) × (workers ≤ 16) × (1 ≤ nodes) × (nodes ≤ 10000000)
 JobFits _ = Unit {0}
 
@@ -18,7 +18,7 @@ JobFits _ = Unit {0}
 abbrev pub job_of : Line → Job
 job_of (line.Cost None svg) = job.Cost
 job_of (line.Cost (Some cert) svg) = job.PlanCost
-job_of (line.Plan effort out places) = job.Plan effort.workers effort.nodes
+job_of (line.Plan effort strong out places) = job.Plan effort.workers effort.nodes strong
 job_of (line.Resume cert effort out places) = job.Resume effort.workers effort.nodes
 job_of (line.Check cert) = job.Check
 job_of (line.Frames cert None header table report) = job.Frames
@@ -28,7 +28,7 @@ job_of (line.Play cert) = job.Play
 -- the path of the certificate that it reads
 abbrev pub cert_of : Line → Option (String Global)
 cert_of (line.Cost cert svg) = cert
-cert_of (line.Plan effort out places) = None
+cert_of (line.Plan effort strong out places) = None
 cert_of (line.Resume cert effort out places) = Some cert
 cert_of (line.Check cert) = Some cert
 cert_of (line.Frames cert pcap header table report) = cert
@@ -37,7 +37,7 @@ cert_of (line.Play cert) = cert
 -- the path of what the job writes before its text
 abbrev pub out_of : Line → Option (String Global)
 out_of (line.Cost cert svg) = None
-out_of (line.Plan effort out places) = out
+out_of (line.Plan effort strong out places) = out
 out_of (line.Resume cert effort out places) = out
 out_of (line.Check cert) = None
 out_of (line.Frames cert pcap header table report) = pcap
@@ -45,6 +45,6 @@ out_of (line.Play cert) = None
 
 -- the job searches for nothing
 abbrev pub IsPlain : Job → Type 0
-IsPlain (job.Plan workers nodes) = ⊥
+IsPlain (job.Plan workers nodes strong) = ⊥
 IsPlain (job.Resume workers nodes) = ⊥
 IsPlain _ = Unit {0}

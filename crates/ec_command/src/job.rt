@@ -5,10 +5,17 @@
 pub enum Job {
     /// Tells what each tick of the placed units costs.
     Cost,
-    /// Searches for the best plan with so many workers, over at most so many nodes.
-    Plan { workers: usize, nodes: u32 },
+    /// Searches for the best plan with so many workers, over at most so many nodes; by the strong rules where it says so.
+    Plan {
+        workers: usize,
+        nodes: u32,
+        strong: bool,
+    },
     /// Goes on with the search of a certificate that was cut short, with so many workers, over at most so many new nodes.
-    Resume { workers: usize, nodes: u32 },
+    Resume {
+        workers: usize,
+        nodes: u32,
+    },
     /// Checks a certificate for the units.
     Check,
     /// Tells the FMMU records and the frames of a certificate's plan, or of the placed units.

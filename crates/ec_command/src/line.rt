@@ -26,9 +26,10 @@ pub enum Line {
         cert: Option<String>,
         svg: Option<String>,
     },
-    /// Searches for the best plan.
+    /// Searches for the best plan; by the strong rules where it says so.
     Plan {
         effort: Effort,
+        strong: bool,
         out: Option<String>,
         places: Option<String>,
     },
@@ -65,9 +66,10 @@ impl Line {
         match self {
             Line::Cost { cert: None, .. } => Job::Cost,
             Line::Cost { cert: Some(_), .. } => Job::PlanCost,
-            Line::Plan { effort, .. } => Job::Plan {
+            Line::Plan { effort, strong, .. } => Job::Plan {
                 workers: effort.workers,
                 nodes: effort.nodes,
+                strong: *strong,
             },
             Line::Resume { effort, .. } => Job::Resume {
                 workers: effort.workers,

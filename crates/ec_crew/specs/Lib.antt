@@ -1,2 +1,3 @@
 pub mod Turns
 pub mod Crews
+pub mod Opening

@@ -1,7 +1,7 @@
 -- What a worker is handed, and what becomes of it.
 use Rattle.std.specs.Prelude.{◌≡◌, ◌≢◌, ℕ, ◌≤◌, List, Option, false}
 use Rattle.ec_units.specs.declared.unit.Load.{Load}
-use Rattle.ec_loads.specs.Line.{turned_time, line_by}
+use Rattle.ec_loads.specs.Line.{Rules, line_by}
 use Rattle.ec_loads.specs.Search.{IsAtMost}
 use Rattle.ec_loads.specs.Shape.{Shape}
 use Rattle.ec_symmetry.specs.Orders.{IsReachedPrefix}
@@ -16,9 +16,9 @@ use Rattle.ec_crew.specs.declared.turn.Turn.{Turn}
 use Rattle.ec_crew.specs.declared.turn.Turn.TheVariants as became
 
 -- a piece that can be explored: its prefix is reached by the children, and some node may be split or closed
-abbrev pub IsStart : List Load → ℕ → List ℕ → Handed → Type 0
-IsStart loads n order (handed.Piece t) = IsReachedPrefix (line_by turned_time loads n) order t.prefix × (1 ≤ t.grant)
-IsStart loads n order _ = Unit {0}
+abbrev pub IsStart : List Load → ℕ → List ℕ → Rules → Handed → Type 0
+IsStart loads n order rules (handed.Piece t) = IsReachedPrefix (line_by rules loads n) order t.prefix × (1 ≤ t.grant)
+IsStart loads n order rules _ = Unit {0}
 
 -- by its own steps the worker doesn't hold the piece any more, where it was reported, or where the worker ends and the book refused it nothing
 abbrev pub LeavesPiece : List Step → ℕ → Turn → Type 0
@@ -27,6 +27,6 @@ LeavesPiece steps piece (became.Again v) = Unit {0}
 LeavesPiece steps piece (became.Stopped e) = e ≢ ended.Refused → holds steps piece ≡ false
 
 -- where a piece is to be explored again, it is at the value of some book of the search, and that is above the value at which the leaves hold
-abbrev pub FindsValue : List Load → ℕ → List ℕ → Shape → Option ℕ → ℕ → Option ℕ → Turn → Type 0
-FindsValue loads n order given value nodes threshold (became.Again v) = HasBook loads n order given value nodes (λ b. (v ≡ value_of b.best) × (¬ (IsAtMost v threshold)))
-FindsValue loads n order given value nodes threshold _ = Unit {0}
+abbrev pub FindsValue : List Load → ℕ → List ℕ → Rules → Shape → Option ℕ → ℕ → Option ℕ → Turn → Type 0
+FindsValue loads n order rules given value nodes threshold (became.Again v) = HasBook loads n order rules given value nodes (λ b. (v ≡ value_of b.best) × (¬ (IsAtMost v threshold)))
+FindsValue loads n order rules given value nodes threshold _ = Unit {0}

@@ -47,7 +47,7 @@ pub enum CrewFault {
 fn closed<S: Search>(shared: Shared<S>, seats: Vec<Seat<'_, '_, S>>, ended: Ended) -> Crewed
     requires count { vec_len seats ≡ S.parts }
     requires ours { All (λ s. IsOf S.loads S.slots S.order s) seats.items }
-    ensures closed { IsClosedFor S.loads S.slots S.order S.given S.given_value S.nodes result.finished }
+    ensures closed { IsClosedFor S.loads S.slots S.order S.rules S.given S.given_value S.nodes result.finished }
     ensures journal { result.ended ≢ Refused → (result.ended ≡ ended) × IsJournal seats.entry.items result.finished.log }
 {
     match shared.close(seats) {
@@ -139,7 +139,7 @@ fn search_on<S: Search + Send + Sync, R: Threads + Wait + Sync, G: Gate + Sync>(
     units: &Units,
     order: &[u8],
     workers: usize,
-    greedy: bool,
+    first: bool,
     gate: &G,
 ) -> Result<Crewed, CrewFault>
     requires name { blank.name ≡ S.name }
@@ -147,15 +147,15 @@ fn search_on<S: Search + Send + Sync, R: Threads + Wait + Sync, G: Gate + Sync>(
     requires few { (1 ≤ workers) × (workers ≤ 16) }
     requires order { IsOrder (length units.now.units) order.now }
     requires search { AreOf S.loads S.slots S.order units.now.units units.now.slots order.now }
-    requires book { IsBookOf units.now.units units.now.slots order.now book }
+    requires book { IsBookOf units.now.units units.now.slots order.now S.rules book }
     requires began { BeganWith S.given S.given_value S.nodes book }
     requires unused { book.log ≡ [] }
-    ensures { IfOk result (λ c. IsClosedFor S.loads S.slots S.order S.given S.given_value S.nodes c.finished) }
+    ensures { IfOk result (λ c. IsClosedFor S.loads S.slots S.order S.rules S.given S.given_value S.nodes c.finished) }
 {
     let opening = Opening {
         value: book.value(),
         pieces: book.open_pieces(),
-        greedy,
+        first,
     };
     let Ok(
         Means {
@@ -181,7 +181,8 @@ fn search_on<S: Search + Send + Sync, R: Threads + Wait + Sync, G: Gate + Sync>(
 }
 
 /// Searches on a book on which nothing has happened, with 1 to 16 workers, each in a thread of its own. They begin at the
-/// value of the book, if it has one. Worker 0 first offers the greedy plan, where `greedy` says so, and splits and closes
+/// value of the book, if it has one. Worker 0 first offers the plan that a search by the book's rules opens with, where
+/// `first` says so, and splits and closes
 /// single nodes until as many pieces are free as there are workers; the free pieces are then dealt to the workers in
 /// turn. `gate` is told before each later node, and asked whether the time is over before each later piece. What the workers did comes back in the finished book, in whatever order
 /// they did it; a book that goes on with a tree was given that tree.
@@ -192,15 +193,15 @@ pub fn search_by_crew<R: Threads + Wait + Sync, G: Gate + Sync>(
     units: &Units,
     order: &[u8],
     workers: usize,
-    greedy: bool,
+    first: bool,
     gate: &G,
 ) -> Result<Crewed, CrewFault>
     requires few { (1 ≤ workers) × (workers ≤ 16) }
     requires order { IsOrder (length units.now.units) order.now }
-    requires book { IsBookOf units.now.units units.now.slots order.now book }
+    requires book { IsBookOf units.now.units units.now.slots order.now book.rules book }
     requires unused { book.log ≡ [] }
-    ensures { IfOk result (λ c. IsCrewed units.now.units units.now.slots order.now book.given book.given_value book.nodes c.finished) }
+    ensures { IfOk result (λ c. IsCrewed units.now.units units.now.slots order.now book.rules book.given book.given_value book.nodes c.finished) }
 {
     let blank = Blank::new(workers as u64);
-    search_on::<Brand, R, G>(rt, alloc, blank, book, units, order, workers, greedy, gate)
+    search_on::<Brand, R, G>(rt, alloc, blank, book, units, order, workers, first, gate)
 }

@@ -69,7 +69,7 @@ impl<'u, 'o, 'b, S: Search> Post<'u, 'o, 'b, S> {
         most: u32,
     ) -> Result<Taken, Ended>
         requires { 1 ≤ most }
-        ensures start { IfOk result (IsStart S.loads S.slots S.order) }
+        ensures start { IfOk result (IsStart S.loads S.slots S.order S.rules) }
         ensures ended { IfErr result (λ e. e ≢ Done) }
     {
         match shared.take(rt, &mut self.seat, most) {
@@ -88,7 +88,7 @@ impl<'u, 'o, 'b, S: Search> Post<'u, 'o, 'b, S> {
         most: u32,
     ) -> Result<Option<Taken>, Ended>
         requires { 1 ≤ most }
-        ensures start { IfOk result (λ o. IfSome o (IsStart S.loads S.slots S.order)) }
+        ensures start { IfOk result (λ o. IfSome o (IsStart S.loads S.slots S.order S.rules)) }
         ensures ended { IfErr result (λ e. e ≢ Done) }
     {
         match self.tickets.next_ticket() {
@@ -109,7 +109,7 @@ impl<'u, 'o, 'b, S: Search> Post<'u, 'o, 'b, S> {
         most: u32,
     ) -> Result<Option<Taken>, Ended>
         requires { 1 ≤ most }
-        ensures start { IfOk result (λ o. IfSome o (IsStart S.loads S.slots S.order)) }
+        ensures start { IfOk result (λ o. IfSome o (IsStart S.loads S.slots S.order S.rules)) }
         ensures ended { IfErr result (λ e. e ≢ Done) }
     {
         match shared.take_piece(rt, &mut self.seat, piece, most) {
@@ -189,7 +189,7 @@ impl<'u, 'o, 'b, S: Search> Post<'u, 'o, 'b, S> {
         requires plan { IsPlanOf S.loads S.slots best.plan.places best.busiest }
         ensures value { IfOk result (λ v. v ≤ best.busiest) }
         ensures known { IfOk result (λ v. ((v ≡ best.busiest) × (self.new.seat ≡ noted self.old.seat (Better self.old.seat.worker v)))
-            ⊎ (HasSeatBook self.old.seat S.given S.given_value S.nodes (λ b. value_of b.best ≡ Some v) × (self.new.seat ≡ self.old.seat))) }
+            ⊎ (HasSeatBook self.old.seat S.rules S.given S.given_value S.nodes (λ b. value_of b.best ≡ Some v) × (self.new.seat ≡ self.old.seat))) }
         ensures ended { IfErr result (λ e. e ≢ Done) }
     {
         let busiest = best.busiest;

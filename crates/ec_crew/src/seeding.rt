@@ -3,13 +3,13 @@
 ghost use Rattle.std.specs.Prelude.{◌≡◌, ◌≢◌, ◌≤◌};
 
 use crate::ended::Ended;
+use crate::first::opening_plan;
 use crate::gate::Quiet;
 use crate::ground::{Ground, ground_of};
 use crate::pieces::opened;
 use crate::post::Post;
 use crate::work::worked_off;
 use ec_book::Taken;
-use ec_branch::greedy;
 use ec_seats::{Search, Shared};
 use std::alloc::Global;
 use std::sync::Wait;
@@ -21,18 +21,18 @@ pub(crate) struct Opening {
     pub(crate) value: Option<u64>,
     /// How many pieces are free in the book.
     pub(crate) pieces: usize,
-    /// Whether the greedy plan is offered.
-    pub(crate) greedy: bool,
+    /// Whether the plan that a search opens with is offered.
+    pub(crate) first: bool,
 }
 
-/// Offers the greedy plan, if there is one; why the worker ends, if it does.
-fn offered_greedy<S: Search, R: Wait>(
+/// Offers the plan that a search by these rules opens with, if there is one; why the worker ends, if it does.
+fn offered_first<S: Search, R: Wait>(
     rt: &R,
     alloc: Global,
     shared: &Shared<S>,
     post: &mut Post<'_, '_, '_, S>,
 ) -> Option<Ended> {
-    let plan = match greedy(alloc, post.seat.units()) {
+    let plan = match opening_plan(alloc, post.seat.units(), shared.rules()) {
         Ok(Some(plan)) => plan,
         Ok(None) => return None,
         Err(_) => return Some(Ended::Memory),
@@ -73,7 +73,7 @@ fn split_up<S: Search, R: Wait>(
     unreachable!()
 }
 
-/// Publishes the value that the book has, if it has one, offers the greedy plan where it is to, and then makes pieces for
+/// Publishes the value that the book has, if it has one, offers the first plan where it is to, and then makes pieces for
 /// as many workers; why worker 0 ends before the others start, if it does.
 pub(crate) fn seed<S: Search, R: Wait>(
     rt: &R,
@@ -86,8 +86,8 @@ pub(crate) fn seed<S: Search, R: Wait>(
     if let Some(value) = opening.value {
         post.lower(value);
     }
-    if opening.greedy {
-        if let Some(ended) = offered_greedy(rt, alloc, shared, post) {
+    if opening.first {
+        if let Some(ended) = offered_first(rt, alloc, shared, post) {
             return Some(ended);
         }
     }

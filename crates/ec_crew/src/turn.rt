@@ -1,7 +1,7 @@
 //! A turn of a worker beside others: one piece, explored with the lock free, and reported.
 
 ghost use Rattle.std.specs.Prelude.{◌≡◌, ℕ, ◌<◌, ◌≤◌, IfOk, length, drop};
-ghost use Rattle.ec_loads.specs.Line.{turned_time, line_by};
+ghost use Rattle.ec_loads.specs.Line.{line_by};
 ghost use Rattle.ec_loads.specs.Search.{IsPartialTree, node_count};
 ghost use Rattle.ec_symmetry.specs.Orders.{IsReachedPrefix, prefix_of};
 ghost use Rattle.ec_cert.specs.Shapes.{shape_of};
@@ -62,10 +62,10 @@ fn reported<S: Search, R: Wait>(
     sub: Subtree,
     stop: Option<Ended>,
 ) -> Turn
-    requires tree { IsPartialTree (line_by turned_time S.loads S.slots) sub.threshold (shape_of sub.tree) (prefix_of S.loads S.order took.now.prefix) (drop (length took.now.prefix) S.order) }
+    requires tree { IsPartialTree (line_by S.rules S.loads S.slots) sub.threshold (shape_of sub.tree) (prefix_of S.loads S.order took.now.prefix) (drop (length took.now.prefix) S.order) }
     requires some { 0 < node_count (shape_of sub.tree) }
     ensures leaves { LeavesPiece post.new.seat.receipts took.now.piece result }
-    ensures again { FindsValue S.loads S.slots S.order S.given S.given_value S.nodes sub.threshold result }
+    ensures again { FindsValue S.loads S.slots S.order S.rules S.given S.given_value S.nodes sub.threshold result }
 {
     match shared.report(rt, &mut post.seat, took.piece, took.prefix.as_slice(), sub) {
         Ok(()) => match stop {
@@ -93,11 +93,12 @@ fn explored<'a, S: Search, R: Wait, G: Gate>(
     reads: bool,
     gate: &'a G,
 ) -> (Result<Subtree, AllocError>, Option<Ended>)
-    requires reached { IsReachedPrefix (line_by turned_time S.loads S.slots) S.order took.now.prefix }
+    requires reached { IsReachedPrefix (line_by S.rules S.loads S.slots) S.order took.now.prefix }
     requires some { 1 ≤ took.now.grant }
-    ensures { IfOk result.0 (λ sub. IsPartialTree (line_by turned_time S.loads S.slots) sub.threshold (shape_of sub.tree) (prefix_of S.loads S.order took.now.prefix) (drop (length took.now.prefix) S.order)) }
+    ensures { IfOk result.0 (λ sub. IsPartialTree (line_by S.rules S.loads S.slots) sub.threshold (shape_of sub.tree) (prefix_of S.loads S.order took.now.prefix) (drop (length took.now.prefix) S.order)) }
 {
     let order = post.order();
+    let rules = shared.rules();
     let prefix = took.prefix.as_slice();
     let mut watch = CrewWatch {
         alloc,
@@ -111,7 +112,9 @@ fn explored<'a, S: Search, R: Wait, G: Gate>(
         stop: None,
     };
     let Ground { loads, rest, .. } = ground;
-    let explored = explore_in(alloc, loads, rest, order, prefix, &mut watch, took.grant);
+    let explored = explore_in(
+        alloc, loads, rest, order, rules, prefix, &mut watch, took.grant,
+    );
     (explored, watch.stop)
 }
 
@@ -127,7 +130,7 @@ pub(crate) fn take_turn<S: Search, R: Wait, G: Gate>(
     reads: bool,
     gate: &G,
 ) -> Turn
-    requires reached { IsReachedPrefix (line_by turned_time S.loads S.slots) S.order took.now.prefix }
+    requires reached { IsReachedPrefix (line_by S.rules S.loads S.slots) S.order took.now.prefix }
     requires some { 1 ≤ took.now.grant }
     ensures leaves { LeavesPiece post.new.seat.receipts took.now.piece result }
 {

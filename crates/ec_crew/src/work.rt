@@ -1,7 +1,7 @@
 //! The turns of a worker beside others.
 
 ghost use Rattle.std.specs.Prelude.{◌≡◌, ◌≤◌};
-ghost use Rattle.ec_loads.specs.Line.{turned_time, line_by};
+ghost use Rattle.ec_loads.specs.Line.{line_by};
 ghost use Rattle.ec_symmetry.specs.Orders.{IsReachedPrefix};
 
 use crate::ended::Ended;
@@ -29,7 +29,7 @@ pub(crate) fn worked_off<S: Search, R: Wait, G: Gate>(
     took: &Took,
     gate: &G,
 ) -> Option<Ended>
-    requires reached { IsReachedPrefix (line_by turned_time S.loads S.slots) S.order took.now.prefix }
+    requires reached { IsReachedPrefix (line_by S.rules S.loads S.slots) S.order took.now.prefix }
     requires some { 1 ≤ took.now.grant }
 {
     let mut value = took.value;

@@ -6,7 +6,7 @@ ghost use Rattle.ec_explain.specs.Plain.{IsPlain};
 use crate::plain::plain_text;
 use ec_outcome::Ending;
 use ec_refusals::Refusal;
-use ec_remarks::{Inputs, Written, counsel, remarks};
+use ec_remarks::{Filed, Inputs, counsel, remarks};
 use std::alloc::{AllocError, Global};
 
 /// What a refusal means, in a few sentences for a person, each a line: which unit, slave, key, value or line of the
@@ -23,7 +23,8 @@ pub fn explain(alloc: Global, refusal: &Refusal, inputs: &Inputs<'_>) -> Result<
 }
 
 /// What to do after a search, in a few sentences, each a line. Of one that ended without a proof: what its plan is good
-/// for, what it has proved of every plan, what would help, and how it is gone on with. Of any: that its certificate, if
+/// for, what it has proved of every plan, what would help, also where it took as much as may be asked for (`is_most`), and
+/// how it is gone on with. Of any: that its certificate, if
 /// one was written, has more than the 67,108,864 bytes that are read again.
 ///
 /// Whatever the path holds, the text has nothing but printable ASCII and line feeds, as `explain` says it. Only want of
@@ -31,10 +32,11 @@ pub fn explain(alloc: Global, refusal: &Refusal, inputs: &Inputs<'_>) -> Result<
 pub fn advice(
     alloc: Global,
     ending: Option<Ending>,
-    written: Option<Written<'_>>,
+    filed: Filed<'_>,
+    is_most: bool,
 ) -> Result<String, AllocError>
     ensures { IfOk result (λ told. All IsPlain (string_bytes told)) }
 {
-    let sentences = counsel(alloc, ending, written)?;
+    let sentences = counsel(alloc, ending, filed, is_most)?;
     plain_text(alloc, sentences.as_str())
 }

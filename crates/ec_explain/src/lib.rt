@@ -4,6 +4,6 @@
 mod explaining;
 mod plain;
 
-pub use ec_remarks::{Inputs, Written};
+pub use ec_remarks::{Filed, Inputs, Written};
 pub use explaining::{advice, explain};
 pub use plain::plain_text;

@@ -17,7 +17,7 @@ some-none h = absurd cc
 pub reads_cert : (l : Line) (path : String Global) → cert_of l ≡ Some path → ReadsSomeCert (job_of l)
 reads_cert (line.Cost None svg) path is = absurd (none-some is)
 reads_cert (line.Cost (Some cert) svg) path is = tt
-reads_cert (line.Plan effort out places) path is = absurd (none-some is)
+reads_cert (line.Plan effort strong out places) path is = absurd (none-some is)
 reads_cert (line.Resume cert effort out places) path is = tt
 reads_cert (line.Check cert) path is = tt
 reads_cert (line.Frames cert None header table report) path is = tt
@@ -28,7 +28,7 @@ reads_cert (line.Play cert) path is = tt
 pub needs_none : (l : Line) → cert_of l ≡ None → HasInput (job_of l) None
 needs_none (line.Cost None svg) is = refl
 needs_none (line.Cost (Some cert) svg) is = absurd (some-none is)
-needs_none (line.Plan effort out places) is = refl
+needs_none (line.Plan effort strong out places) is = refl
 needs_none (line.Resume cert effort out places) is = absurd (some-none is)
 needs_none (line.Check cert) is = absurd (some-none is)
 needs_none (line.Frames cert None header table report) is = tt

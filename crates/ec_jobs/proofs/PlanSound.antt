@@ -1,5 +1,5 @@
 -- What a plan tells is true.
-use Rattle.std.proofs.Common.{◌≡◌, ℕ, ◌≤◌, List, length, Option, Some, Result, Ok, refl, ap, subst, sym, ◌∙◌, inl, inr, arith}
+use Rattle.std.proofs.Common.{Bool, ◌≡◌, ℕ, ◌≤◌, List, length, Option, Some, Result, Ok, refl, ap, subst, sym, ◌∙◌, inl, inr, arith}
 use Rattle.std.specs.Prelude.{option_map}
 use Rattle.std.proofs.lemmas.List.{length-map}
 use Rattle.ec_units.specs.declared.slave.Place.{Place}
@@ -21,7 +21,8 @@ use Rattle.ec_cert.specs.Shapes.{cert_view, shape_of}
 use Rattle.ec_symmetry.specs.Orders.{IsOrder}
 use Rattle.ec_tree.specs.Trees.{LevelsBound}
 use Rattle.ec_checker.specs.Levels.{IsGreatestLevel}
-use Rattle.ec_workers.specs.Answers.{Asked, asked_beyond, IsOutcome}
+use Rattle.ec_outcome.specs.Searched.{searched_by}
+use Rattle.ec_workers.specs.Answers.{Asked, asked_beyond, IsOutcome, is_strong}
 use Rattle.ec_outcome.specs.declared.search.Outcome.{Outcome}
 use Rattle.ec_outcome.specs.declared.search.Outcome.TheVariants as outcome
 use Rattle.ec_refusals.specs.declared.refusal.Refusal.{Refusal}
@@ -45,22 +46,22 @@ refusal_true bytes w cert r is =
     )
 
 -- a level that a search has proved bounds every legal plan
-level_bounds : LevelsBound → (us : Units) (order : List ℕ) (best : Option Best) (tree : Shape) (l : ℕ) → IsOrder (length us.units) order
-    → IsGreatestLevel (line_by turned_time (loads_of us.units) us.slots) (value_of best) tree order l → BoundsAll (loads_of us.units) us.slots (Some l)
-level_bounds levels us order best tree l is greatest =
-    levels (line_by turned_time (loads_of us.units) us.slots) (value_of best) l tree order (AreLoads-loads_of us.units) (subst (λ k. IsOrder k order) (sym (length-map us.units load_of)) is) greatest.shows
+level_bounds : LevelsBound → (us : Units) (strong : Bool) (order : List ℕ) (best : Option Best) (tree : Shape) (l : ℕ) → IsOrder (length us.units) order
+    → IsGreatestLevel (line_by (searched_by strong) (loads_of us.units) us.slots) (value_of best) tree order l → BoundsAll (loads_of us.units) us.slots (Some l)
+level_bounds levels us strong order best tree l is greatest =
+    levels (line_by (searched_by strong) (loads_of us.units) us.slots) (value_of best) l tree order (AreLoads-loads_of us.units) (subst (λ k. IsOrder k order) (sym (length-map us.units load_of)) is) greatest.shows
 
 pub some_same : (b c : ℕ) → Some b ≡ Some c → b ≡ c
 some_same b c h = cc
 
 -- the certificate of a search without a proof shows its level
-shown_at : (us : Units) (order : List ℕ) (best : Option Best) (tree : Shape) (level : Option ℕ) (l : ℕ) (cert : Option (List ℕ)) → level ≡ Some l
-    → cert ≡ option_map (λ m. certificate_text (partial_for us.units us.slots order best m tree)) level
-    → (m : ℕ) × (level ≡ Some m) × Shows us.units us.slots (partial_for us.units us.slots order best m tree) (verdict.AtLeast m) → IsShownBy us (verdict.AtLeast l) cert
-shown_at us order best tree level l cert is kept (m, also, shows) = (
-  partial_for us.units us.slots order best l tree,
-  kept ∙ ap (λ (o : Option ℕ). option_map (λ m. certificate_text (partial_for us.units us.slots order best m tree)) o) is,
-  subst (λ (k : ℕ). Shows us.units us.slots (partial_for us.units us.slots order best k tree) (verdict.AtLeast k)) (some_same m l (sym also ∙ is)) shows,
+shown_at : (us : Units) (strong : Bool) (order : List ℕ) (best : Option Best) (tree : Shape) (level : Option ℕ) (l : ℕ) (cert : Option (List ℕ)) → level ≡ Some l
+    → cert ≡ option_map (λ m. certificate_text (partial_for us.units us.slots strong order best m tree)) level
+    → (m : ℕ) × (level ≡ Some m) × Shows us.units us.slots (partial_for us.units us.slots strong order best m tree) (verdict.AtLeast m) → IsShownBy us (verdict.AtLeast l) cert
+shown_at us strong order best tree level l cert is kept (m, also, shows) = (
+  partial_for us.units us.slots strong order best l tree,
+  kept ∙ ap (λ (o : Option ℕ). option_map (λ m. certificate_text (partial_for us.units us.slots strong order best m tree)) o) is,
+  subst (λ (k : ℕ). Shows us.units us.slots (partial_for us.units us.slots strong order best k tree) (verdict.AtLeast k)) (some_same m l (sym also ∙ is)) shows,
 )
 
 -- the text of an outcome says what the outcome does
@@ -78,7 +79,7 @@ outcome_true levels asked bytes us (outcome.NoPlan c) level w cert said h proved
       λ one. (record { units = us; said = said; line = ap (λ (v : Written). v.text) is; none = h.none; shown = (cert_view c, kept, h.shows) }),
       λ two. absurd (omega (arith, code, two)),
     )
-outcome_true levels asked bytes us (outcome.Unproved best order tree why) level w cert said h proved is kept shows =
+outcome_true levels asked bytes us (outcome.Unproved best order tree strong why) level w cert said h proved is kept shows =
     let code : w.code ≡ 2 = ap (λ (v : Written). v.code) is in
     let text : w.text ≡ unproved_text us.units best why (Some proved.0) = ap (λ (v : Written). v.text) is ∙ ap (λ (o : Option ℕ). unproved_text us.units best why o) proved.1 in (
       λ zero. absurd (omega (arith, code, zero)),
@@ -91,8 +92,8 @@ outcome_true levels asked bytes us (outcome.Unproved best order tree why) level 
         level = proved.0;
         lines = text;
         legal = h.best_is;
-        bounds = level_bounds levels us order best (shape_of tree) proved.0 h.order_is proved.2;
-        shown = shown_at us order best (shape_of tree) level proved.0 cert proved.1 kept shows;
+        bounds = level_bounds levels us strong order best (shape_of tree) proved.0 h.order_is proved.2;
+        shown = shown_at us strong order best (shape_of tree) level proved.0 cert proved.1 kept shows;
       }),
     )
 
@@ -102,7 +103,7 @@ plan_true levels asked bytes w cert (inr h) = refusal_true bytes w cert h.refusa
 
 pub resume_true : LevelsBound → ResumeIsTrue
 resume_true levels workers nodes bytes text w cert (inl h) =
-    outcome_true levels (asked_beyond workers nodes h.answer.cert.tree) bytes h.units h.found h.level w cert h.answer.said h.answer.goes.answer h.shown h.text h.certificate h.shows
+    outcome_true levels (asked_beyond (is_strong h.answer.cert) workers nodes h.answer.cert.tree) bytes h.units h.found h.level w cert h.answer.said h.answer.goes.answer h.shown h.text h.certificate h.shows
 resume_true levels workers nodes bytes text w cert (inr h) = refusal_true bytes w cert h.refusal h.line
 
 -- the certificate of what was told, and its truth

@@ -50,7 +50,7 @@ true_or_false false = inr refl
 
 pub some_input : (j : Job) (text : List ℕ) → ReadsSomeCert j → HasInput j (Some text)
 some_input job.Cost text h = absurd h
-some_input (job.Plan workers nodes) text h = absurd h
+some_input (job.Plan workers nodes strong) text h = absurd h
 some_input (job.Resume workers nodes) text h = tt
 some_input job.Check text h = tt
 some_input job.Frames text h = tt

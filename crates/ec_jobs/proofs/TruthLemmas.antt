@@ -1,5 +1,5 @@
 -- What a run and a command line tell is true, from what they do.
-use Rattle.std.proofs.Common.{◌≡◌, ℕ, ◌≤◌, Global, List, Option, Some, None, inl, inr, ap, arith}
+use Rattle.std.proofs.Common.{Bool, ◌≡◌, ℕ, ◌≤◌, Global, List, Option, Some, None, inl, inr, ap, arith}
 use Rattle.std.specs.Prelude.{◌⊎◌, IfSome, String}
 use Rattle.ec_tree.specs.Trees.{TreesBound, LevelsBound}
 use Rattle.ec_wire.specs.declared.io.Io.{Io}
@@ -28,13 +28,13 @@ use Rattle.ec_jobs.proofs.SoundLemmas.{truth_refused, yes_true}
 
 -- of a search, with its file
 abbrev Searches : Job → Type 0
-Searches (job.Plan workers nodes) = Unit {0}
+Searches (job.Plan workers nodes strong) = Unit {0}
 Searches (job.Resume workers nodes) = Unit {0}
 Searches _ = ⊥
 
 search_true : LevelsBound → (j : Job) → Searches j → (bytes : List ℕ) (cert : Option (List ℕ)) (w : Written) (file : Option (List ℕ)) → IsTold j bytes cert w file → TellsTruth bytes w file
 search_true levels job.Cost is bytes cert w file h = absurd is
-search_true levels (job.Plan workers nodes) is bytes cert w file h = plan_true levels (asked_for workers nodes) bytes w file h
+search_true levels (job.Plan workers nodes strong) is bytes cert w file h = plan_true levels (asked_for strong workers nodes) bytes w file h
 search_true levels (job.Resume workers nodes) is bytes None w file h = absurd h
 search_true levels (job.Resume workers nodes) is bytes (Some text) w file h = resume_true levels workers nodes bytes text w file h
 search_true levels job.Check is bytes cert w file h = absurd is
@@ -77,11 +77,11 @@ got_true : {O : Type 0} (bytes : List ℕ) (w : Written) (out : Lent O) → (Has
     → IfLent out (Unit {0}) (λ o. HasFailed o → Refuses refusal.Write w) → IsTrueWith out w bytes
 got_true bytes w out told unwritten = got_at bytes w out.tells out.old out.new told unwritten
 
-plan_all : {O : Type 0} (levels : LevelsBound) (workers nodes : ℕ) (left : Option (List ℕ)) (out : Lent O) (w : Written)
-    → (HasNotFailed out → IfSome left (λ bytes. (file : Option (List ℕ)) × IsTold (job.Plan workers nodes) bytes None w file × IfLent out (Unit {0}) (λ o. Gets o.tells o.old o.new file)))
+plan_all : {O : Type 0} (levels : LevelsBound) (workers nodes : ℕ) (strong : Bool) (left : Option (List ℕ)) (out : Lent O) (w : Written)
+    → (HasNotFailed out → IfSome left (λ bytes. (file : Option (List ℕ)) × IsTold (job.Plan workers nodes strong) bytes None w file × IfLent out (Unit {0}) (λ o. Gets o.tells o.old o.new file)))
     → IfLent out (Unit {0}) (λ o. HasFailed o → Refuses refusal.Write w) → IfSome left (IsTrueWith out w)
-plan_all levels workers nodes None out w told unwritten = tt
-plan_all levels workers nodes (Some bytes) out w told unwritten = got_true bytes w out (λ fine. let h = told fine in (h.0, search_true levels (job.Plan workers nodes) tt bytes None w h.0 h.1, h.2)) unwritten
+plan_all levels workers nodes strong None out w told unwritten = tt
+plan_all levels workers nodes strong (Some bytes) out w told unwritten = got_true bytes w out (λ fine. let h = told fine in (h.0, search_true levels (job.Plan workers nodes strong) tt bytes None w h.0 h.1, h.2)) unwritten
 
 -- of a resumed search, whatever its certificate holds
 resume_all : {O : Type 0} (levels : LevelsBound) (workers nodes : ℕ) (left : Option (List ℕ)) (out : Lent O) (w : Written)
@@ -113,7 +113,7 @@ lent_there j cert none P Q needs has say h = known_at j cert.tells cert.old cert
 
 pub run_true : {R C O : Type 0} → TreesBound → LevelsBound → (j : Job) (u : Use R) (cert : Lent C) (out : Lent O) (w : Written) → HasCert j cert.old → DoesWith j u cert out w → RunIsTrue j u out w
 run_true trees levels job.Cost u cert out w has d = tt
-run_true trees levels (job.Plan workers nodes) u cert out w has d = λ sound. plan_all levels workers nodes (before u) out w (λ fine. d.0.told sound tt fine) d.0.unwritten
+run_true trees levels (job.Plan workers nodes strong) u cert out w has d = λ sound. plan_all levels workers nodes strong (before u) out w (λ fine. d.0.told sound tt fine) d.0.unwritten
 run_true trees levels (job.Resume workers nodes) u cert out w has d = λ sound.
     lent_there (job.Resume workers nodes) cert _ _ (IfSome (before u) (IsTrueWith out w)) (λ e. e) has (λ c h. resume_all levels workers nodes (before u) out w h) (d.some sound)
 run_true trees levels job.Check u cert out w has d = λ sound.
@@ -147,7 +147,7 @@ line_check trees levels from to (Some bytes) w (inr h) = check_true trees levels
 pub line_true : {R : Type 0} → TreesBound → LevelsBound → (l : Line) (u : Use R) (w : Written) → DoesLine l u w → LineIsTrue (job_of l) u w
 line_true trees levels (line.Cost None svg) u w d = tt
 line_true trees levels (line.Cost (Some cert) svg) u w d = tt
-line_true trees levels (line.Plan effort out places) u w d = λ sound. line_search levels (job.Plan effort.workers effort.nodes) tt None out (before u) w (d.told sound)
+line_true trees levels (line.Plan effort strong out places) u w d = λ sound. line_search levels (job.Plan effort.workers effort.nodes strong) tt None out (before u) w (d.told sound)
 line_true trees levels (line.Resume cert effort out places) u w d = λ sound. line_search levels (job.Resume effort.workers effort.nodes) tt (Some cert) out (before u) w (d.told sound)
 line_true trees levels (line.Check cert) u w d = λ sound. line_check trees levels cert None (before u) w (d.told sound)
 line_true trees levels (line.Frames cert None header table report) u w d = tt

@@ -43,7 +43,7 @@ pub record IsDelivered {O : Type 0} (answer : Result Told Refusal) (out : Use O)
 -- the job reads a certificate, or may
 abbrev pub ReadsSomeCert : Job → Type 0
 ReadsSomeCert job.Cost = ⊥
-ReadsSomeCert (job.Plan workers nodes) = ⊥
+ReadsSomeCert (job.Plan workers nodes strong) = ⊥
 ReadsSomeCert _ = Unit {0}
 
 -- one that is lent, and none
@@ -78,7 +78,7 @@ pub record Does {R C O : Type 0} (j : Job) (units : Use R) (cert : Lent C) (out 
 -- a cost and a plan leave the certificate, and a job that writes no file leaves the writer
 abbrev pub DoesWith : {R C O : Type 0} → Job → Use R → Lent C → Lent O → Written → Type 0
 DoesWith {R} {C} {O} job.Cost units cert out w = Does job.Cost units (nobody {X = C}) (nobody {X = O}) w × IsLeft cert × IsLeft out
-DoesWith {R} {C} {O} (job.Plan workers nodes) units cert out w = Does (job.Plan workers nodes) units (nobody {X = C}) out w × IsLeft cert
+DoesWith {R} {C} {O} (job.Plan workers nodes strong) units cert out w = Does (job.Plan workers nodes strong) units (nobody {X = C}) out w × IsLeft cert
 DoesWith {R} {C} {O} (job.Resume workers nodes) units cert out w = Does (job.Resume workers nodes) units cert out w
 DoesWith {R} {C} {O} job.Check units cert out w = Does job.Check units cert (nobody {X = O}) w × IsLeft out
 DoesWith {R} {C} {O} job.Frames units cert out w = Does job.Frames units cert (nobody {X = O}) w × IsLeft out
@@ -125,7 +125,7 @@ usage text = record { text = text; code = 5 }
 -- a check, the cost of a plan and a resumed search have a reader of a certificate, which has not failed, and frames and a play may have one
 abbrev pub HasCert : {C : Type 0} → Job → Option (Io C) → Type 0
 HasCert job.Cost cert = Unit {0}
-HasCert (job.Plan workers nodes) cert = Unit {0}
+HasCert (job.Plan workers nodes strong) cert = Unit {0}
 HasCert (job.Resume workers nodes) None = ⊥
 HasCert (job.Resume workers nodes) (Some cert) = has_failed cert ≡ false
 HasCert job.Check None = ⊥
@@ -147,7 +147,7 @@ NoneFailed (Some cert) = has_failed cert ≡ false
 -- the writer of a capture, if there is one, has not failed; of another job's nothing is asked
 abbrev pub HasOut : {O : Type 0} → Job → Option (Io O) → Type 0
 HasOut job.Cost out = Unit {0}
-HasOut (job.Plan workers nodes) out = Unit {0}
+HasOut (job.Plan workers nodes strong) out = Unit {0}
 HasOut (job.Resume workers nodes) out = Unit {0}
 HasOut job.Check out = Unit {0}
 HasOut job.Frames out = Unit {0}

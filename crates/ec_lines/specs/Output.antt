@@ -138,7 +138,7 @@ module _ (IsText : UnitsView → List Place → List ℕ → Type 0) where
 -- what a job that searches for nothing writes for units, and for the bytes of a certificate where it reads one
 abbrev pub IsUnitsOutput : Job → Option (List ℕ) → UnitsView → Written → Type 0
 IsUnitsOutput job.Cost cert v w = IsCostOutput v w
-IsUnitsOutput (job.Plan workers nodes) cert v w = ⊥
+IsUnitsOutput (job.Plan workers nodes strong) cert v w = ⊥
 IsUnitsOutput (job.Resume workers nodes) cert v w = ⊥
 IsUnitsOutput job.Check None v w = ⊥
 IsUnitsOutput job.Check (Some text) v w = IsCheckOutput v text w

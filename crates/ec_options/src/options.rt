@@ -37,6 +37,7 @@ enum Choice {
     Workers,
     Nodes,
     Minutes,
+    Strong,
     Out,
     Places,
     Progress,
@@ -44,7 +45,7 @@ enum Choice {
 }
 
 /// The options in the order of the help.
-const CHOICES: [Choice; 14] = [
+const CHOICES: [Choice; 15] = [
     Choice::Cert,
     Choice::Picture,
     Choice::Lose,
@@ -55,6 +56,7 @@ const CHOICES: [Choice; 14] = [
     Choice::Workers,
     Choice::Nodes,
     Choice::Minutes,
+    Choice::Strong,
     Choice::Out,
     Choice::Places,
     Choice::Progress,
@@ -102,6 +104,7 @@ fn has(verb: Verb, choice: Choice) -> bool {
         Choice::Lose => matches!(verb, Verb::Play),
         Choice::Capture => matches!(verb, Verb::Frames | Verb::Play),
         Choice::Header | Choice::Map | Choice::Report => matches!(verb, Verb::Frames),
+        Choice::Strong => matches!(verb, Verb::Plan),
         Choice::File => true,
         _ => matches!(verb, Verb::Plan | Verb::Resume),
     }
@@ -183,6 +186,14 @@ fn minutes_arg<'a>(alloc: Global) -> Arg<'a> {
         .help("After how many minutes the search ends, 1 to 10000, if it hasn't ended before")
 }
 
+/// Whether a search goes by the strong rules.
+fn strong_arg<'a>(alloc: Global) -> Arg<'a> {
+    Arg::new(alloc, "strong")
+        .long("strong")
+        .action(ArgAction::SetTrue)
+        .help("Search by stronger rules, which prove more; the certificate is of version 4")
+}
+
 /// Whether the progress is told in any case.
 fn progress_arg<'a>(alloc: Global) -> Arg<'a> {
     Arg::new(alloc, "progress")
@@ -241,6 +252,7 @@ fn arg_of<'a>(alloc: Global, verb: Verb, choice: Choice) -> Arg<'a> {
         Choice::Workers => workers_arg(alloc),
         Choice::Nodes => nodes_arg(alloc),
         Choice::Minutes => minutes_arg(alloc),
+        Choice::Strong => strong_arg(alloc),
         Choice::Progress => progress_arg(alloc),
         Choice::File => file_arg(alloc),
     }

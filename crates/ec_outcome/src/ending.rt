@@ -11,4 +11,6 @@ pub struct Ending {
     pub cut: Cut,
     /// What the busiest tick of every legal plan costs at least.
     pub level: u64,
+    /// Whether it went by the strong rules.
+    pub strong: bool,
 }

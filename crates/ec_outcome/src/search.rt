@@ -31,11 +31,13 @@ pub enum Outcome {
     NoPlan {
         cert: Cert,
     },
-    /// The best plan that was found, if any, and the tree so far, in this order of the units.
+    /// The best plan that was found, if any, and the tree so far, in this order of the units; whether it goes by the strong
+    /// rules.
     Unproved {
         best: Option<Best>,
         order: Order,
         tree: Tree,
+        strong: bool,
         cut: Cut,
     },
 }

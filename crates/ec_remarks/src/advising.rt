@@ -8,6 +8,10 @@ use std::alloc::{AllocError, Global};
 /// The most bytes of a certificate that are read.
 const MOST_READ: u64 = 67_108_864;
 
+/// What to try where a search didn't go by the strong rules.
+const STRONGER: &str =
+    "The command plan --strong searches by stronger rules, and may end with a proof.\n";
+
 /// A certificate that was written.
 #[derive(Clone, Copy)]
 pub struct Written<'a> {
@@ -22,6 +26,17 @@ impl<'a> Written<'a> {
     fn is_too_large(self) -> bool {
         self.bytes > MOST_READ
     }
+}
+
+/// What became of the certificate of a search.
+#[derive(Clone, Copy)]
+pub enum Filed<'a> {
+    /// None was asked for.
+    Unasked,
+    /// It isn't at its path, which was told.
+    Missing,
+    /// It was written.
+    There(Written<'a>),
 }
 
 /// Whether no plan is better than the one that was found.
@@ -97,15 +112,32 @@ fn help_for(ending: Ending) -> &'static str {
     }
 }
 
+/// What would help where a search took as many nodes or minutes as may be asked for, by what was found.
+fn help_beyond(ending: Ending) -> &'static str {
+    match ending.cut {
+        Cut::Budget =>
+            "All nodes were spent, as many as one search may visit: resume goes on from its certificate.\n",
+        Cut::Time =>
+            "The time was over, as much as one search may take: resume goes on from its certificate.\n",
+        Cut::Memory | Cut::Journal => help_for(ending),
+    }
+}
+
+/// Whether a search by the strong rules may end with a proof where this one didn't.
+fn may_be_proved(ending: Ending) -> bool {
+    !ending.strong && ending.cut != Cut::Journal
+}
+
 /// Adds how the search is gone on with, by its certificate.
-fn add_resume(out: &mut Draft, written: Option<Written<'_>>) {
-    match written {
-        Some(cert) => {
+fn add_resume(out: &mut Draft, filed: Filed<'_>) {
+    match filed {
+        Filed::There(cert) => {
             out.add("The command resume --cert ");
             add_quoted(out, cert.path.as_bytes());
             out.add(" goes on with this search, and counts new nodes alone.\n");
         }
-        None => out.add(
+        Filed::Missing => {}
+        Filed::Unasked => out.add(
             "With --out PATH its certificate is written, and the command resume --cert PATH goes on with that.\n",
         ),
     }
@@ -122,30 +154,40 @@ fn add_size(out: &mut Draft, cert: Written<'_>) {
     out.add("A smaller --nodes gives a smaller one.\n");
 }
 
-/// Adds what a search without a proof is good for, and what would help it.
-fn add_unproved(out: &mut Draft, ending: Ending) {
+/// Adds what a search without a proof is good for, and what would help it, which took as much as may be asked for where
+/// `is_most` says so.
+fn add_unproved(out: &mut Draft, ending: Ending, is_most: bool) {
     if ending.best.is_some() {
         out.add("The plan is legal and can be used as it stands.\n");
     }
     add_level(out, ending);
-    out.add(help_for(ending));
+    out.add(if is_most {
+        help_beyond(ending)
+    } else {
+        help_for(ending)
+    });
+    if may_be_proved(ending) {
+        out.add(STRONGER);
+    }
 }
 
 /// What to do after a search, in a few sentences, each a line. Of one that ended without a proof: what the plan is good
-/// for, what is proved of every plan, what would help, and how the search is gone on with. Of any: that its certificate,
+/// for, what is proved of every plan, what would help, also where it took as much as may be asked for (`is_most`), and how
+/// the search is gone on with. Of any: that its certificate,
 /// if one was written, has more bytes than are read again. Only want of memory is an error (own profile).
 pub fn counsel(
     alloc: Global,
     ending: Option<Ending>,
-    written: Option<Written<'_>>,
+    filed: Filed<'_>,
+    is_most: bool,
 ) -> Result<String, AllocError> {
     let mut out = Draft::new(alloc);
     if let Some(ending) = ending {
-        add_unproved(&mut out, ending);
+        add_unproved(&mut out, ending, is_most);
     }
-    match (ending, written) {
-        (_, Some(cert)) if cert.is_too_large() => add_size(&mut out, cert),
-        (Some(_), _) => add_resume(&mut out, written),
+    match (ending, filed) {
+        (_, Filed::There(cert)) if cert.is_too_large() => add_size(&mut out, cert),
+        (Some(_), _) => add_resume(&mut out, filed),
         (None, _) => {}
     }
     out.finish()

@@ -1,6 +1,6 @@
 -- Two cursors, one over a log and one over receipts.
 -- The invariant is what is left of both (`Goes`); an entry of the worker takes one from each.
-use Rattle.std.proofs.Common.{◌≡◌, ◌≢◌, ℕ, zero, suc, ◌+◌, ◌<◌, ◌≤◌, ◌==◌, true, false, Bool, cond, List, [], ◌∷◌, length, drop, get_or, filter, map, refl, sym, ap, ◌∙◌, subst, arith, drop-cons, drop_of_length-le, add-one}
+use Rattle.std.proofs.Common.{◌≡◌, ◌≢◌, ℕ, zero, suc, ◌+◌, ◌<◌, ◌≤◌, ◌==◌, true, List, [], ◌∷◌, length, drop, get_or, filter, map, refl, sym, ap, ◌∙◌, arith, drop-cons, drop_of_length-le, add-one}
 use Rattle.std.specs.Prelude.{◌↔◌}
 use Rattle.std.specs.List.{list_any}
 use Rattle.std.proofs.lemmas.Bool.{eq-eqb, ne_eqb, or_right}

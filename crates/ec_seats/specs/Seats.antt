@@ -4,7 +4,7 @@ use Rattle.ec_units.specs.declared.slave.Place.{Place}
 use Rattle.ec_units.specs.declared.unit.Load.{Load}
 use Rattle.ec_units.specs.declared.unit.Unit.{Unit as SyncUnit}
 use Rattle.ec_units.specs.Load.{loads_of}
-use Rattle.ec_loads.specs.Line.{turned_time, line_by}
+use Rattle.ec_loads.specs.Line.{Rules, line_by}
 use Rattle.ec_loads.specs.Legal.{IsIllegalBy}
 use Rattle.ec_loads.specs.Search.{node_count}
 use Rattle.ec_loads.specs.Shape.{Shape}
@@ -49,25 +49,26 @@ pub record AreOf (loads : List Load) (n : ℕ) (order : List ℕ) (units : List 
 abbrev pub IsOf : List Load → ℕ → List ℕ → SeatView → Type 0
 IsOf loads n order s = AreOf loads n order s.units s.slots s.order
 
--- a book for these loads, this slot count and this order
-pub record IsFor (loads : List Load) (n : ℕ) (order : List ℕ) (b : BookView) : Type 0 where
+-- a book for these loads, this slot count, this order and these rules
+pub record IsFor (loads : List Load) (n : ℕ) (order : List ℕ) (rules : Rules) (b : BookView) : Type 0 where
   pub loads_is : b.loads ≡ loads
   pub slots_is : b.slots ≡ n
   pub order_is : b.order ≡ order
+  pub rules_is : b.rules ≡ rules
 
 -- some book for these, whose search was given this tree, this value and so many nodes, has it, with a legal history and with a best plan, if any, that is legal and costs what is
 -- stated
-pub record HasBook (loads : List Load) (n : ℕ) (order : List ℕ) (given : Shape) (value : Option ℕ) (nodes : ℕ) (fact : BookView → Type 0) : Type 0 where
+pub record HasBook (loads : List Load) (n : ℕ) (order : List ℕ) (rules : Rules) (given : Shape) (value : Option ℕ) (nodes : ℕ) (fact : BookView → Type 0) : Type 0 where
   pub book : BookView
-  pub for : IsFor loads n order book
+  pub for : IsFor loads n order rules book
   pub began : BeganWith given value nodes book
   pub history : IsHistory book.nodes (opening book) book.log (state_of book)
   pub best : IsBestPlan book.loads book.slots book.best
   pub has : fact book
 
--- the same of the seat's units and order
-abbrev pub HasSeatBook : SeatView → Shape → Option ℕ → ℕ → (BookView → Type 0) → Type 0
-HasSeatBook s given value nodes fact = HasBook (loads_of s.units) s.slots s.order given value nodes fact
+-- the same of the seat's units and order, and these rules
+abbrev pub HasSeatBook : SeatView → Rules → Shape → Option ℕ → ℕ → (BookView → Type 0) → Type 0
+HasSeatBook s rules given value nodes fact = HasBook (loads_of s.units) s.slots s.order rules given value nodes fact
 
 -- the seat with one more step
 abbrev pub noted : SeatView → Step → SeatView
@@ -77,11 +78,11 @@ noted s e = record s { receipts = s.receipts ++ e ∷ [] }
 abbrev pub after_taken : SeatView → Handed → SeatView
 after_taken s t = record s { receipts = taken_steps s.receipts s.worker t }
 
--- the seat after the report of a subtree: one more step, and the subtree's nodes in its share
-abbrev pub IsReported : SeatView → ℕ → List Place → Shape → SeatView → Type 0
-IsReported s piece prefix tree new =
+-- the seat after the report of a subtree, by these rules: one more step, and the subtree's nodes in its share
+abbrev pub IsReported : SeatView → Rules → ℕ → List Place → Shape → SeatView → Type 0
+IsReported s rules piece prefix tree new =
     (first : ℕ) × (new ≡ record s {
-      receipts = s.receipts ++ (Reported s.worker piece (node_count tree) first (length (open_places (line_by turned_time (loads_of s.units) s.slots) s.order tree prefix))) ∷ [];
+      receipts = s.receipts ++ (Reported s.worker piece (node_count tree) first (length (open_places (line_by rules (loads_of s.units) s.slots) s.order tree prefix))) ∷ [];
       nodes = s.nodes + node_count tree;
     })
 
@@ -90,9 +91,9 @@ abbrev pub IsSeatFault : Type 0 → (BookFault → Type 0) → BookFault → Typ
 IsSeatFault ours why e = (ours × why e) ⊎ ((¬ ours) × (e ≡ fault.Stranger))
 
 -- why a plan is refused from a seat: it isn't legal; else, of some book, it isn't better, or memory was refused
-abbrev pub IsSeatPlanFault : SeatView → Shape → Option ℕ → ℕ → List Place → BookFault → Type 0
-IsSeatPlanFault s given value nodes plan (fault.Illegal i) = IsIllegalBy (loads_of s.units) s.slots plan i
-IsSeatPlanFault s given value nodes plan e = (v : ℕ) × IsPlanOf (loads_of s.units) s.slots plan v × HasSeatBook s given value nodes (λ b. IsOfferFault (value_of b.best) v e)
+abbrev pub IsSeatPlanFault : SeatView → Rules → Shape → Option ℕ → ℕ → List Place → BookFault → Type 0
+IsSeatPlanFault s rules given value nodes plan (fault.Illegal i) = IsIllegalBy (loads_of s.units) s.slots plan i
+IsSeatPlanFault s rules given value nodes plan e = (v : ℕ) × IsPlanOf (loads_of s.units) s.slots plan v × HasSeatBook s rules given value nodes (λ b. IsOfferFault (value_of b.best) v e)
 
 -- why a piece isn't given back: it isn't the worker's by the book; or it is, and the worker doesn't hold it by its own steps
 abbrev pub IsBackFault : Bool → BookView → ℕ → ℕ → BookFault → Type 0

@@ -3,7 +3,7 @@
 ghost use Rattle.std.specs.Prelude.{◌≡◌, ℕ, ◌+◌, ◌<◌, ◌≤◌, ◌++◌, ◌∷◌, [], List, IfOk, IfErr, OnOk, OnErr, IsSome, Some, length, drop, true};
 ghost use Rattle.std.specs.Coded.{Coded-set};
 ghost use Rattle.std.proofs.Props.{props};
-ghost use Rattle.ec_loads.specs.Line.{turned_time, line_by};
+ghost use Rattle.ec_loads.specs.Line.{line_by};
 ghost use Rattle.ec_loads.specs.Search.{IsPartialTree, node_count as node_count_of};
 ghost use Rattle.ec_cert.specs.BestPlan.{value_of};
 ghost use Rattle.ec_cert.specs.Shapes.{shape_of};
@@ -12,6 +12,7 @@ ghost use Rattle.ec_book.specs.declared.fault.BookFault.TheVariants.{OutOfMemory
 ghost use Rattle.ec_book.specs.declared.step.Step.{Step as StepSpec};
 ghost use Rattle.ec_book.specs.declared.step.Step.TheVariants.{Reported};
 ghost use Rattle.ec_book.specs.ShapeCode.{shape_code};
+ghost use Rattle.ec_book.specs.RulesCode.{rules_code};
 ghost use Rattle.ec_book.specs.Steps.{IsBelow};
 ghost use Rattle.ec_book.specs.Open.{open_places, AreOpened};
 ghost use Rattle.ec_book.specs.Views.{BookView, after_report, after_better, after_back};
@@ -35,6 +36,7 @@ pub(crate) struct Locked<S: Search> {
     pub ghost loads_is: { book.loads ≡ S.loads },
     pub ghost slots_is: { book.slots ≡ S.slots },
     pub ghost order_is: { book.order ≡ S.order },
+    pub ghost rules_is: { book.rules ≡ S.rules } by { Coded-set rules_code book.rules S.rules },
     pub ghost given_is: { book.given ≡ S.given } by { Coded-set shape_code book.given S.given },
     pub ghost value_is: { book.given_value ≡ S.given_value } by { Prim.hlevel props },
     pub ghost nodes_is: { book.nodes ≡ S.nodes },
@@ -62,7 +64,7 @@ fn offer_fault(value: Option<u64>, busiest: u64) -> BookFault
 
 /// That the book is one for the search.
 fn know<S: Search>(locked: &Locked<S>)
-    ensures { HasBook S.loads S.slots S.order S.given S.given_value S.nodes (λ b. b ≡ locked.now.book) }
+    ensures { HasBook S.loads S.slots S.order S.rules S.given S.given_value S.nodes (λ b. b ≡ locked.now.book) }
 {
     let _ = locked.book.log();
     let _ = locked.book.value();
@@ -74,7 +76,7 @@ impl<S: Search> Locked<S> {
         requires { 1 ≤ most }
         ensures book { IfOk result (λ t. IsHandedOut self.old.book worker most t self.new.book) }
         ensures left { OnErr result (self.new.book ≡ self.old.book) }
-        ensures some { IfOk result (λ t. HasBook S.loads S.slots S.order S.given S.given_value S.nodes (λ b. (n : BookView) × IsHandedOut b worker most t n)) }
+        ensures some { IfOk result (λ t. HasBook S.loads S.slots S.order S.rules S.given S.given_value S.nodes (λ b. (n : BookView) × IsHandedOut b worker most t n)) }
         ensures err { IfErr result (λ e. e ≡ OutOfMemory) }
     {
         know(self);
@@ -96,8 +98,8 @@ impl<S: Search> Locked<S> {
         ensures book { IfOk result (λ t. IsPieceHandedOut self.old.book worker piece most t self.new.book) }
         ensures left { OnErr result (self.new.book ≡ self.old.book) }
         ensures room { OnOk result (room ≡ true) }
-        ensures some { IfOk result (λ t. HasBook S.loads S.slots S.order S.given S.given_value S.nodes (λ b. (n : BookView) × IsPieceHandedOut b worker piece most t n)) }
-        ensures err { IfErr result (λ e. HasBook S.loads S.slots S.order S.given S.given_value S.nodes (λ b. IsPieceFault b piece e)) }
+        ensures some { IfOk result (λ t. HasBook S.loads S.slots S.order S.rules S.given S.given_value S.nodes (λ b. (n : BookView) × IsPieceHandedOut b worker piece most t n)) }
+        ensures err { IfErr result (λ e. HasBook S.loads S.slots S.order S.rules S.given S.given_value S.nodes (λ b. IsPieceFault b piece e)) }
     {
         know(self);
         if !room {
@@ -123,8 +125,8 @@ impl<S: Search> Locked<S> {
         ensures book { OnOk result (self.new.book ≡ after_better self.old.book worker best) }
         ensures left { OnErr result (self.new.book ≡ self.old.book) }
         ensures room { OnOk result (room ≡ true) }
-        ensures below { OnOk result (HasBook S.loads S.slots S.order S.given S.given_value S.nodes (λ b. IsBelow best.busiest (value_of b.best))) }
-        ensures err { IfErr result (λ e. (e.1 ≡ best) × HasBook S.loads S.slots S.order S.given S.given_value S.nodes (λ b. IsOfferFault (value_of b.best) best.busiest e.0)) }
+        ensures below { OnOk result (HasBook S.loads S.slots S.order S.rules S.given S.given_value S.nodes (λ b. IsBelow best.busiest (value_of b.best))) }
+        ensures err { IfErr result (λ e. (e.1 ≡ best) × HasBook S.loads S.slots S.order S.rules S.given S.given_value S.nodes (λ b. IsOfferFault (value_of b.best) best.busiest e.0)) }
     {
         know(self);
         if !room {
@@ -141,8 +143,8 @@ impl<S: Search> Locked<S> {
         ensures book { OnOk result (self.new.book ≡ after_back self.old.book worker piece) }
         ensures left { OnErr result (self.new.book ≡ self.old.book) }
         ensures holds { OnOk result (holds ≡ true) }
-        ensures held { OnOk result (HasBook S.loads S.slots S.order S.given S.given_value S.nodes (λ b. (g : ℕ) × IsTakenBy b.pieces worker piece g)) }
-        ensures err { IfErr result (λ e. HasBook S.loads S.slots S.order S.given S.given_value S.nodes (λ b. IsBackFault holds b worker piece e)) }
+        ensures held { OnOk result (HasBook S.loads S.slots S.order S.rules S.given S.given_value S.nodes (λ b. (g : ℕ) × IsTakenBy b.pieces worker piece g)) }
+        ensures err { IfErr result (λ e. HasBook S.loads S.slots S.order S.rules S.given S.given_value S.nodes (λ b. IsBackFault holds b worker piece e)) }
     {
         know(self);
         if !holds {
@@ -167,18 +169,18 @@ impl<S: Search> Locked<S> {
         counted: Counted,
     ) -> Result<Step, (BookFault, Counted)>
         requires part { 0 < share.old.parts }
-        requires tree { IsPartialTree (line_by turned_time S.loads S.slots) counted.sub.threshold (shape_of counted.sub.tree) (prefix_of S.loads S.order prefix.now) (drop (length prefix.now) S.order) }
+        requires tree { IsPartialTree (line_by S.rules S.loads S.slots) counted.sub.threshold (shape_of counted.sub.tree) (prefix_of S.loads S.order prefix.now) (drop (length prefix.now) S.order) }
         requires some { 0 < node_count_of (shape_of counted.sub.tree) }
-        requires opened { AreOpened (line_by turned_time S.loads S.slots) S.order (shape_of counted.sub.tree) prefix.now counted.opened }
-        ensures book { OnOk result (self.new.book ≡ after_report self.old.book worker piece (node_count_of (shape_of counted.sub.tree)) (open_places (line_by turned_time S.loads S.slots) S.order (shape_of counted.sub.tree) prefix.now)) }
+        requires opened { AreOpened (line_by S.rules S.loads S.slots) S.order (shape_of counted.sub.tree) prefix.now counted.opened }
+        ensures book { OnOk result (self.new.book ≡ after_report self.old.book worker piece (node_count_of (shape_of counted.sub.tree)) (open_places (line_by S.rules S.loads S.slots) S.order (shape_of counted.sub.tree) prefix.now)) }
         ensures left { OnErr result (self.new.book ≡ self.old.book) }
         ensures known { OnOk result (IsSome counted.opened) }
-        ensures step { IfOk result (λ e. (first : ℕ) × (e ≡ Reported worker piece (node_count_of (shape_of counted.sub.tree)) first (length (open_places (line_by turned_time S.loads S.slots) S.order (shape_of counted.sub.tree) prefix.now)))) }
-        ensures welcome { OnOk result (HasBook S.loads S.slots S.order S.given S.given_value S.nodes (λ b. (g : ℕ) × IsWelcome b.pieces b.prefixes (value_of b.best) worker piece prefix.now counted.sub.threshold (node_count_of (shape_of counted.sub.tree)) g)) }
+        ensures step { IfOk result (λ e. (first : ℕ) × (e ≡ Reported worker piece (node_count_of (shape_of counted.sub.tree)) first (length (open_places (line_by S.rules S.loads S.slots) S.order (shape_of counted.sub.tree) prefix.now)))) }
+        ensures welcome { OnOk result (HasBook S.loads S.slots S.order S.rules S.given S.given_value S.nodes (λ b. (g : ℕ) × IsWelcome b.pieces b.prefixes (value_of b.best) worker piece prefix.now counted.sub.threshold (node_count_of (shape_of counted.sub.tree)) g)) }
         ensures amount { OnOk result (share.new.amount ≡ share.old.amount + node_count_of (shape_of counted.sub.tree)) }
         ensures kept { OnErr result (share.new.amount ≡ share.old.amount) }
         ensures parts { share.new.parts ≡ share.old.parts }
-        ensures some { HasBook S.loads S.slots S.order S.given S.given_value S.nodes (λ b. b ≡ self.old.book) }
+        ensures some { HasBook S.loads S.slots S.order S.rules S.given S.given_value S.nodes (λ b. b ≡ self.old.book) }
         ensures err { IfErr result (λ e. (e.1.sub ≡ counted.sub) × IsReportFault self.old.book.pieces self.old.book.prefixes (value_of self.old.book.best) worker piece prefix.now counted.sub.threshold (node_count_of (shape_of counted.sub.tree)) e.0) }
     {
         know(self);

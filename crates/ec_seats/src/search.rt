@@ -2,20 +2,23 @@
 
 ghost use Rattle.std.specs.Prelude.{ℕ, List, [], Option, None};
 ghost use Rattle.ec_units.specs.declared.unit.Load.{Load};
+ghost use Rattle.ec_loads.specs.Line.{Rules, slots_alone};
 ghost use Rattle.ec_loads.specs.Shape.{Shape, open_leaf};
 
 use std::marker::Brand;
 use std::sync::ledger::Ledger;
 
 /// The search that a ledger counts the nodes of: the bytes and periods of its units, its slot count, the order in
-/// which the units get their places, the tree and the value that it was given, and how many nodes it may split or close. Only
-/// contracts see it.
+/// which the units get their places, the rules by which its trees are made, the tree and the value that it was given, and
+/// how many nodes it may split or close. Only contracts see it.
 pub trait Search: Ledger {
     ghost loads: { List Load };
 
     ghost slots: { ℕ };
 
     ghost order: { List ℕ };
+
+    ghost rules: { Rules };
 
     ghost given: { Shape };
 
@@ -30,6 +33,8 @@ impl Search for Brand {
     ghost slots = { 0 };
 
     ghost order = { [] };
+
+    ghost rules = { slots_alone };
 
     ghost given = { open_leaf };
 

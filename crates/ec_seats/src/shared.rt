@@ -1,13 +1,16 @@
 //! A book under a lock.
 
+ghost use Rattle.std.specs.Coded.{Coded-set};
 ghost use Rattle.std.specs.Prelude.{◌≡◌, ◌⊎◌, ◌↔◌, ℕ, ◌+◌, ◌<◌, ◌≤◌, IsTrue, IfOk, IfErr, OnOk, IsSome, true, [], length, drop, vec_len};
 ghost use Rattle.ec_units.specs.Load.{loads_of};
-ghost use Rattle.ec_loads.specs.Line.{turned_time, line_by};
+ghost use Rattle.ec_loads.specs.Line.{line_by};
 ghost use Rattle.ec_loads.specs.Search.{IsPartialTree, node_count as node_count_of};
 ghost use Rattle.ec_cert.specs.BestPlan.{value_of};
 ghost use Rattle.ec_cert.specs.Shapes.{shape_of};
 ghost use Rattle.ec_symmetry.specs.Orders.{IsOrder, prefix_of};
+ghost use Rattle.ec_symmetry.specs.Ruled.{line_rules};
 ghost use Rattle.ec_book.specs.Books.{IsBookOf, BeganWith};
+ghost use Rattle.ec_book.specs.RulesCode.{rules_code};
 ghost use Rattle.ec_book.specs.declared.fault.BookFault.TheVariants.{OutOfMemory};
 ghost use Rattle.ec_book.specs.declared.step.Step.TheVariants.{Better, Back};
 ghost use Rattle.ec_book.specs.Steps.{IsBelow};
@@ -25,6 +28,7 @@ use crate::seat::Seat;
 use ec_book::{Book, BookFault, Counted, Step, Taken, empty_logs_spend_nothing};
 use ec_cert::{Best, Subtree};
 use ec_loads::{Loads, Plan, busiest, is_legal};
+use ec_symmetry::Rules;
 use ec_units::{Place, Units};
 use std::alloc::{AllocError, Global};
 use std::sync::ledger::Blank;
@@ -37,9 +41,11 @@ pub struct Shared<S: Search> {
     pub(crate) lock: Mutex<Locked<S>>,
     pub(crate) loads: Loads,
     pub(crate) order: Vec<u8>,
+    pub(crate) rules: Rules,
     pub ghost loads_is: { loads.loads ≡ S.loads },
     pub ghost slots_is: { loads.slots ≡ S.slots },
     pub ghost order_is: { order.items ≡ S.order },
+    pub ghost rules_is: { line_rules rules ≡ S.rules } by { Coded-set rules_code (line_rules rules) S.rules },
 }
 
 impl<S: Search> Shared<S> {
@@ -58,7 +64,7 @@ impl<S: Search> Shared<S> {
         requires few { (1 ≤ seats) × (seats ≤ 16) }
         requires order { IsOrder (length units.now.units) order.now }
         requires search { AreOf S.loads S.slots S.order units.now.units units.now.slots order.now }
-        requires book { IsBookOf units.now.units units.now.slots order.now book }
+        requires book { IsBookOf units.now.units units.now.slots order.now S.rules book }
         requires began { BeganWith S.given S.given_value S.nodes book }
         requires unused { book.log ≡ [] }
         ensures count { IfOk result (λ r. vec_len r.1 ≡ seats) }
@@ -79,6 +85,7 @@ impl<S: Search> Shared<S> {
         };
         empty_logs_spend_nothing();
         let _ = book.log();
+        let rules = book.rules();
         let (total, mut spare) = blank.open::<S>();
         for worker in 0..seats {
             let share = spare.split_off(1, 0);
@@ -96,9 +103,17 @@ impl<S: Search> Shared<S> {
                 lock,
                 loads,
                 order: copy,
+                rules,
             },
             all,
         ))
+    }
+
+    /// The rules by which the search makes its tree.
+    pub fn rules(&self) -> Rules
+        ensures { line_rules result ≡ S.rules }
+    {
+        self.rules
     }
 
     /// Whether the seat is for the units and the order of the book.
@@ -123,7 +138,7 @@ impl<S: Search> Shared<S> {
     ) -> Result<Taken, BookFault>
         requires { 1 ≤ most }
         ensures ours { OnOk result (IsOf S.loads S.slots S.order seat.old) }
-        ensures took { IfOk result (λ t. HasSeatBook seat.old S.given S.given_value S.nodes (λ b. (n : BookView) × IsHandedOut b seat.old.worker most t n)) }
+        ensures took { IfOk result (λ t. HasSeatBook seat.old S.rules S.given S.given_value S.nodes (λ b. (n : BookView) × IsHandedOut b seat.old.worker most t n)) }
         ensures made { IfOk result (λ t. seat.new ≡ after_taken seat.old t) }
         ensures err { IfErr result (λ e. IsSeatFault (IsOf S.loads S.slots S.order seat.old) (λ f. f ≡ OutOfMemory) e × (seat.new ≡ seat.old)) }
     {
@@ -153,9 +168,9 @@ impl<S: Search> Shared<S> {
     ) -> Result<Taken, BookFault>
         requires { 1 ≤ most }
         ensures ours { OnOk result (IsOf S.loads S.slots S.order seat.old) }
-        ensures took { IfOk result (λ t. HasSeatBook seat.old S.given S.given_value S.nodes (λ b. (n : BookView) × IsPieceHandedOut b seat.old.worker piece most t n)) }
+        ensures took { IfOk result (λ t. HasSeatBook seat.old S.rules S.given S.given_value S.nodes (λ b. (n : BookView) × IsPieceHandedOut b seat.old.worker piece most t n)) }
         ensures made { IfOk result (λ t. seat.new ≡ after_taken seat.old t) }
-        ensures err { IfErr result (λ e. IsSeatFault (IsOf S.loads S.slots S.order seat.old) (λ f. HasSeatBook seat.old S.given S.given_value S.nodes (λ b. IsPieceFault b piece f)) e × (seat.new ≡ seat.old)) }
+        ensures err { IfErr result (λ e. IsSeatFault (IsOf S.loads S.slots S.order seat.old) (λ f. HasSeatBook seat.old S.rules S.given S.given_value S.nodes (λ b. IsPieceFault b piece f)) e × (seat.new ≡ seat.old)) }
     {
         if !self.is_for(seat) {
             return Err(BookFault::Stranger);
@@ -183,8 +198,8 @@ impl<S: Search> Shared<S> {
     ) -> Result<(), (BookFault, Plan)>
         ensures ours { OnOk result (IsOf S.loads S.slots S.order seat.old) }
         ensures made { OnOk result ((v : ℕ) × IsPlanOf (loads_of seat.old.units) seat.old.slots plan.places v
-            × HasSeatBook seat.old S.given S.given_value S.nodes (λ b. IsBelow v (value_of b.best)) × (seat.new ≡ noted seat.old (Better seat.old.worker v))) }
-        ensures err { IfErr result (λ e. IsSeatFault (IsOf S.loads S.slots S.order seat.old) (IsSeatPlanFault seat.old S.given S.given_value S.nodes plan.places) e.0 × (e.1 ≡ plan) × (seat.new ≡ seat.old)) }
+            × HasSeatBook seat.old S.rules S.given S.given_value S.nodes (λ b. IsBelow v (value_of b.best)) × (seat.new ≡ noted seat.old (Better seat.old.worker v))) }
+        ensures err { IfErr result (λ e. IsSeatFault (IsOf S.loads S.slots S.order seat.old) (IsSeatPlanFault seat.old S.rules S.given S.given_value S.nodes plan.places) e.0 × (e.1 ≡ plan) × (seat.new ≡ seat.old)) }
     {
         if !self.is_for(seat) {
             return Err((BookFault::Stranger, plan));
@@ -209,9 +224,9 @@ impl<S: Search> Shared<S> {
     ) -> Result<(), (BookFault, Best)>
         requires plan { IsPlanOf (loads_of seat.old.units) seat.old.slots best.plan.places best.busiest }
         ensures ours { OnOk result (IsOf S.loads S.slots S.order seat.old) }
-        ensures below { OnOk result (HasSeatBook seat.old S.given S.given_value S.nodes (λ b. IsBelow best.busiest (value_of b.best))) }
+        ensures below { OnOk result (HasSeatBook seat.old S.rules S.given S.given_value S.nodes (λ b. IsBelow best.busiest (value_of b.best))) }
         ensures made { OnOk result (seat.new ≡ noted seat.old (Better seat.old.worker best.busiest)) }
-        ensures err { IfErr result (λ e. IsSeatFault (IsOf S.loads S.slots S.order seat.old) (λ f. HasSeatBook seat.old S.given S.given_value S.nodes (λ b. IsOfferFault (value_of b.best) best.busiest f)) e.0 × (e.1 ≡ best) × (seat.new ≡ seat.old)) }
+        ensures err { IfErr result (λ e. IsSeatFault (IsOf S.loads S.slots S.order seat.old) (λ f. HasSeatBook seat.old S.rules S.given S.given_value S.nodes (λ b. IsOfferFault (value_of b.best) best.busiest f)) e.0 × (e.1 ≡ best) × (seat.new ≡ seat.old)) }
     {
         if !self.is_for(seat) {
             return Err((BookFault::Stranger, best));
@@ -237,9 +252,9 @@ impl<S: Search> Shared<S> {
         piece: u64,
     ) -> Result<(), BookFault>
         ensures ours { OnOk result (IsOf S.loads S.slots S.order seat.old) }
-        ensures held { OnOk result (HasSeatBook seat.old S.given S.given_value S.nodes (λ b. (g : ℕ) × IsTakenBy b.pieces seat.old.worker piece g)) }
+        ensures held { OnOk result (HasSeatBook seat.old S.rules S.given S.given_value S.nodes (λ b. (g : ℕ) × IsTakenBy b.pieces seat.old.worker piece g)) }
         ensures made { OnOk result (seat.new ≡ noted seat.old (Back seat.old.worker piece)) }
-        ensures err { IfErr result (λ e. IsSeatFault (IsOf S.loads S.slots S.order seat.old) (λ f. HasSeatBook seat.old S.given S.given_value S.nodes (λ b. IsBackFault (holds seat.old.receipts piece) b seat.old.worker piece f)) e × (seat.new ≡ seat.old)) }
+        ensures err { IfErr result (λ e. IsSeatFault (IsOf S.loads S.slots S.order seat.old) (λ f. HasSeatBook seat.old S.rules S.given S.given_value S.nodes (λ b. IsBackFault (holds seat.old.receipts piece) b seat.old.worker piece f)) e × (seat.new ≡ seat.old)) }
     {
         if !self.is_for(seat) {
             return Err(BookFault::Stranger);
@@ -260,14 +275,21 @@ impl<S: Search> Shared<S> {
     fn counted(&self, prefix: &[Place], sub: Subtree, room: bool) -> Counted
         requires { IsOrder (length S.loads) S.order }
         ensures sub { result.sub ≡ sub }
-        ensures opened { AreOpened (line_by turned_time S.loads S.slots) S.order (shape_of sub.tree) prefix.now result.opened }
+        ensures opened { AreOpened (line_by S.rules S.loads S.slots) S.order (shape_of sub.tree) prefix.now result.opened }
         ensures room { IsSome result.opened → room ≡ true }
     {
         if !room {
             return Counted::unopened(sub);
         }
         let alloc = *self.order.allocator();
-        Counted::of(alloc, &self.loads, self.order.as_slice(), prefix, sub)
+        Counted::of(
+            alloc,
+            &self.loads,
+            self.order.as_slice(),
+            self.rules,
+            prefix,
+            sub,
+        )
     }
 
     /// Reports the subtree of a piece that the seat's worker has taken, with the prefix that it got. Its nodes count in
@@ -280,12 +302,12 @@ impl<S: Search> Shared<S> {
         prefix: &[Place],
         sub: Subtree,
     ) -> Result<(), (BookFault, Subtree)>
-        requires tree { IsPartialTree (line_by turned_time (loads_of seat.old.units) seat.old.slots) sub.threshold (shape_of sub.tree) (prefix_of (loads_of seat.old.units) seat.old.order prefix.now) (drop (length prefix.now) seat.old.order) }
+        requires tree { IsPartialTree (line_by S.rules (loads_of seat.old.units) seat.old.slots) sub.threshold (shape_of sub.tree) (prefix_of (loads_of seat.old.units) seat.old.order prefix.now) (drop (length prefix.now) seat.old.order) }
         requires some { 0 < node_count_of (shape_of sub.tree) }
         ensures ours { OnOk result (IsOf S.loads S.slots S.order seat.old) }
-        ensures welcome { OnOk result (HasSeatBook seat.old S.given S.given_value S.nodes (λ b. (g : ℕ) × IsWelcome b.pieces b.prefixes (value_of b.best) seat.old.worker piece prefix.now sub.threshold (node_count_of (shape_of sub.tree)) g)) }
-        ensures made { OnOk result (IsReported seat.old piece prefix.now (shape_of sub.tree) seat.new) }
-        ensures err { IfErr result (λ e. IsSeatFault (IsOf S.loads S.slots S.order seat.old) (λ f. HasSeatBook seat.old S.given S.given_value S.nodes (λ b. IsReportFault b.pieces b.prefixes (value_of b.best) seat.old.worker piece prefix.now sub.threshold (node_count_of (shape_of sub.tree)) f)) e.0 × (e.1 ≡ sub) × (seat.new ≡ seat.old)) }
+        ensures welcome { OnOk result (HasSeatBook seat.old S.rules S.given S.given_value S.nodes (λ b. (g : ℕ) × IsWelcome b.pieces b.prefixes (value_of b.best) seat.old.worker piece prefix.now sub.threshold (node_count_of (shape_of sub.tree)) g)) }
+        ensures made { OnOk result (IsReported seat.old S.rules piece prefix.now (shape_of sub.tree) seat.new) }
+        ensures err { IfErr result (λ e. IsSeatFault (IsOf S.loads S.slots S.order seat.old) (λ f. HasSeatBook seat.old S.rules S.given S.given_value S.nodes (λ b. IsReportFault b.pieces b.prefixes (value_of b.best) seat.old.worker piece prefix.now sub.threshold (node_count_of (shape_of sub.tree)) f)) e.0 × (e.1 ≡ sub) × (seat.new ≡ seat.old)) }
     {
         if !self.is_for(seat) {
             return Err((BookFault::Stranger, sub));

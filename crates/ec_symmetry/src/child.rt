@@ -101,7 +101,12 @@ fn places_after(period: u16, slots: u8, used: u8, turned: bool) -> Children
 /// The places that the next unit of an order can take after these places of the units before it, in child order: by
 /// slots alone, or where time is turned, which leaves the first unit of the order phase 0 alone. What the loads hold
 /// doesn't count. Takes no memory.
-pub fn children_after(loads: &Loads, order: &[u8], before: &[Place], turned: bool) -> Children
+pub(crate) fn children_after(
+    loads: &Loads,
+    order: &[u8],
+    before: &[Place],
+    turned: bool,
+) -> Children
     requires order { IsOrder (length loads.now.loads) order.now }
     requires few { length before.now < length order.now }
     ensures { result ≡ children (line_of (rules_if turned) loads.now) (prefix_of loads.now.loads order.now before.now) (get_or order.now (length before.now) 0) }

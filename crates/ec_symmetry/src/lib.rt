@@ -9,12 +9,12 @@ mod slots;
 mod strong;
 mod turn;
 
-pub use child::{Children, children_after, children_of, choices};
+pub use child::{Children, children_of, choices};
 pub use law::{
     every_plan_is_reached, every_plan_is_reached_by, slots_have_no_gap, slots_merge,
     strong_children_reach,
 };
 pub use rename::canonical;
-pub use rules::{Rules, children_by};
+pub use rules::{Rules, children_by, next_children};
 pub use slots::used_slots;
 pub use strong::strong_choices;

@@ -1,13 +1,15 @@
 //! By which rules the children of a prefix are made.
 
-ghost use Rattle.std.specs.Prelude.{◌≡◌, ◌<◌, length};
+ghost use Rattle.std.specs.Prelude.{◌≡◌, ◌<◌, length, get_or};
 ghost use Rattle.ec_loads.specs.Line.{line_of};
 ghost use Rattle.ec_loads.specs.Search.{children};
+ghost use Rattle.ec_symmetry.specs.Orders.{IsOrder, prefix_of};
 ghost use Rattle.ec_symmetry.specs.Ruled.{line_rules};
 
-use crate::child::{Children, children_of};
-use crate::strong::strong_choices;
+use crate::child::{Children, children_after, children_of};
+use crate::strong::{strong_after, strong_choices};
 use ec_loads::Loads;
+use ec_units::Place;
 
 /// By which rules the children of a prefix are made: slots by their first use and each phase; the same, but of the first
 /// unit phase 0 alone; or the strong rules.
@@ -27,5 +29,19 @@ pub fn children_by(loads: &Loads, unit: usize, rules: Rules) -> Children
         Rules::Plain => children_of(loads, unit, false),
         Rules::Turned => children_of(loads, unit, true),
         Rules::Strong => strong_choices(loads, unit),
+    }
+}
+
+/// The places that the next unit of an order can take after these places of the units before it, by these rules, in child
+/// order. What the loads hold doesn't count. Takes no memory.
+pub fn next_children(loads: &Loads, order: &[u8], before: &[Place], rules: Rules) -> Children
+    requires order { IsOrder (length loads.now.loads) order.now }
+    requires few { length before.now < length order.now }
+    ensures { result ≡ children (line_of (line_rules rules) loads.now) (prefix_of loads.now.loads order.now before.now) (get_or order.now (length before.now) 0) }
+{
+    match rules {
+        Rules::Plain => children_after(loads, order, before, false),
+        Rules::Turned => children_after(loads, order, before, true),
+        Rules::Strong => strong_after(loads, order, before),
     }
 }

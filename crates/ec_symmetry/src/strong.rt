@@ -1,13 +1,14 @@
 //! The places that a unit can take by the strong rules: fewer than by slots alone, since a shift of time and equal units
 //! leave the others to these.
 
-ghost use Rattle.std.specs.Prelude.{◌≡◌, ℕ, ◌<◌, ◌≤◌, length, take};
+ghost use Rattle.std.specs.Prelude.{◌≡◌, ℕ, ◌<◌, ◌≤◌, All, length, take, get_or};
 ghost use Rattle.ec_hyper.specs.Lcm.{lcm_of};
 ghost use Rattle.ec_loads.specs.Held.{AreLoads};
 ghost use Rattle.ec_loads.specs.Line.{strong, line_of};
 ghost use Rattle.ec_loads.specs.Search.{children};
-ghost use Rattle.ec_loads.specs.Strong.{gcd, placed_periods, strong_phases, same_load, is_below};
+ghost use Rattle.ec_loads.specs.Strong.{gcd, placed_periods, strong_phases, same_load, is_below, strong_children};
 ghost use Rattle.ec_symmetry.specs.Latest.{IsLatest, IsLater};
+ghost use Rattle.ec_symmetry.specs.Orders.{IsOrder, with_places, prefix_of};
 
 use crate::child::{Children, choices_from};
 use crate::slots::used_among;
@@ -82,13 +83,14 @@ fn gather_periods(
     count
 }
 
-/// The least common multiple of the periods of the units that have a place, in ticks; 1 where none has.
-fn ticks_so_far(loads: &Loads) -> u32
-    ensures { result ≡ lcm_of (placed_periods loads.now.loads loads.now.places) }
+/// The least common multiple of the periods of the units that have a place among these, in ticks; 1 where none has.
+fn ticks_so_far(loads: &Loads, places: &[Option<Place>]) -> u32
+    requires { length places.now ≡ length loads.now.loads }
+    ensures { result ≡ lcm_of (placed_periods loads.now.loads places.now) }
 {
     let _ticks = loads.ticks();
     let mut periods = [1u16; MOST_UNITS];
-    let count = gather_periods(loads.loads(), loads.places(), &mut periods);
+    let count = gather_periods(loads.loads(), places, &mut periods);
     match Hyper::of(&periods[..count]) {
         Ok(hyper) => hyper.ticks(),
         Err(_) => unreachable!(),
@@ -111,12 +113,28 @@ fn common_divisor(first: u32, second: u32) -> u32
     greater
 }
 
-/// How many phases a unit of this period, in ticks, tries: a shift of time leads from the others to these.
-fn phases_of(loads: &Loads, period: u16) -> u16
-    requires { 1 ≤ period }
-    ensures { result ≡ strong_phases loads.now.loads loads.now.places period }
+/// How many phases a unit of this period, in ticks, tries after these places: a shift of time leads from the others to
+/// these.
+fn phases_of(loads: &Loads, places: &[Option<Place>], period: u16) -> u16
+    requires each { length places.now ≡ length loads.now.loads }
+    requires period { 1 ≤ period }
+    ensures { result ≡ strong_phases loads.now.loads places.now period }
 {
-    common_divisor(ticks_so_far(loads), u32::from(period)) as u16
+    common_divisor(ticks_so_far(loads, places), u32::from(period)) as u16
+}
+
+/// The places that a unit can take after these places of the units, in file order, by the strong rules, in child order.
+fn strong_among(loads: &Loads, places: &[Option<Place>], unit: usize) -> Children
+    requires each { length places.now ≡ length loads.now.loads }
+    requires unit { unit < length loads.now.loads }
+    ensures { result ≡ strong_children loads.now.loads loads.now.slots places.now unit }
+{
+    let all = loads.loads();
+    let used = used_among(places, loads.slots().max(1));
+    let load = all[unit];
+    let latest = latest_equal(all, places, load);
+    let phases = phases_of(loads, places, load.period);
+    choices_from(latest, phases, loads.slots(), used)
 }
 
 /// The places that a unit can take after the places so far by the strong rules, in child order: a phase below the greatest
@@ -127,9 +145,36 @@ pub fn strong_choices(loads: &Loads, unit: usize) -> Children
     requires { unit < length loads.now.places }
     ensures { result ≡ children (line_of strong loads.now) loads.now.places unit }
 {
-    let used = used_among(loads.places(), loads.slots().max(1));
-    let load = loads.loads()[unit];
-    let latest = latest_equal(loads.loads(), loads.places(), load);
-    let phases = phases_of(loads, load.period);
-    choices_from(latest, phases, loads.slots(), used)
+    strong_among(loads, loads.places(), unit)
+}
+
+/// The places that the first units of an order make, each unit's in file order.
+fn fill_prefix(
+    order: &[u8],
+    before: &[Place],
+    table: &mut [Option<Place>; MOST_UNITS],
+    units: usize,
+)
+    requires few { units ≤ 48 }
+    requires below { All (λ u. u < units) order.now }
+    requires short { length before.now ≤ length order.now }
+    ensures { take units table.new ≡ with_places (take units table.old) order.now before.now }
+{
+    for i in 0..before.len() {
+        table[usize::from(order[i])] = Some(before[i]);
+    }
+}
+
+/// The places that the next unit of an order can take after these places of the units before it, by the strong rules, in
+/// child order. What the loads hold doesn't count. Takes no memory.
+pub(crate) fn strong_after(loads: &Loads, order: &[u8], before: &[Place]) -> Children
+    requires order { IsOrder (length loads.now.loads) order.now }
+    requires few { length before.now < length order.now }
+    ensures { result ≡ children (line_of strong loads.now) (prefix_of loads.now.loads order.now before.now) (get_or order.now (length before.now) 0) }
+{
+    let units = loads.loads().len();
+    let mut table = [None; MOST_UNITS];
+    fill_prefix(order, before, &mut table, units);
+    let unit = usize::from(order[before.len()]);
+    strong_among(loads, &table[..units], unit)
 }

@@ -161,10 +161,12 @@ fn plan_line(alloc: Global, matches: &ArgMatches<'_>) -> Result<Line, LineFault>
     ensures paths { IfOk result (HasPathsOf matches.now) }
 {
     let effort = effort(alloc, matches)?;
+    let strong = matches.get_flag("strong");
     let out = path_of(alloc, matches, "out")?;
     let places = path_of(alloc, matches, "places")?;
     Ok(Line::Plan {
         effort,
+        strong,
         out,
         places,
     })

@@ -1,7 +1,7 @@
 -- What a finished search says.
 -- `without` and `optimal` have an equation premise for each part, so that the answers only pass names. All that an outcome
 -- says comes from `Book::finish`.
-use Rattle.std.proofs.Common.{◌≡◌, ◌≢◌, ℕ, ◌+◌, ◌<◌, ◌≤◌, List, length, Option, Some, None, Result, Ok, Err, IfOk, refl, ap, sym, subst, arith, ◌∙◌}
+use Rattle.std.proofs.Common.{◌≡◌, ◌≢◌, Bool, ℕ, ◌+◌, ◌<◌, ◌≤◌, List, length, Option, Some, None, Result, Ok, Err, IfOk, refl, ap, sym, subst, arith, ◌∙◌}
 use Rattle.std.proofs.lemmas.List.{length-map}
 use Rattle.ec_units.specs.declared.slave.Place.{Place}
 use Rattle.ec_units.specs.declared.unit.Unit.{Unit as SyncUnit}
@@ -9,7 +9,7 @@ use Rattle.ec_units.specs.declared.units.Units.{Units}
 use Rattle.ec_units.specs.declared.unit.Load.{Load}
 use Rattle.ec_units.specs.Load.{load_of, loads_of}
 use Rattle.ec_loads.specs.Held.{no_places}
-use Rattle.ec_loads.specs.Line.{turned_time, line_by}
+use Rattle.ec_loads.specs.Line.{Rules, line_by}
 use Rattle.ec_loads.specs.Shape.{Shape}
 use Rattle.ec_loads.specs.Search.{BoundsAll, HasNoPlan, IsPartialTree, IsAtMost, node_count, open_count}
 use Rattle.ec_cert.specs.declared.lists.UnitLine.{UnitLine}
@@ -33,7 +33,8 @@ use Rattle.ec_book.specs.Finishing.{GrowsFrom, IsFinishedOf}
 use Rattle.ec_book.specs.declared.book.Finished.{Finished}
 use Rattle.ec_crew.specs.Crews.{IsCrewed}
 use Rattle.ec_workers.specs.Answers.{Asked, asked_beyond, GoesBeyond, IsCut, IsUnproved, IsOutcome, tree_in, value_in}
-use Rattle.ec_workers.specs.Outcomes.{cert_for, IsFound, IsOptimal, IsWithoutPlan, Shows}
+use Rattle.ec_outcome.specs.Searched.{searched_by}
+use Rattle.ec_workers.specs.Outcomes.{proof_version, partial_version, cert_for, IsFound, IsOptimal, IsWithoutPlan, Shows}
 use Rattle.ec_workers.proofs.ResumeLemmas.{crewed-nodes}
 use Rattle.ec_workers.proofs.ShowLemmas.{AreFew, shows, partial-shows, bounds}
 
@@ -46,35 +47,35 @@ no_legal loads n all plan legal = let has = all plan legal in absurd (none_some 
     none_some : {b : ℕ} → None ≡ Some b → ⊥
     none_some e = absurd cc
 
-with_lines : (us : List SyncUnit) (n : ℕ) (order : List ℕ) (best : Option Best) (tree : Shape) (lines : List UnitLine) (c : CertView) → lines ≡ lines_of us
-    → c ≡ record { version = 2; slots = n; units = lines; order = order; best = best; level = None; tree = tree } → c ≡ cert_for us n order best tree
-with_lines us n order best tree lines c is made = made ∙ (λ i. record { version = 2; slots = n; units = is i; order = order; best = best; level = None; tree = tree })
+with_lines : (us : List SyncUnit) (n : ℕ) (strong : Bool) (order : List ℕ) (best : Option Best) (tree : Shape) (lines : List UnitLine) (c : CertView) → lines ≡ lines_of us
+    → c ≡ record { version = proof_version strong; slots = n; units = lines; order = order; best = best; level = None; tree = tree } → c ≡ cert_for us n strong order best tree
+with_lines us n strong order best tree lines c is made = made ∙ (λ i. record { version = proof_version strong; slots = n; units = is i; order = order; best = best; level = None; tree = tree })
 
-pub without : FaultsRefute → TreesBound → (us : Units) (order : List ℕ) (best : Option Best) (tree : Shape) (lines : List UnitLine) (c : CertView) → IsFound us.units us.slots order best tree → best ≡ None → lines ≡ lines_of us.units
-    → c ≡ record { version = 2; slots = us.slots; units = lines; order = order; best = None; level = None; tree = tree } → IsWithoutPlan us.units us.slots c
-without refute law us order best tree lines c found is said made =
-    let none : IsFound us.units us.slots order None tree = subst (λ b. IsFound us.units us.slots order b tree) is found in
-    let whole = with_lines us.units us.slots order None tree lines c said made in
+pub without : FaultsRefute → TreesBound → (us : Units) (strong : Bool) (order : List ℕ) (best : Option Best) (tree : Shape) (lines : List UnitLine) (c : CertView) → IsFound us.units us.slots strong order best tree → best ≡ None → lines ≡ lines_of us.units
+    → c ≡ record { version = proof_version strong; slots = us.slots; units = lines; order = order; best = None; level = None; tree = tree } → IsWithoutPlan us.units us.slots c
+without refute law us strong order best tree lines c found is said made =
+    let none : IsFound us.units us.slots strong order None tree = subst (λ b. IsFound us.units us.slots strong order b tree) is found in
+    let whole = with_lines us.units us.slots strong order None tree lines c said made in
     subst (IsWithoutPlan us.units us.slots) (sym whole)
     (record {
-      none = no_legal (loads_of us.units) us.slots (bounds law us.units us.slots order None tree none);
+      none = no_legal (loads_of us.units) us.slots (bounds law us.units us.slots strong order None tree none);
       held = refl;
-      shows = shows refute us.units us.slots order None tree (few_of us) none;
+      shows = shows refute us.units us.slots strong order None tree (few_of us) none;
     })
 
-pub optimal : FaultsRefute → TreesBound → (us : Units) (order : List ℕ) (best : Option Best) (tree : Shape) (lines : List UnitLine) (c : CertView) (b : Best) (plan : List Place) → IsFound us.units us.slots order best tree → best ≡ Some b
-    → lines ≡ lines_of us.units → plan ≡ b.plan.places → c ≡ record { version = 2; slots = us.slots; units = lines; order = order; best = Some b; level = None; tree = tree } → IsOptimal us.units us.slots plan b.busiest c
-optimal refute law us order best tree lines c b plan found is said copied made =
-    let some : IsFound us.units us.slots order (Some b) tree = subst (λ x. IsFound us.units us.slots order x tree) is found in
-    let whole = with_lines us.units us.slots order (Some b) tree lines c said made in
+pub optimal : FaultsRefute → TreesBound → (us : Units) (strong : Bool) (order : List ℕ) (best : Option Best) (tree : Shape) (lines : List UnitLine) (c : CertView) (b : Best) (plan : List Place) → IsFound us.units us.slots strong order best tree → best ≡ Some b
+    → lines ≡ lines_of us.units → plan ≡ b.plan.places → c ≡ record { version = proof_version strong; slots = us.slots; units = lines; order = order; best = Some b; level = None; tree = tree } → IsOptimal us.units us.slots plan b.busiest c
+optimal refute law us strong order best tree lines c b plan found is said copied made =
+    let some : IsFound us.units us.slots strong order (Some b) tree = subst (λ x. IsFound us.units us.slots strong order x tree) is found in
+    let whole = with_lines us.units us.slots strong order (Some b) tree lines c said made in
     subst (λ w. IsOptimal us.units us.slots w b.busiest c) (sym copied)
     (subst (IsOptimal us.units us.slots b.plan.places b.busiest) (sym whole)
     (record {
       legal = some.best_is.0;
       busiest = some.best_is.1;
-      bounds = bounds law us.units us.slots order (Some b) tree some;
+      bounds = bounds law us.units us.slots strong order (Some b) tree some;
       held = (b, refl, refl, refl);
-      shows = shows refute us.units us.slots order (Some b) tree (few_of us) some;
+      shows = shows refute us.units us.slots strong order (Some b) tree (few_of us) some;
     }))
 
 -- the plan fits into room for a place of each unit
@@ -83,44 +84,46 @@ fits us n best b room h is most =
     let some : IsBestPlan (loads_of us) n (Some b) = subst (IsBestPlan (loads_of us) n) is h in
     omega (arith, some.0.whole, length-map us load_of, most)
 
-cut-among : (workers nodes : ℕ) (given t : Shape) (why : Cut) → IsCut (asked_beyond 1 nodes given) t why → IsCut (asked_beyond workers nodes given) t why
-cut-among workers nodes given t cut.Journal h = absurd (omega (arith, h))
-cut-among workers nodes given t cut.Budget h = h
-cut-among workers nodes given t cut.Memory h = h
-cut-among workers nodes given t cut.Time h = h
+cut-among : (strong : Bool) (workers nodes : ℕ) (given t : Shape) (why : Cut) → IsCut (asked_beyond strong 1 nodes given) t why → IsCut (asked_beyond strong workers nodes given) t why
+cut-among strong workers nodes given t cut.Journal h = absurd (omega (arith, h))
+cut-among strong workers nodes given t cut.Budget h = h
+cut-among strong workers nodes given t cut.Memory h = h
+cut-among strong workers nodes given t cut.Time h = h
 
 -- what one worker answers is an answer of as many as were asked for
-pub among : (us : List SyncUnit) (n workers nodes : ℕ) (given : Shape) (o : Outcome) → IsOutcome us n (asked_beyond 1 nodes given) o → IsOutcome us n (asked_beyond workers nodes given) o
-among us n workers nodes given (outcome.Optimal plan b cert) h = h
-among us n workers nodes given (outcome.NoPlan cert) h = h
-among us n workers nodes given (outcome.Unproved best order tree why) h =
-    record { order_is = h.order_is; best_is = h.best_is; tree_is = h.tree_is; cut_is = cut-among workers nodes given (shape_of tree) why h.cut_is }
+pub among : (us : List SyncUnit) (n : ℕ) (strong : Bool) (workers nodes : ℕ) (given : Shape) (o : Outcome) → IsOutcome us n (asked_beyond strong 1 nodes given) o → IsOutcome us n (asked_beyond strong workers nodes given) o
+among us n strong workers nodes given (outcome.Optimal plan b cert) h = h
+among us n strong workers nodes given (outcome.NoPlan cert) h = h
+among us n strong workers nodes given (outcome.Unproved best order tree by why) h =
+    record { rules_is = h.rules_is; order_is = h.order_is; best_is = h.best_is; tree_is = h.tree_is; cut_is = cut-among strong workers nodes given (shape_of tree) why h.cut_is }
 
-pub all_among : (us : List SyncUnit) (n workers nodes : ℕ) (given : Shape) (r : Result Outcome SolveFault) → IfOk r (IsOutcome us n (asked_beyond 1 nodes given)) → IfOk r (IsOutcome us n (asked_beyond workers nodes given))
-all_among us n workers nodes given (Ok o) h = among us n workers nodes given o h
-all_among us n workers nodes given (Err e) h = tt
+pub all_among : (us : List SyncUnit) (n : ℕ) (strong : Bool) (workers nodes : ℕ) (given : Shape) (r : Result Outcome SolveFault) → IfOk r (IsOutcome us n (asked_beyond strong 1 nodes given)) → IfOk r (IsOutcome us n (asked_beyond strong workers nodes given))
+all_among us n strong workers nodes given (Ok o) h = among us n strong workers nodes given o h
+all_among us n strong workers nodes given (Err e) h = tt
 
 -- why a search of which a leaf is open was cut, by the nodes that it spent
-pub cut-of : (workers nodes spent : ℕ) (given tree : Shape) (why : Cut) → (why ≡ cut.Budget → spent ≡ nodes) → (why ≡ cut.Memory → spent ≢ nodes) → (why ≡ cut.Time → spent ≢ nodes) → (why ≡ cut.Journal → 1 < workers)
-    → node_count tree ≡ node_count given + spent → 0 < open_count tree → IsCut (asked_beyond workers nodes given) tree why
-cut-of workers nodes spent given tree cut.Journal budget memory time journal is some = journal refl
-cut-of workers nodes spent given tree cut.Budget budget memory time journal is some = let all = budget refl in (omega (arith, is, all), some)
-cut-of workers nodes spent given tree cut.Memory budget memory time journal is some = (λ all. memory refl (omega (arith, is, all)), some)
-cut-of workers nodes spent given tree cut.Time budget memory time journal is some = (λ all. time refl (omega (arith, is, all)), some)
+pub cut-of : (strong : Bool) (workers nodes spent : ℕ) (given tree : Shape) (why : Cut) → (why ≡ cut.Budget → spent ≡ nodes) → (why ≡ cut.Memory → spent ≢ nodes) → (why ≡ cut.Time → spent ≢ nodes) → (why ≡ cut.Journal → 1 < workers)
+    → node_count tree ≡ node_count given + spent → 0 < open_count tree → IsCut (asked_beyond strong workers nodes given) tree why
+cut-of strong workers nodes spent given tree cut.Journal budget memory time journal is some = journal refl
+cut-of strong workers nodes spent given tree cut.Budget budget memory time journal is some = let all = budget refl in (omega (arith, is, all), some)
+cut-of strong workers nodes spent given tree cut.Memory budget memory time journal is some = (λ all. memory refl (omega (arith, is, all)), some)
+cut-of strong workers nodes spent given tree cut.Time budget memory time journal is some = (λ all. time refl (omega (arith, is, all)), some)
 
 -- what a finished book gives of which a leaf is open
-pub unproved-of : (us : List SyncUnit) (n : ℕ) (asked : Asked) (order : List ℕ) (b : BookView) (f : Finished) (why : Cut) → IsOrder (length us) order → IsBookOf us n order b → IsFinishedOf b f → IsCut asked (shape_of f.tree) why
-    → IsUnproved us n asked f.best order (shape_of f.tree) why
+pub unproved-of : (us : List SyncUnit) (n : ℕ) (asked : Asked) (order : List ℕ) (b : BookView) (f : Finished) (why : Cut) → IsOrder (length us) order → IsBookOf us n order (searched_by asked.strong) b → IsFinishedOf b f → IsCut asked (shape_of f.tree) why
+    → IsUnproved us n asked f.best order (shape_of f.tree) asked.strong why
 unproved-of us n asked order b f why order_is of is cut_is =
-    let T : List Load → ℕ → Option ℕ → List ℕ → Type 0 = λ ls k v o. IsPartialTree (line_by turned_time ls k) v (shape_of f.tree) (no_places ls) o in
+    let T : Rules → List Load → ℕ → Option ℕ → List ℕ → Type 0 = λ r ls k v o. IsPartialTree (line_by r ls k) v (shape_of f.tree) (no_places ls) o in
     record {
+      rules_is = refl;
       order_is = order_is;
       best_is = subst (λ ls. IsBestPlan ls n f.best) of.loads_is (subst (λ k. IsBestPlan b.loads k f.best) of.slots_is is.legal);
       tree_is =
-          subst (λ ls. T ls n (value_of f.best) order) of.loads_is
-          (subst (λ k. T b.loads k (value_of f.best) order) of.slots_is
-          (subst (λ o. T b.loads b.slots (value_of f.best) o) of.order_is
-          (subst (λ v. T b.loads b.slots v b.order) (ap value_of (sym is.best)) is.tree)));
+          subst (λ r. T r (loads_of us) n (value_of f.best) order) of.rules_is
+          (subst (λ ls. T b.rules ls n (value_of f.best) order) of.loads_is
+          (subst (λ k. T b.rules b.loads k (value_of f.best) order) of.slots_is
+          (subst (λ o. T b.rules b.loads b.slots (value_of f.best) o) of.order_is
+          (subst (λ v. T b.rules b.loads b.slots v b.order) (ap value_of (sym is.best)) is.tree))));
       cut_is = cut_is;
     }
 
@@ -134,20 +137,20 @@ beyond b f nodes o is nodes_is tree value =
     }
 
 -- the same of what several workers made
-pub crew-beyond : (us : List SyncUnit) (n : ℕ) (order : List ℕ) (given : Shape) (value : Option ℕ) (nodes : ℕ) (f : Finished) (o : Outcome) → IsCrewed us n order given value nodes f → tree_in o ≡ shape_of f.tree → value_in o ≡ value_of f.best → GoesBeyond given value nodes o
-crew-beyond us n order given value nodes f o (b, of, began, is) tree value_is =
+pub crew-beyond : (us : List SyncUnit) (n : ℕ) (order : List ℕ) (rules : Rules) (given : Shape) (value : Option ℕ) (nodes : ℕ) (f : Finished) (o : Outcome) → IsCrewed us n order rules given value nodes f → tree_in o ≡ shape_of f.tree → value_in o ≡ value_of f.best → GoesBeyond given value nodes o
+crew-beyond us n order rules given value nodes f o (b, of, began, is) tree value_is =
     subst (λ g. GoesBeyond g value nodes o) began.given_is
     (subst (λ v. GoesBeyond b.given v nodes o) began.value_is (beyond b f nodes o is began.nodes_is tree value_is))
 
-pub crew-unproved : (us : List SyncUnit) (n workers nodes : ℕ) (order : List ℕ) (given : Shape) (value : Option ℕ) (f : Finished) (why : Cut) → IsOrder (length us) order → IsCrewed us n order given value nodes f
-    → (node_count (shape_of f.tree) ≡ node_count given + f.spent → IsCut (asked_beyond workers nodes given) (shape_of f.tree) why) → IsUnproved us n (asked_beyond workers nodes given) f.best order (shape_of f.tree) why
-crew-unproved us n workers nodes order given value f why order_is h cut_is =
-    unproved-of us n (asked_beyond workers nodes given) order h.0 f why order_is h.1 h.3 (cut_is (crewed-nodes us n order given value nodes f h))
+pub crew-unproved : (us : List SyncUnit) (n : ℕ) (strong : Bool) (workers nodes : ℕ) (order : List ℕ) (given : Shape) (value : Option ℕ) (f : Finished) (why : Cut) → IsOrder (length us) order → IsCrewed us n order (searched_by strong) given value nodes f
+    → (node_count (shape_of f.tree) ≡ node_count given + f.spent → IsCut (asked_beyond strong workers nodes given) (shape_of f.tree) why) → IsUnproved us n (asked_beyond strong workers nodes given) f.best order (shape_of f.tree) strong why
+crew-unproved us n strong workers nodes order given value f why order_is h cut_is =
+    unproved-of us n (asked_beyond strong workers nodes given) order h.0 f why order_is h.1 h.3 (cut_is (crewed-nodes us n order (searched_by strong) given value nodes f h))
 
 -- the certificate of a search that ended without a proof, whose lines are those of the units
-pub unfinished : FaultsRefute → (us : Units) (order : List ℕ) (best : Option Best) (tree : Shape) (level : ℕ) (lines : List UnitLine) → IsOrder (length us.units) order → IsBestPlan (loads_of us.units) us.slots best
-    → IsPartialTree (line_by turned_time (loads_of us.units) us.slots) (value_of best) tree (no_places (loads_of us.units)) order → IsGreatestLevel (line_by turned_time (loads_of us.units) us.slots) (value_of best) tree order level → lines ≡ lines_of us.units
-    → Shows us.units us.slots (record { version = 3; slots = us.slots; units = lines; order = order; best = best; level = Some level; tree = tree }) (verdict.AtLeast level)
-unfinished refute us order best tree level lines order_is best_is partial is said =
-    subst (λ ls. Shows us.units us.slots (record { version = 3; slots = us.slots; units = ls; order = order; best = best; level = Some level; tree = tree }) (verdict.AtLeast level)) (sym said)
-    (partial-shows refute us.units us.slots order best tree level (few_of us) order_is best_is partial is)
+pub unfinished : FaultsRefute → (us : Units) (strong : Bool) (order : List ℕ) (best : Option Best) (tree : Shape) (level : ℕ) (lines : List UnitLine) → IsOrder (length us.units) order → IsBestPlan (loads_of us.units) us.slots best
+    → IsPartialTree (line_by (searched_by strong) (loads_of us.units) us.slots) (value_of best) tree (no_places (loads_of us.units)) order → IsGreatestLevel (line_by (searched_by strong) (loads_of us.units) us.slots) (value_of best) tree order level → lines ≡ lines_of us.units
+    → Shows us.units us.slots (record { version = partial_version strong; slots = us.slots; units = lines; order = order; best = best; level = Some level; tree = tree }) (verdict.AtLeast level)
+unfinished refute us strong order best tree level lines order_is best_is partial is said =
+    subst (λ ls. Shows us.units us.slots (record { version = partial_version strong; slots = us.slots; units = ls; order = order; best = best; level = Some level; tree = tree }) (verdict.AtLeast level)) (sym said)
+    (partial-shows refute us.units us.slots strong order best tree level (few_of us) order_is best_is partial is)

@@ -1,5 +1,5 @@
 -- The certificate of a search has a text, and the checker says yes to it.
-use Rattle.std.proofs.Common.{◌≡◌, ◌⊎◌, ℕ, ◌+◌, ◌<◌, ◌≤◌, All, List, [], ◌∷◌, length, Option, Some, None, Result, Ok, Err, refl, ap, sym, subst, ◌∙◌, arith, inl, inr}
+use Rattle.std.proofs.Common.{◌≡◌, ◌⊎◌, ℕ, ◌+◌, ◌<◌, ◌≤◌, Bool, true, false, All, List, [], ◌∷◌, length, Option, Some, None, Result, Ok, Err, refl, ap, sym, subst, ◌∙◌, arith, inl, inr}
 use Rattle.std.proofs.lemmas.List.{length-map}
 use Rattle.std.proofs.lemmas.List.Sums.{sum_by-cons}
 use Rattle.std.proofs.lemmas.List.Elements.{All-nil, All-cons, All-head, All-tail}
@@ -12,15 +12,16 @@ use Rattle.ec_units.specs.Load.{load_of, loads_of}
 use Rattle.ec_loads.specs.declared.item.Item.{Item}
 use Rattle.ec_loads.specs.Cost.{item, plan_items}
 use Rattle.ec_loads.specs.Held.{AreLoads, no_places}
-use Rattle.ec_loads.specs.Line.{turned_time, line_by}
+use Rattle.ec_loads.specs.Line.{Rules, IsStrong, line_by}
 use Rattle.ec_loads.specs.Shape.{Shape}
-use Rattle.ec_loads.specs.Search.{BoundsAll, IsPartialTree, LevelHolds}
+use Rattle.ec_loads.specs.Search.{BoundsAll, IsTree, IsPartialTree, LevelHolds, ShowsLevel}
 use Rattle.ec_loads.proofs.ItemLemmas.{AreLoads-loads_of}
 use Rattle.ec_symmetry.specs.Orders.{IsOrder}
 use Rattle.ec_symmetry.proofs.CountLemmas.{AreLeft, AreLeft-none}
 use Rattle.ec_cert.specs.declared.cert.Best.{Best}
 use Rattle.ec_cert.specs.Shapes.{CertView}
 use Rattle.ec_cert.specs.LeafKinds.{kinds_in}
+use Rattle.ec_cert.specs.Versions.{rules_of}
 use Rattle.ec_cert.specs.WellFormed.{HasLevels, IsUnitLine, IsPlaceLine, IsBestOrNone, IsLevelLine, IsWellFormed}
 use Rattle.ec_tree.specs.Trees.{TreesBound}
 use Rattle.ec_cert.specs.BestPlan.{value_of, IsBestPlan}
@@ -31,7 +32,8 @@ use Rattle.ec_checker.specs.declared.fault.CheckFault.{CheckFault}
 use Rattle.ec_checker.specs.declared.fault.CheckFault.TheVariants as fault
 use Rattle.ec_checker.specs.declared.fault.Verdict.{Verdict}
 use Rattle.ec_checker.specs.declared.fault.Verdict.TheVariants as verdict
-use Rattle.ec_workers.specs.Outcomes.{Shows, cert_for, partial_for, IsFound}
+use Rattle.ec_outcome.specs.Searched.{searched_by}
+use Rattle.ec_workers.specs.Outcomes.{Shows, proof_version, partial_version, cert_for, partial_for, IsFound}
 use Rattle.ec_workers.proofs.RangeLemmas.{busiest-range}
 use Rattle.ec_workers.proofs.LevelLemmas.{tree-levels}
 
@@ -88,10 +90,48 @@ pub record AreFew (us : List SyncUnit) (n : ℕ) : Type 0 where
   pub least_units : 1 ≤ length us
   pub most_units : length us ≤ 48
 
-pub certified : (us : List SyncUnit) (n : ℕ) (order : List ℕ) (best : Option Best) (tree : Shape) → IsFound us n order best tree → IsCertified us n (cert_for us n order best tree)
-certified us n order best tree found = record {
+-- a version's rules are those of the search that writes it
+proof-rules : (strong : Bool) → rules_of (proof_version strong) ≡ searched_by strong
+proof-rules false = refl
+proof-rules true = refl
+
+partial-rules : (strong : Bool) → rules_of (partial_version strong) ≡ searched_by strong
+partial-rules false = refl
+partial-rules true = refl
+
+-- the strong rules are those of version 4, whose certificates have all kinds of leaf
+proof-rooms : (strong : Bool) → IsStrong (searched_by strong) → (kinds_in (proof_version strong) None).rooms ≡ true
+proof-rooms false h = absurd h
+proof-rooms true h = refl
+
+partial-rooms : (strong : Bool) (level : ℕ) → IsStrong (searched_by strong) → (kinds_in (partial_version strong) (Some level)).rooms ≡ true
+partial-rooms false level h = absurd h
+partial-rooms true level h = refl
+
+proof-weights : (strong : Bool) → (kinds_in (proof_version strong) None).weights ≡ true
+proof-weights false = refl
+proof-weights true = refl
+
+partial-weights : (strong : Bool) (level : ℕ) → (kinds_in (partial_version strong) (Some level)).weights ≡ true
+partial-weights false level = refl
+partial-weights true level = refl
+
+partial-open : (strong : Bool) (level : ℕ) → (kinds_in (partial_version strong) (Some level)).left_open ≡ true
+partial-open false level = refl
+partial-open true level = refl
+
+proof-range : (strong : Bool) → (1 ≤ proof_version strong) × (proof_version strong ≤ 4) × IsLevelLine (proof_version strong) None
+proof-range false = (omega arith, omega arith, inl (omega arith))
+proof-range true = (omega arith, omega arith, inr (omega arith))
+
+partial-range : (strong : Bool) → (3 ≤ partial_version strong) × (partial_version strong ≤ 4)
+partial-range false = (omega arith, omega arith)
+partial-range true = (omega arith, omega arith)
+
+pub certified : (us : List SyncUnit) (n : ℕ) (strong : Bool) (order : List ℕ) (best : Option Best) (tree : Shape) → IsFound us n strong order best tree → IsCertified us n (cert_for us n strong order best tree)
+certified us n strong order best tree found = record {
   head = record { same = record { slots = refl; lines = refl }; order = found.order_is; best = found.best_is; level = tt };
-  shown = found.tree_is;
+  shown = subst (λ r. IsTree (line_by r (loads_of us) n) (value_of best) tree (no_places (loads_of us)) order) (sym (proof-rules strong)) found.tree_is;
 }
 
 -- the certificate of these parts, of any version with such a level and such a tree
@@ -119,13 +159,14 @@ formed-by us n version order best level tree few least most order_is best_is lev
     }
 
 -- at first each unit is left
-left-first : (us : List SyncUnit) (n : ℕ) (order : List ℕ) → IsOrder (length us) order → AreLeft (line_by turned_time (loads_of us) n) (no_places (loads_of us)) order
-left-first us n order is = AreLeft-none (line_by turned_time (loads_of us) n) order (subst (λ k. IsOrder k order) (sym (length-map us load_of)) is)
+left-first : (rules : Rules) (us : List SyncUnit) (n : ℕ) (order : List ℕ) → IsOrder (length us) order → AreLeft (line_by rules (loads_of us) n) (no_places (loads_of us)) order
+left-first rules us n order is = AreLeft-none (line_by rules (loads_of us) n) order (subst (λ k. IsOrder k order) (sym (length-map us load_of)) is)
 
-pub formed : (us : List SyncUnit) (n : ℕ) (order : List ℕ) (best : Option Best) (tree : Shape) → AreFew us n → IsFound us n order best tree → IsWellFormed (cert_for us n order best tree)
-formed us n order best tree few found =
-    formed-by us n 2 order best None tree few (omega arith) (omega arith) found.order_is found.best_is (inl (omega arith)) (λ within below deep.
-    tree-levels (λ _ _. ⊥) (kinds_in 2 None) refl (λ _ _ no. absurd no) (line_by turned_time (loads_of us) n) (λ no. absurd no) (value_of best) tree (no_places (loads_of us)) order 48 within few.least_slots few.most_slots below (left-first us n order found.order_is) deep found.short found.tree_is)
+pub formed : (us : List SyncUnit) (n : ℕ) (strong : Bool) (order : List ℕ) (best : Option Best) (tree : Shape) → AreFew us n → IsFound us n strong order best tree → IsWellFormed (cert_for us n strong order best tree)
+formed us n strong order best tree few found =
+    let range = proof-range strong in
+    formed-by us n (proof_version strong) order best None tree few range.0 range.1 found.order_is found.best_is range.2 (λ within below deep.
+    tree-levels (λ _ _. ⊥) (kinds_in (proof_version strong) None) (proof-weights strong) (λ _ _ no. absurd no) (line_by (searched_by strong) (loads_of us) n) (proof-rooms strong) (value_of best) tree (no_places (loads_of us)) order 48 within few.least_slots few.most_slots below (left-first (searched_by strong) us n order found.order_is) deep found.short found.tree_is)
 
 checked : FaultsRefute → (us : List SyncUnit) (n : ℕ) (c : CertView) → IsCertified us n c → (r : Result Verdict CheckFault) → IsAnswer us n c r → (r ≡ Ok (verdict_of c.best c.level)) ⊎ (r ≡ Err fault.OutOfMemory)
 checked refute us n c right (Ok w) a = inl (ap Ok a.1)
@@ -139,27 +180,31 @@ checked refute us n c right (Err (fault.Leaf k)) a = absurd (refute us n c (faul
 checked refute us n c right (Err (fault.Depth k)) a = absurd (refute us n c (fault.Depth k) (λ e. absurd cc) a right)
 checked refute us n c right (Err (fault.Level l v)) a = absurd (refute us n c (fault.Level l v) (λ e. absurd cc) a right)
 
-pub shows : FaultsRefute → (us : List SyncUnit) (n : ℕ) (order : List ℕ) (best : Option Best) (tree : Shape) → AreFew us n → IsFound us n order best tree → Shows us n (cert_for us n order best tree) (verdict_of best None)
-shows refute us n order best tree few found = record {
-  formed = formed us n order best tree few found;
-  certified = certified us n order best tree found;
-  checked = checked refute us n (cert_for us n order best tree) (certified us n order best tree found);
+pub shows : FaultsRefute → (us : List SyncUnit) (n : ℕ) (strong : Bool) (order : List ℕ) (best : Option Best) (tree : Shape) → AreFew us n → IsFound us n strong order best tree → Shows us n (cert_for us n strong order best tree) (verdict_of best None)
+shows refute us n strong order best tree few found = record {
+  formed = formed us n strong order best tree few found;
+  certified = certified us n strong order best tree found;
+  checked = checked refute us n (cert_for us n strong order best tree) (certified us n strong order best tree found);
 }
 
 -- the certificate of a search that ended without a proof, with the level that its tree shows
-pub partial-shows : FaultsRefute → (us : List SyncUnit) (n : ℕ) (order : List ℕ) (best : Option Best) (tree : Shape) (level : ℕ) → AreFew us n → IsOrder (length us) order → IsBestPlan (loads_of us) n best
-    → IsPartialTree (line_by turned_time (loads_of us) n) (value_of best) tree (no_places (loads_of us)) order → IsGreatestLevel (line_by turned_time (loads_of us) n) (value_of best) tree order level → Shows us n (partial_for us n order best level tree) (verdict.AtLeast level)
-partial-shows refute us n order best tree level few order_is best_is partial is =
-    let line = line_by turned_time (loads_of us) n in
-    let right : IsCertified us n (partial_for us n order best level tree) = record { head = record { same = record { slots = refl; lines = refl }; order = order_is; best = best_is; level = is.shows.0 }; shown = is.shows } in
+pub partial-shows : FaultsRefute → (us : List SyncUnit) (n : ℕ) (strong : Bool) (order : List ℕ) (best : Option Best) (tree : Shape) (level : ℕ) → AreFew us n → IsOrder (length us) order → IsBestPlan (loads_of us) n best
+    → IsPartialTree (line_by (searched_by strong) (loads_of us) n) (value_of best) tree (no_places (loads_of us)) order → IsGreatestLevel (line_by (searched_by strong) (loads_of us) n) (value_of best) tree order level → Shows us n (partial_for us n strong order best level tree) (verdict.AtLeast level)
+partial-shows refute us n strong order best tree level few order_is best_is partial is =
+    let line = line_by (searched_by strong) (loads_of us) n in
+    let range = partial-range strong in
+    let right : IsCertified us n (partial_for us n strong order best level tree) = record {
+      head = record { same = record { slots = refl; lines = refl }; order = order_is; best = best_is; level = is.shows.0 };
+      shown = subst (λ r. ShowsLevel (line_by r (loads_of us) n) (value_of best) level tree (no_places (loads_of us)) order) (sym (partial-rules strong)) is.shows;
+    } in
     record {
-      formed = formed-by us n 3 order best (Some level) tree few (omega arith) (omega arith) order_is best_is (omega arith, is.range) (λ within below deep.
-          tree-levels (λ qs _. LevelHolds line (Some level) qs) (kinds_in 3 (Some level)) refl (λ _ _ _. refl) line (λ no. absurd no) (value_of best) tree (no_places (loads_of us)) order 48 within few.least_slots few.most_slots below (left-first us n order order_is) deep partial.1 is.shows.1);
+      formed = formed-by us n (partial_version strong) order best (Some level) tree few (omega (arith, range.0)) range.1 order_is best_is (range.0, is.range) (λ within below deep.
+          tree-levels (λ qs _. LevelHolds line (Some level) qs) (kinds_in (partial_version strong) (Some level)) (partial-weights strong level) (λ _ _ _. partial-open strong level) line (partial-rooms strong level) (value_of best) tree (no_places (loads_of us)) order 48 within few.least_slots few.most_slots below (left-first (searched_by strong) us n order order_is) deep partial.1 is.shows.1);
       certified = right;
-      checked = checked refute us n (partial_for us n order best level tree) right;
+      checked = checked refute us n (partial_for us n strong order best level tree) right;
     }
 
-pub bounds : TreesBound → (us : List SyncUnit) (n : ℕ) (order : List ℕ) (best : Option Best) (tree : Shape) → IsFound us n order best tree → BoundsAll (loads_of us) n (value_of best)
-bounds law us n order best tree found =
-    law (line_by turned_time (loads_of us) n) (value_of best) tree order (AreLoads-loads_of us)
+pub bounds : TreesBound → (us : List SyncUnit) (n : ℕ) (strong : Bool) (order : List ℕ) (best : Option Best) (tree : Shape) → IsFound us n strong order best tree → BoundsAll (loads_of us) n (value_of best)
+bounds law us n strong order best tree found =
+    law (line_by (searched_by strong) (loads_of us) n) (value_of best) tree order (AreLoads-loads_of us)
     (subst (λ k. IsOrder k order) (sym (length-map us load_of)) found.order_is) found.tree_is

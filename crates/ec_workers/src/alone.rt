@@ -2,7 +2,7 @@
 
 ghost use Rattle.std.specs.Prelude.{◌≤◌, length};
 ghost use Rattle.ec_units.specs.Load.{loads_of};
-ghost use Rattle.ec_loads.specs.Line.{turned_time, line_by};
+ghost use Rattle.ec_loads.specs.Line.{line_by};
 ghost use Rattle.ec_symmetry.specs.Orders.{IsOrder, IsReachedPrefix};
 ghost use Rattle.ec_book.specs.Books.{IsBookOf, IsSameSearch};
 ghost use Rattle.ec_workers.specs.Desks.{IsClear};
@@ -30,8 +30,8 @@ fn worked_off<R: Wait, G: Gate>(
     gate: &G,
 ) -> Option<Ended>
     requires order { IsOrder (length units.now.units) order.now }
-    requires book { IsBookOf units.now.units units.now.slots order.now book.old }
-    requires reached { IsReachedPrefix (line_by turned_time (loads_of units.now.units) units.now.slots) order.now took.prefix }
+    requires book { IsBookOf units.now.units units.now.slots order.now book.old.rules book.old }
+    requires reached { IsReachedPrefix (line_by book.old.rules (loads_of units.now.units) units.now.slots) order.now took.prefix }
     requires some { 1 ≤ took.grant }
     requires clear { IsClear units.now.units units.now.slots desk.old.loads desk.old.rest }
     ensures clear { IsClear units.now.units units.now.slots desk.new.loads desk.new.rest }
@@ -59,7 +59,7 @@ pub(crate) fn work<R: Wait, G: Gate>(
     gate: &G,
 ) -> Ended
     requires order { IsOrder (length units.now.units) order.now }
-    requires book { IsBookOf units.now.units units.now.slots order.now book.old }
+    requires book { IsBookOf units.now.units units.now.slots order.now book.old.rules book.old }
     ensures same { IsSameSearch book.old book.new }
 {
     let Ok(mut desk) = Desk::new(alloc, units) else {

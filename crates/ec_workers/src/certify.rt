@@ -4,6 +4,7 @@ ghost use Rattle.std.specs.Prelude.{◌≡◌, ℕ, None, IfOk};
 ghost use Rattle.ec_cert.specs.Shapes.{cert_view};
 ghost use Rattle.ec_checker.specs.Certified.{line_of as line_spec, lines_of as lines_spec};
 ghost use Rattle.ec_cert.specs.Shapes.{shape_of};
+ghost use Rattle.ec_workers.specs.Outcomes.{proof_version as version_spec};
 
 use ec_cert::{Best, Cert, Order, Tree, UnitLine, UnitLines};
 use ec_units::{Name, Unit, Units, bytes_of};
@@ -32,18 +33,26 @@ pub fn lines_of(alloc: Global, units: &Units) -> Result<UnitLines, AllocError>
     Ok(UnitLines::new(lines))
 }
 
-/// The certificate of a tree without open leaves; takes no memory.
+/// The version of the certificate of a search that ended with a proof.
+fn proof_version(strong: bool) -> u8
+    ensures { result ≡ version_spec strong }
+{
+    if strong { 4 } else { 2 }
+}
+
+/// The certificate of a tree without open leaves, made by the strong rules or in turned time; takes no memory.
 pub(crate) fn certificate(
+    strong: bool,
     slots: u8,
     units: UnitLines,
     order: Order,
     best: Option<Best>,
     tree: Tree,
 ) -> Cert
-    ensures { cert_view result ≡ record { version = 2; slots = slots; units = units; order = order; best = best; level = None; tree = shape_of tree } }
+    ensures { cert_view result ≡ record { version = version_spec strong; slots = slots; units = units; order = order; best = best; level = None; tree = shape_of tree } }
 {
     Cert {
-        version: 2,
+        version: proof_version(strong),
         slots,
         units,
         order,

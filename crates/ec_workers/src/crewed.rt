@@ -9,15 +9,16 @@ ghost use Rattle.ec_cert.specs.Shapes.{cert_view, shape_of};
 ghost use Rattle.ec_book.specs.Books.{IsBookOf};
 ghost use Rattle.ec_crew.specs.Crews.{IsCrewed};
 ghost use Rattle.ec_crew.specs.declared.ended.Ended.TheVariants.{Refused, Memory as EndedMemory, Time as EndedTime};
-ghost use Rattle.ec_workers.specs.Answers.{asked_beyond, asked_for, GoesBeyond, HasCut, HasOrder, HasSearchOrder, IsOutcome, IsSolveFault};
+ghost use Rattle.ec_workers.specs.Answers.{asked_beyond, asked_for, GoesBeyond, HasCut, HasOrder, HasSearchOrder, IsOutcome, IsSolveFault, is_strong as strong_spec};
+ghost use Rattle.ec_outcome.specs.Searched.{searched_by};
 ghost use Rattle.ec_workers.specs.Outcomes.{IsPartialCert};
 ghost use Rattle.ec_workers.specs.Rooms.{IsRoomFor};
 ghost use Rattle.ec_outcome.specs.declared.search.Cut.TheVariants.{Budget, Journal, Memory, Time};
 
+use crate::begin::{is_strong, order_by, rules_by};
 use crate::planning::proved;
 use crate::room::Room;
 use ec_book::{Book, Finished};
-use ec_branch::search_order;
 use ec_cert::{Cert, Order, is_closed};
 use ec_crew::{CrewFault, Crewed, Ended, Gate, search_by_crew};
 use ec_outcome::{Cut, Outcome, SolveFault};
@@ -46,12 +47,19 @@ fn cut_of_crew(spent: u64, nodes: u32, ended: Ended) -> Cut
 }
 
 /// What comes of the work of several workers. Takes no memory.
-fn outcome_of(units: &Units, room: Room, order: Order, crewed: Crewed, nodes: u32) -> Outcome
+fn outcome_of(
+    units: &Units,
+    room: Room,
+    order: Order,
+    crewed: Crewed,
+    nodes: u32,
+    strong: bool,
+) -> Outcome
     requires room { IsRoomFor units.now.units room.lines room.places }
     requires order { IsOrder (length units.now.units) order }
-    requires crewed { (given : Shape) × (value : Option ℕ) × IsCrewed units.now.units units.now.slots order given value nodes crewed.finished }
-    ensures outcome { (workers : ℕ) (given : Shape) (value : Option ℕ) → 1 < workers → IsCrewed units.now.units units.now.slots order given value nodes crewed.finished → IsOutcome units.now.units units.now.slots (asked_beyond workers nodes given) result }
-    ensures beyond { (given : Shape) (value : Option ℕ) → IsCrewed units.now.units units.now.slots order given value nodes crewed.finished → GoesBeyond given value nodes result }
+    requires crewed { (given : Shape) × (value : Option ℕ) × IsCrewed units.now.units units.now.slots order (searched_by strong) given value nodes crewed.finished }
+    ensures outcome { (workers : ℕ) (given : Shape) (value : Option ℕ) → 1 < workers → IsCrewed units.now.units units.now.slots order (searched_by strong) given value nodes crewed.finished → IsOutcome units.now.units units.now.slots (asked_beyond strong workers nodes given) result }
+    ensures beyond { (given : Shape) (value : Option ℕ) → IsCrewed units.now.units units.now.slots order (searched_by strong) given value nodes crewed.finished → GoesBeyond given value nodes result }
     ensures journal { crewed.ended ≡ Refused → HasCut Journal result }
     ensures order { HasOrder order result }
 {
@@ -67,22 +75,24 @@ fn outcome_of(units: &Units, room: Room, order: Order, crewed: Crewed, nodes: u3
             best,
             order,
             tree,
+            strong,
             cut: Cut::Journal,
         };
     }
     if is_closed(&tree) {
-        return proved(units, room, order, best, tree);
+        return proved(units, room, order, best, tree, strong);
     }
     Outcome::Unproved {
         best,
         order,
         tree,
+        strong,
         cut: cut_of_crew(spent, nodes, ended),
     }
 }
 
-/// Searches on a book on which nothing has happened, with 2 to 16 workers, worker 0 of which offers the greedy plan where
-/// `greedy` says so.
+/// Searches on a book on which nothing has happened, with 2 to 16 workers, worker 0 of which offers a first plan where
+/// `first` says so.
 fn search_on<R: Threads + Wait + Sync, G: Gate + Sync>(
     rt: &R,
     alloc: Global,
@@ -91,15 +101,16 @@ fn search_on<R: Threads + Wait + Sync, G: Gate + Sync>(
     book: Book,
     workers: usize,
     nodes: u32,
-    greedy: bool,
+    strong: bool,
+    first: bool,
     gate: &G,
 ) -> Result<Outcome, SolveFault>
     requires workers { (2 ≤ workers) × (workers ≤ 16) }
     requires order { IsOrder (length units.now.units) order.items }
-    requires book { IsBookOf units.now.units units.now.slots order.items book }
+    requires book { IsBookOf units.now.units units.now.slots order.items (searched_by strong) book }
     requires unused { book.log ≡ [] }
     requires nodes { book.nodes ≡ nodes }
-    ensures outcome { IfOk result (IsOutcome units.now.units units.now.slots (asked_beyond workers nodes book.given)) }
+    ensures outcome { IfOk result (IsOutcome units.now.units units.now.slots (asked_beyond strong workers nodes book.given)) }
     ensures beyond { IfOk result (GoesBeyond book.given book.given_value nodes) }
     ensures fault { IfErr result (IsSolveFault workers) }
     ensures order { IfOk result (HasOrder order.items) }
@@ -112,12 +123,12 @@ fn search_on<R: Threads + Wait + Sync, G: Gate + Sync>(
         units,
         order.as_slice(),
         workers,
-        greedy,
+        first,
         gate,
     );
     let order = Order::new(order);
     match crewed {
-        Ok(crewed) => Ok(outcome_of(units, room, order, crewed, nodes)),
+        Ok(crewed) => Ok(outcome_of(units, room, order, crewed, nodes, strong)),
         Err(CrewFault::OutOfMemory) => Err(SolveFault::OutOfMemory),
         Err(CrewFault::Spawn) => Err(SolveFault::Spawn),
     }
@@ -130,18 +141,22 @@ pub(crate) fn solve_by_crew<R: Threads + Wait + Sync, G: Gate + Sync>(
     units: &Units,
     workers: usize,
     nodes: u32,
+    strong: bool,
     gate: &G,
 ) -> Result<Outcome, SolveFault>
     requires workers { (2 ≤ workers) × (workers ≤ 16) }
     requires nodes { (1 ≤ nodes) × (nodes ≤ 10000000) }
-    ensures outcome { IfOk result (IsOutcome units.now.units units.now.slots (asked_for workers nodes)) }
+    ensures outcome { IfOk result (IsOutcome units.now.units units.now.slots (asked_for strong workers nodes)) }
     ensures beyond { IfOk result (GoesBeyond open_leaf None nodes) }
-    ensures order { IfOk result (HasSearchOrder (loads_of units.now.units)) }
+    ensures order { IfOk result (HasSearchOrder strong (loads_of units.now.units)) }
     ensures fault { IfErr result (IsSolveFault workers) }
 {
-    let order = search_order(alloc, units)?;
-    let book = Book::new(alloc, units, order.as_slice(), u64::from(nodes))?;
-    search_on(rt, alloc, units, order, book, workers, nodes, true, gate)
+    let order = order_by(alloc, units, strong)?;
+    let rules = rules_by(strong);
+    let book = Book::new(alloc, units, order.as_slice(), rules, u64::from(nodes))?;
+    search_on(
+        rt, alloc, units, order, book, workers, nodes, strong, true, gate,
+    )
 }
 
 /// Goes on with a certificate's tree, with 2 to 16 workers, as `solve_by_crew` searches.
@@ -157,12 +172,15 @@ pub(crate) fn resume_by_crew<R: Threads + Wait + Sync, G: Gate + Sync>(
     requires workers { (2 ≤ workers) × (workers ≤ 16) }
     requires nodes { (1 ≤ nodes) × (nodes ≤ 10000000) }
     requires cert { IsPartialCert units.now.units units.now.slots (cert_view cert) }
-    ensures outcome { IfOk result (IsOutcome units.now.units units.now.slots (asked_beyond workers nodes (shape_of cert.tree))) }
+    ensures outcome { IfOk result (IsOutcome units.now.units units.now.slots (asked_beyond (strong_spec (cert_view cert)) workers nodes (shape_of cert.tree))) }
     ensures beyond { IfOk result (GoesBeyond (shape_of cert.tree) (value_of cert.best) nodes) }
     ensures fault { IfErr result (IsSolveFault workers) }
     ensures order { IfOk result (HasOrder cert.order) }
 {
     let order = Vec::from_slice(alloc, cert.order.as_slice())?;
-    let book = Book::resume(alloc, units, cert, u64::from(nodes))?;
-    search_on(rt, alloc, units, order, book, workers, nodes, false, gate)
+    let strong = is_strong(&cert);
+    let book = Book::resume(alloc, units, cert, rules_by(strong), u64::from(nodes))?;
+    search_on(
+        rt, alloc, units, order, book, workers, nodes, strong, false, gate,
+    )
 }

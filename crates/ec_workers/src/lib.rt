@@ -2,6 +2,7 @@
 #![tactic(auto)]
 
 mod alone;
+mod begin;
 mod certify;
 mod crewed;
 mod desk;
@@ -13,6 +14,7 @@ mod turn;
 mod unfinished;
 mod watch;
 
+pub use begin::rules_by;
 pub use certify::lines_of;
 pub use ec_crew::{Gate, Quiet};
 pub use ec_outcome::{Cut, Outcome, SolveFault};

@@ -9,38 +9,39 @@ ghost use Rattle.ec_cert.specs.BestPlan.{value_of};
 ghost use Rattle.ec_cert.specs.Shapes.{cert_view, shape_of};
 ghost use Rattle.ec_book.specs.Books.{IsBookOf, IsSameSearch};
 ghost use Rattle.ec_crew.specs.declared.ended.Ended.TheVariants.{Time as EndedTime};
-ghost use Rattle.ec_workers.specs.Answers.{Asked, asked_beyond, asked_for, GoesBeyond, HasOrder, HasSearchOrder, IsOutcome, tree_in, value_in};
+ghost use Rattle.ec_workers.specs.Answers.{Asked, asked_beyond, asked_for, GoesBeyond, HasOrder, HasSearchOrder, IsOutcome, is_strong as strong_spec, tree_in, value_in};
+ghost use Rattle.ec_outcome.specs.Searched.{searched_by};
 ghost use Rattle.ec_workers.specs.Outcomes.{IsFound, IsPartialCert};
 ghost use Rattle.ec_workers.specs.Rooms.{IsRoomFor};
 ghost use Rattle.ec_outcome.specs.declared.search.Cut.TheVariants.{Budget, Journal, Memory, Time};
 ghost use Rattle.ec_outcome.specs.declared.search.SolveFault.TheVariants.{OutOfMemory};
 
 use crate::alone::work;
+use crate::begin::{is_strong, order_by, rules_by};
 use crate::certify::certificate;
 use crate::room::{Room, copied};
 use crate::turn::offer;
 use ec_book::{Book, Finished};
-use ec_branch::{greedy, search_order};
 use ec_cert::{Best, Cert, Order, Tree};
 use ec_checker::faults_refute;
-use ec_crew::{Ended, Gate};
+use ec_crew::{Ended, Gate, opening_plan};
 use ec_outcome::{Cut, Outcome, SolveFault};
 use ec_tree::trees_bound;
 use ec_units::Units;
 use std::alloc::Global;
 use std::sync::Wait;
 
-/// Offers the greedy plan, if there is one; false where memory was refused.
-fn offered_greedy(alloc: Global, units: &Units, book: &mut Book) -> bool
+/// Offers the first plan, if there is one; false where memory was refused.
+fn offered_first(alloc: Global, units: &Units, book: &mut Book) -> bool
     ensures { IsSameSearch book.old book.new }
 {
-    match greedy(alloc, units) {
+    match opening_plan(alloc, units, book.rules()) {
         Ok(plan) => offer(book, plan),
         Err(_) => false,
     }
 }
 
-/// Offers the greedy plan, and then works on the pieces of the book; says why that ended.
+/// Offers the first plan, and then works on the pieces of the book; says why that ended.
 fn searched<R: Wait, G: Gate>(
     rt: &R,
     alloc: Global,
@@ -50,10 +51,10 @@ fn searched<R: Wait, G: Gate>(
     gate: &G,
 ) -> Ended
     requires order { IsOrder (length units.now.units) order.now }
-    requires book { IsBookOf units.now.units units.now.slots order.now book.old }
+    requires book { IsBookOf units.now.units units.now.slots order.now book.old.rules book.old }
     ensures same { IsSameSearch book.old book.new }
 {
-    if !offered_greedy(alloc, units, book) {
+    if !offered_first(alloc, units, book) {
         return Ended::Memory;
     }
     work(rt, alloc, units, order, book, gate)
@@ -82,9 +83,10 @@ pub(crate) fn proved(
     order: Order,
     best: Option<Best>,
     tree: Tree,
+    strong: bool,
 ) -> Outcome
     requires room { IsRoomFor units.now.units room.lines room.places }
-    requires found { IsFound units.now.units units.now.slots order best (shape_of tree) }
+    requires found { IsFound units.now.units units.now.slots strong order best (shape_of tree) }
     ensures outcome { (asked : Asked) → IsOutcome units.now.units units.now.slots asked result }
     ensures tree { tree_in result ≡ shape_of tree }
     ensures value { value_in result ≡ value_of best }
@@ -94,12 +96,12 @@ pub(crate) fn proved(
     trees_bound();
     let Room { lines, places } = room;
     let Some(best) = best else {
-        let cert = certificate(units.slots, lines, order, None, tree);
+        let cert = certificate(strong, units.slots, lines, order, None, tree);
         return Outcome::NoPlan { cert };
     };
     let plan = copied(places, &best.plan);
     let busiest = best.busiest;
-    let cert = certificate(units.slots, lines, order, Some(best), tree);
+    let cert = certificate(strong, units.slots, lines, order, Some(best), tree);
     Outcome::Optimal {
         plan,
         busiest,
@@ -108,12 +110,20 @@ pub(crate) fn proved(
 }
 
 /// What comes of the book of a search with one worker, who ended for this reason. Takes no memory.
-fn ended(units: &Units, room: Room, order: Order, book: Book, nodes: u32, why: Ended) -> Outcome
+fn ended(
+    units: &Units,
+    room: Room,
+    order: Order,
+    book: Book,
+    nodes: u32,
+    strong: bool,
+    why: Ended,
+) -> Outcome
     requires room { IsRoomFor units.now.units room.lines room.places }
     requires order { IsOrder (length units.now.units) order }
-    requires book { IsBookOf units.now.units units.now.slots order book }
+    requires book { IsBookOf units.now.units units.now.slots order (searched_by strong) book }
     requires nodes { book.nodes ≡ nodes }
-    ensures outcome { IsOutcome units.now.units units.now.slots (asked_beyond 1 nodes book.given) result }
+    ensures outcome { IsOutcome units.now.units units.now.slots (asked_beyond strong 1 nodes book.given) result }
     ensures beyond { GoesBeyond book.given book.given_value nodes result }
     ensures order { HasOrder order result }
 {
@@ -128,12 +138,13 @@ fn ended(units: &Units, room: Room, order: Order, book: Book, nodes: u32, why: E
         ..
     } = finished;
     if open == 0 {
-        return proved(units, room, order, best, tree);
+        return proved(units, room, order, best, tree, strong);
     }
     Outcome::Unproved {
         best,
         order,
         tree,
+        strong,
         cut: cut_of(spent, nodes, why),
     }
 }
@@ -144,20 +155,22 @@ pub(crate) fn solve_alone<R: Wait, G: Gate>(
     alloc: Global,
     units: &Units,
     nodes: u32,
+    strong: bool,
     gate: &G,
 ) -> Result<Outcome, SolveFault>
     requires nodes { (1 ≤ nodes) × (nodes ≤ 10000000) }
-    ensures outcome { IfOk result (IsOutcome units.now.units units.now.slots (asked_for 1 nodes)) }
+    ensures outcome { IfOk result (IsOutcome units.now.units units.now.slots (asked_for strong 1 nodes)) }
     ensures beyond { IfOk result (GoesBeyond open_leaf None nodes) }
-    ensures order { IfOk result (HasSearchOrder (loads_of units.now.units)) }
+    ensures order { IfOk result (HasSearchOrder strong (loads_of units.now.units)) }
     ensures fault { IfErr result (λ e. e ≡ OutOfMemory) }
 {
     let room = Room::new(alloc, units)?;
-    let order = search_order(alloc, units)?;
-    let mut book = Book::new(alloc, units, order.as_slice(), u64::from(nodes))?;
+    let order = order_by(alloc, units, strong)?;
+    let rules = rules_by(strong);
+    let mut book = Book::new(alloc, units, order.as_slice(), rules, u64::from(nodes))?;
     let why = searched(rt, alloc, units, order.as_slice(), &mut book, gate);
     let order = Order::new(order);
-    Ok(ended(units, room, order, book, nodes, why))
+    Ok(ended(units, room, order, book, nodes, strong, why))
 }
 
 /// Goes on with a certificate's tree, with one worker, as `solve_alone` searches.
@@ -171,15 +184,16 @@ pub(crate) fn resume_alone<R: Wait, G: Gate>(
 ) -> Result<Outcome, SolveFault>
     requires nodes { (1 ≤ nodes) × (nodes ≤ 10000000) }
     requires cert { IsPartialCert units.now.units units.now.slots (cert_view cert) }
-    ensures outcome { IfOk result (IsOutcome units.now.units units.now.slots (asked_beyond 1 nodes (shape_of cert.tree))) }
+    ensures outcome { IfOk result (IsOutcome units.now.units units.now.slots (asked_beyond (strong_spec (cert_view cert)) 1 nodes (shape_of cert.tree))) }
     ensures beyond { IfOk result (GoesBeyond (shape_of cert.tree) (value_of cert.best) nodes) }
     ensures order { IfOk result (HasOrder cert.order) }
     ensures fault { IfErr result (λ e. e ≡ OutOfMemory) }
 {
     let room = Room::new(alloc, units)?;
     let order = Vec::from_slice(alloc, cert.order.as_slice())?;
-    let mut book = Book::resume(alloc, units, cert, u64::from(nodes))?;
+    let strong = is_strong(&cert);
+    let mut book = Book::resume(alloc, units, cert, rules_by(strong), u64::from(nodes))?;
     let why = work(rt, alloc, units, order.as_slice(), &mut book, gate);
     let order = Order::new(order);
-    Ok(ended(units, room, order, book, nodes, why))
+    Ok(ended(units, room, order, book, nodes, strong, why))
 }

@@ -3,7 +3,7 @@
 ghost use Rattle.std.specs.Prelude.{◌≡◌, ℕ, ◌≤◌, Some, IfOk, IfErr};
 ghost use Rattle.ec_cert.specs.BestPlan.{value_of};
 ghost use Rattle.ec_cert.specs.Shapes.{cert_view, shape_of};
-ghost use Rattle.ec_workers.specs.Answers.{asked_beyond, GoesBeyond, HasLevelFrom, HasOrder, IsOutcome, IsSolveFault};
+ghost use Rattle.ec_workers.specs.Answers.{asked_beyond, GoesBeyond, HasLevelFrom, HasOrder, IsOutcome, IsSolveFault, is_strong};
 ghost use Rattle.ec_workers.specs.Outcomes.{IsPartialCert};
 
 use crate::crewed::resume_by_crew;
@@ -17,14 +17,14 @@ use std::alloc::Global;
 use std::sync::Wait;
 use std::thread::Threads;
 
-/// Goes on with a search that ended without a proof, from its certificate, with 1 to 16 workers, which split and close
-/// at most `nodes` nodes more (1 to 10,000,000). The order of the units is the certificate's, and so are the tree and
+/// Goes on with a search that ended without a proof, from its certificate and by the rules of its version, with 1 to 16
+/// workers, which split and close at most `nodes` nodes more (1 to 10,000,000). The order of the units is the certificate's, and so are the tree and
 /// the plan from which it goes on, which it never loses: what it finds is as if it had found all of the tree. `gate` is told
 /// and asked as `solve` does it. Nothing of the certificate is copied but its order, and once the search has begun its end
 /// takes no memory.
 ///
 /// Where no leaf of the tree is open it ends at once. One worker runs in the calling thread; its answer is always the same for
-/// the same units, certificate and budget, as long as memory is given. Several run as `solve` says, but no greedy plan
+/// the same units, certificate and budget, as long as memory is given. Several run as `solve` says, but no first plan
 /// is made, and all begin at the value of the certificate's plan if it has one.
 ///
 /// `OutOfMemory` where memory was refused before the search began, `Spawn` where more than one worker was asked for and
@@ -41,7 +41,7 @@ pub fn solve_from<R: Threads + Wait + Sync, G: Gate + Sync>(
     requires workers { (1 ≤ workers) × (workers ≤ 16) }
     requires nodes { (1 ≤ nodes) × (nodes ≤ 10000000) }
     requires cert { IsPartialCert units.now.units units.now.slots (cert_view cert) }
-    ensures outcome { IfOk result (IsOutcome units.now.units units.now.slots (asked_beyond workers nodes (shape_of cert.tree))) }
+    ensures outcome { IfOk result (IsOutcome units.now.units units.now.slots (asked_beyond (is_strong (cert_view cert)) workers nodes (shape_of cert.tree))) }
     ensures beyond { IfOk result (GoesBeyond (shape_of cert.tree) (value_of cert.best) nodes) }
     ensures level { IfOk result (λ o. (l : ℕ) → cert.level ≡ Some l → HasLevelFrom units.now.units units.now.slots l o) }
     ensures fault { IfErr result (IsSolveFault workers) }

@@ -15,8 +15,9 @@ use std::sync::Wait;
 use std::thread::Threads;
 
 /// Searches for a plan whose busiest tick costs least, with 1 to 16 workers, which split and close at most `nodes`
-/// nodes of the tree (1 to 10,000,000); the greedy plan counts none. They place the units in the order that `search_order`
-/// gives. `gate` is told before each node, and asked before each piece whether the time is over; then the search ends, with
+/// nodes of the tree (1 to 10,000,000); the plan that is offered first counts none. By the `strong` rules, those of
+/// certificates of version 4, they place the units in the order that `strong_order` gives, and `first_plan` is offered; else
+/// in that of `search_order`, and the greedy plan is. `gate` is told before each node, and asked before each piece whether the time is over; then the search ends, with
 /// all that it found. Once it has begun its end takes no memory.
 ///
 /// One worker runs in the calling thread, and its answer is always the same for the same units and budget, as long as
@@ -33,17 +34,18 @@ pub fn solve<R: Threads + Wait + Sync, G: Gate + Sync>(
     units: &Units,
     workers: usize,
     nodes: u32,
+    strong: bool,
     gate: &G,
 ) -> Result<Outcome, SolveFault>
     requires workers { (1 ≤ workers) × (workers ≤ 16) }
     requires nodes { (1 ≤ nodes) × (nodes ≤ 10000000) }
-    ensures outcome { IfOk result (IsOutcome units.now.units units.now.slots (asked_for workers nodes)) }
+    ensures outcome { IfOk result (IsOutcome units.now.units units.now.slots (asked_for strong workers nodes)) }
     ensures beyond { IfOk result (GoesBeyond open_leaf None nodes) }
-    ensures order { IfOk result (HasSearchOrder (loads_of units.now.units)) }
+    ensures order { IfOk result (HasSearchOrder strong (loads_of units.now.units)) }
     ensures fault { IfErr result (IsSolveFault workers) }
 {
     if workers == 1 {
-        return solve_alone(rt, alloc, units, nodes, gate);
+        return solve_alone(rt, alloc, units, nodes, strong, gate);
     }
-    solve_by_crew(rt, alloc, units, workers, nodes, gate)
+    solve_by_crew(rt, alloc, units, workers, nodes, strong, gate)
 }

@@ -2,7 +2,7 @@
 
 ghost use Rattle.std.specs.Prelude.{◌≡◌, ℕ, ◌<◌, ◌≤◌, ◌↔◌, IsTrue, length, drop};
 ghost use Rattle.ec_units.specs.Load.{loads_of};
-ghost use Rattle.ec_loads.specs.Line.{turned_time, line_by};
+ghost use Rattle.ec_loads.specs.Line.{line_by};
 ghost use Rattle.ec_loads.specs.Search.{IsPartialTree, node_count};
 ghost use Rattle.ec_symmetry.specs.Orders.{IsOrder, IsReachedPrefix, prefix_of};
 ghost use Rattle.ec_cert.specs.Shapes.{shape_of};
@@ -73,7 +73,7 @@ fn given_back(book: &mut Book, piece: u64, why: Ended) -> Turn
 /// Reports a subtree of the piece, which was explored at a value. It is to be explored again where the book's value
 /// is above the subtree's and below that one; where anything else is refused the worker ends.
 fn reported(book: &mut Book, took: &Took, value: Option<u64>, sub: Subtree, stopped: bool) -> Turn
-    requires tree { IsPartialTree (line_by turned_time book.old.loads book.old.slots) sub.threshold (shape_of sub.tree) (prefix_of book.old.loads book.old.order took.now.prefix) (drop (length took.now.prefix) book.old.order) }
+    requires tree { IsPartialTree (line_by book.old.rules book.old.loads book.old.slots) sub.threshold (shape_of sub.tree) (prefix_of book.old.loads book.old.order took.now.prefix) (drop (length took.now.prefix) book.old.order) }
     requires some { 0 < node_count (shape_of sub.tree) }
     ensures same { IsSameSearch book.old book.new }
     ensures again { FindsLower value book.new result }
@@ -100,8 +100,8 @@ pub(crate) fn take_turn<G: Gate>(
     gate: &G,
 ) -> Turn
     requires order { IsOrder (length units.now.units) order.now }
-    requires book { IsBookOf units.now.units units.now.slots order.now book.old }
-    requires reached { IsReachedPrefix (line_by turned_time (loads_of units.now.units) units.now.slots) order.now took.now.prefix }
+    requires book { IsBookOf units.now.units units.now.slots order.now book.old.rules book.old }
+    requires reached { IsReachedPrefix (line_by book.old.rules (loads_of units.now.units) units.now.slots) order.now took.now.prefix }
     requires some { 1 ≤ took.now.grant }
     requires clear { IsClear units.now.units units.now.slots desk.old.loads desk.old.rest }
     ensures clear { IsClear units.now.units units.now.slots desk.new.loads desk.new.rest }
@@ -120,7 +120,10 @@ pub(crate) fn take_turn<G: Gate>(
     };
     let prefix = took.prefix.as_slice();
     let Desk { loads, rest } = desk;
-    let explored = explore_in(alloc, loads, rest, order, prefix, &mut watch, took.grant);
+    let rules = book.rules();
+    let explored = explore_in(
+        alloc, loads, rest, order, rules, prefix, &mut watch, took.grant,
+    );
     let Watch { kept, stopped, .. } = watch;
     let offered = offer(book, kept);
     match explored {

@@ -8,14 +8,21 @@ use ec_answers::Told;
 use ec_cert_text::CertFault;
 use ec_checker::CheckFault;
 use ec_command::Line;
-use ec_explain::{Inputs, Written, advice, explain};
+use ec_explain::{Filed, Inputs, Written, advice, explain};
 use ec_files::FileFault;
 use ec_jobs::Report;
+use ec_outcome::{Cut, Ending};
 use ec_refusals::Refusal;
 use std::alloc::{AllocError, Global};
 use std::io::{ErrorKind, Read};
 use std::rt::Files;
 use std::{fs, io};
+
+/// The most nodes that a search may be asked to visit.
+const MOST_NODES: u32 = 10_000_000;
+
+/// The most minutes that a search may be asked to take.
+const MOST_MINUTES: u32 = 10_000;
 
 /// What is left of the units: their path if they have one, the front of what was read, and why their reading failed.
 #[derive(Clone, Copy)]
@@ -151,14 +158,36 @@ pub(crate) fn tell_refusal<'x, R: Files + AllocGlobal + Eprint>(
     }
 }
 
-/// The certificate that a search wrote to the path of its line.
-fn written_to<'x, R: Files>(files: &R, line: &'x Line) -> Option<Written<'x>> {
-    let path = text_of(line.out())?;
+/// What became of the certificate of a search, which is at the path of its line where `is_there` says so.
+fn filed_by<'x, R: Files>(files: &R, line: &'x Line, is_there: bool) -> Filed<'x> {
+    let Some(path) = text_of(line.out()) else {
+        return Filed::Unasked;
+    };
+    if !is_there {
+        return Filed::Missing;
+    }
     let bytes = match fs::metadata(files, path) {
         Ok(found) => found.len(),
         Err(_) => 0,
     };
-    Some(Written { path, bytes })
+    Filed::There(Written { path, bytes })
+}
+
+/// Whether a search that ended without a proof took as many nodes or minutes as may be asked for.
+fn is_most(line: &Line, told: &Told) -> bool {
+    let (Line::Plan { effort, .. } | Line::Resume { effort, .. }) = line else {
+        return false;
+    };
+    match told.ending {
+        Some(
+            Ending {
+                cut: Cut::Budget,
+                ..
+            },
+        ) => effort.nodes == MOST_NODES,
+        Some(Ending { cut: Cut::Time, .. }) => effort.minutes == Some(MOST_MINUTES),
+        _ => false,
+    }
 }
 
 /// Tells what would help a search that ended without a proof, or that its certificate is too large to be read.
@@ -166,8 +195,8 @@ fn tell_advice<R: Files + AllocGlobal + Eprint>(rt: &R, line: &Line, told: &Told
     let (Line::Plan { .. } | Line::Resume { .. }) = line else {
         return;
     };
-    let written = if is_there { written_to(rt, line) } else { None };
-    if let Ok(text) = advice(rt.alloc(), told.ending, written) {
+    let filed = filed_by(rt, line, is_there);
+    if let Ok(text) = advice(rt.alloc(), told.ending, filed, is_most(line, told)) {
         let _ = rt.eprint(text.as_str());
     }
 }

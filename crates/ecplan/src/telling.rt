@@ -13,7 +13,7 @@ pub(crate) const NO_FORM: &str =
 
 /// What is told of a file of units that isn't written over.
 pub(crate) const CHANGED: &str =
-    "It holds other units than those that the search began with, and is left as it is. The plan was told";
+    "It isn't the text any more that the search began with, and is left as it is. The plan was told";
 
 /// What is told before what was found, where standard output hasn't got it.
 pub(crate) const UNTOLD: &str = "What was found:";

@@ -90,7 +90,7 @@ fn crowd_on<S: Search + Send + Sync, R: Threads + Wait + Sync>(
     requires parts { (blank.parts ≡ S.parts) × (blank.parts ≡ 16) }
     requires order { IsOrder (length units.now.units) order.now }
     requires search { AreOf S.loads S.slots S.order units.now.units units.now.slots order.now }
-    requires book { IsBookOf units.now.units units.now.slots order.now book }
+    requires book { IsBookOf units.now.units units.now.slots order.now S.rules book }
     requires began { BeganWith S.given S.given_value S.nodes book }
     requires unused { book.log ≡ [] }
 {
@@ -124,7 +124,7 @@ pub(crate) fn crowd<R: Threads + Wait + Sync>(
     turns: u32,
 ) -> Option<(Finished, usize)>
     requires order { IsOrder (length units.now.units) order.now }
-    requires book { IsBookOf units.now.units units.now.slots order.now book }
+    requires book { IsBookOf units.now.units units.now.slots order.now book.rules book }
     requires unused { book.log ≡ [] }
 {
     crowd_on::<Brand, R>(rt, alloc, Blank::new(16), book, units, order, turns)

@@ -4,6 +4,7 @@ use crate::contention::crowd;
 use crate::replay::{replayed, workers};
 use ec_book::Book;
 use ec_branch::search_order;
+use ec_symmetry::Rules;
 use ec_unit_text::read_units;
 use std::alloc::{AllocError, Global};
 use std::test::Fail;
@@ -40,7 +41,7 @@ fn a_crowd_keeps_the_book(rt: HostRuntime) -> Result<(), Fail> {
         return Ok(());
     };
     let order = search_order(alloc, &units)?;
-    let book = Book::new(alloc, &units, order.as_slice(), 1000000)?;
+    let book = Book::new(alloc, &units, order.as_slice(), Rules::Turned, 1000000)?;
     let Some((finished, started)) = crowd(&rt, alloc, book, &units, order.as_slice(), TURNS) else {
         assert!(rt; false);
         return Ok(());

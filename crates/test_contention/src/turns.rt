@@ -2,7 +2,7 @@
 
 ghost use Rattle.std.specs.Prelude.{◌≡◌, ℕ, ◌<◌, ◌≤◌, ◌↔◌, IsTrue};
 ghost use Rattle.ec_units.specs.Load.{loads_of};
-ghost use Rattle.ec_loads.specs.Line.{turned_time, line_by};
+ghost use Rattle.ec_loads.specs.Line.{line_by};
 ghost use Rattle.ec_loads.specs.Search.{node_count};
 ghost use Rattle.ec_cert.specs.Shapes.{shape_of};
 ghost use Rattle.ec_symmetry.specs.Orders.{IsReachedPrefix};
@@ -65,7 +65,7 @@ fn settle<S: Search, R: Wait>(
     took: &Took,
     turn: u32,
 )
-    requires reached { IsReachedPrefix (line_by turned_time (loads_of seat.old.units) seat.old.slots) seat.old.order took.now.prefix }
+    requires reached { IsReachedPrefix (line_by S.rules (loads_of seat.old.units) seat.old.slots) seat.old.order took.now.prefix }
     requires some { 1 ≤ took.now.grant }
 {
     if turn % 5 == 4 {
@@ -80,7 +80,8 @@ fn settle<S: Search, R: Wait>(
         value: took.value,
         halted: false,
     };
-    if let Ok(sub) = explore(alloc, units, order, prefix, &mut guide, took.grant) {
+    let rules = shared.rules();
+    if let Ok(sub) = explore(alloc, units, order, rules, prefix, &mut guide, took.grant) {
         if has_nodes(&sub.tree) {
             let _ = shared.report(rt, seat, took.piece, prefix, sub);
         }

@@ -1,11 +1,12 @@
 //! A row of the table.
 //!
 //! Its head is the line of a refusal, and below it `cert PATH`, `out PATH` and `reason WORDS` where the job had them. Or it is
-//! the first line of a search's text: of one without a proof `unproved V`, below it `cut WHY` and `at least L`; and where a
-//! certificate was written, `out PATH` and `bytes N`.
+//! the first line of a search's text: of one without a proof `unproved V`, below it `cut WHY` and `at least L`, and `strong`
+//! of a search by the strong rules, `most` of one that took as much as may be asked for; and where a certificate was wanted,
+//! `out PATH` and `bytes N`, and `missing` where it isn't there.
 
 use crate::refusals::refusal_of;
-use ec_explain::{Inputs, Written, advice, explain};
+use ec_explain::{Filed, Inputs, Written, advice, explain};
 use ec_outcome::{Cut, Ending};
 use std::alloc::{AllocError, Global};
 
@@ -19,15 +20,16 @@ fn part<'a>(head: &'a str, word: &str) -> Option<&'a str> {
     None
 }
 
-/// The certificate that a search of the head wrote.
-fn written_of(head: &str) -> Option<Written<'_>> {
+/// What became of the certificate of a search of the head.
+fn filed_of(head: &str) -> Filed<'_> {
     let bytes = part(head, "bytes ")
         .unwrap_or("0")
         .parse::<u64>()
         .unwrap_or(0);
     match part(head, "out ") {
-        Some(path) => Some(Written { path, bytes }),
-        None => None,
+        Some(_) if part(head, "missing").is_some() => Filed::Missing,
+        Some(path) => Filed::There(Written { path, bytes }),
+        None => Filed::Unasked,
     }
 }
 
@@ -51,6 +53,7 @@ fn ending_of(head: &str) -> Option<Ending> {
         best: value.parse::<u64>().ok(),
         cut,
         level,
+        strong: part(head, "strong").is_some(),
     })
 }
 
@@ -62,7 +65,12 @@ pub(crate) fn answer_to<'x>(
     cert: Option<&'x [u8]>,
 ) -> Result<String, AllocError> {
     if !head.starts_with("refused ") {
-        return advice(alloc, ending_of(head), written_of(head));
+        return advice(
+            alloc,
+            ending_of(head),
+            filed_of(head),
+            part(head, "most").is_some(),
+        );
     }
     let Some(refusal) = refusal_of(head.lines().next().unwrap_or("")) else {
         return String::from_str(alloc, "no line of a refusal\n");

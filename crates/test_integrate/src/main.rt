@@ -22,7 +22,7 @@ fn best_frames<T: Threads + Wait + Sync>(
     tick: u32,
 ) -> Result<Vec<Frame>, Refusal> {
     let units = read_units(alloc, text)?;
-    let outcome = solve(rt, alloc, &units, 1, 1_000_000, &Quiet)?;
+    let outcome = solve(rt, alloc, &units, 1, 1_000_000, false, &Quiet)?;
     let Outcome::Optimal { plan, .. } = outcome else {
         return Err(Refusal::CertHasNoPlan);
     };

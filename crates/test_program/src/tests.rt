@@ -77,6 +77,7 @@ fn add_endless(out: &mut Draft, rt: &(impl Threads + Wait + Sync), alloc: Global
     let job = Job::Plan {
         workers: 1,
         nodes: 9,
+        strong: false,
     };
     let status = run(
         rt, alloc, &job, &mut units, none, &mut text, nowhere, &Quiet,

@@ -5,10 +5,11 @@ use ec_loads::Pair;
 use ec_units::Place;
 use std::alloc::Global;
 
-/// A call: its text, whose first word is its name.
+/// A call: its text, whose first word is its name, and whether the word `strong` stood before it.
 #[derive(Clone, Copy)]
 pub(crate) struct Call<'a> {
     text: &'a str,
+    strong: bool,
 }
 
 /// A place: its phase and its slot, with a comma between them.
@@ -31,7 +32,18 @@ fn pair_of(word: &str) -> Option<Pair> {
 
 impl<'a> Call<'a> {
     pub(crate) fn of(text: &'a str) -> Call<'a> {
-        Call { text }
+        match text.strip_prefix("strong ") {
+            Some(text) => Call { text, strong: true },
+            None => Call {
+                text,
+                strong: false,
+            },
+        }
+    }
+
+    /// Whether searches are to go by the strong rules.
+    pub(crate) fn is_strong(self) -> bool {
+        self.strong
     }
 
     /// A word, or none.

@@ -44,11 +44,12 @@ impl Gate for Told {
     }
 }
 
-/// How many workers search, 1 to 16 of them, and within how many nodes, at least one.
+/// How many workers search, 1 to 16 of them, within how many nodes, at least one, and whether by the strong rules.
 #[derive(Clone, Copy)]
 pub(crate) struct Crew {
     pub workers: usize,
     pub nodes: u32,
+    pub strong: bool,
 }
 
 /// What is told of a search.
@@ -147,7 +148,7 @@ pub(crate) fn search(
 ) {
     let workers = crew.workers.clamp(1, 16);
     let nodes = crew.nodes.clamp(1, 10_000_000);
-    match solve(rt, alloc, units, workers, nodes, gate) {
+    match solve(rt, alloc, units, workers, nodes, crew.strong, gate) {
         Ok(outcome) => {
             add_shown(out, alloc, units, &outcome, shown);
             drop(outcome);
@@ -168,11 +169,12 @@ pub(crate) fn found(
     text.finish()
 }
 
-/// The workers that a word of a call is, and the nodes that the next one is.
+/// The workers that a word of a call is, and the nodes that the next one is; by the strong rules where the call says so.
 pub(crate) fn crew_of(call: Call<'_>, at: usize) -> Crew {
     Crew {
         workers: call.index(at),
         nodes: call.count(at.saturating_add(1)),
+        strong: call.is_strong(),
     }
 }
 

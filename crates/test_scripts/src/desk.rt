@@ -1,6 +1,7 @@
 //! A book with the units and the order that it is for.
 
-ghost use Rattle.std.specs.Prelude.{◌≡◌, ℕ, ◌<◌, ◌↔◌, IsTrue, IfOk, length};
+ghost use Rattle.std.specs.Prelude.{◌≡◌, ℕ, ◌<◌, ◌≤◌, ◌↔◌, IsTrue, IfOk, length};
+ghost use Rattle.ec_loads.specs.Line.{turned_time};
 ghost use Rattle.ec_loads.specs.Search.{node_count};
 ghost use Rattle.ec_cert.specs.Shapes.{cert_view, shape_of};
 ghost use Rattle.ec_symmetry.specs.Orders.{IsOrder};
@@ -16,6 +17,7 @@ use ec_branch::search_order;
 use ec_cert::{Cert, Tree};
 use ec_drafts::Draft;
 use ec_loads::{Places, Plan};
+use ec_symmetry::Rules;
 use ec_units::{Place, Units};
 use std::alloc::{AllocError, Global};
 use std::marker::Model;
@@ -33,6 +35,7 @@ pub(crate) struct Desk {
 impl Model for Desk {
     ghost use Rattle.std.specs.Prelude.{length};
     ghost use Rattle.std.specs.Coded.{codes};
+    ghost use Rattle.ec_loads.specs.Line.{turned_time};
     ghost use Rattle.ec_symmetry.specs.Orders.{IsOrder};
     ghost use Rattle.ec_book.specs.ShapeCode.{shape_code};
     ghost use Rattle.ec_book.specs.Views.{BookView};
@@ -44,7 +47,7 @@ impl Model for Desk {
 
     ghost view = { λ d. d.book };
 
-    ghost invariant = { λ d. IsOrder (length d.units.units) d.order.items × IsBookOf d.units.units d.units.slots d.order.items d.book };
+    ghost invariant = { λ d. IsOrder (length d.units.units) d.order.items × IsBookOf d.units.units d.units.slots d.order.items turned_time d.book };
 }
 
 /// Whether a tree splits or closes a node.
@@ -81,19 +84,20 @@ fn add_finished(out: &mut Draft, done: &Finished) {
     out.add(format_args!(" {best} {}", done.log.as_slice().len()));
 }
 
-/// A book that goes on with a certificate, and the order of its units.
+/// A book that goes on with a certificate of version 3, and the order of its units.
 fn resumed(
     alloc: Global,
     units: &Units,
     cert: Cert,
     nodes: u64,
 ) -> Result<(Book, Vec<u8>), AllocError>
-    requires { IsPartialCert units.now.units units.now.slots (cert_view cert) }
+    requires partial { IsPartialCert units.now.units units.now.slots (cert_view cert) }
+    requires version { cert.version ≤ 3 }
     ensures order { IfOk result (λ r. IsOrder (length units.now.units) r.1.items) }
-    ensures book { IfOk result (λ r. IsBookOf units.now.units units.now.slots r.1.items r.0) }
+    ensures book { IfOk result (λ r. IsBookOf units.now.units units.now.slots r.1.items turned_time r.0) }
 {
     let order = Vec::from_slice(alloc, cert.order.as_slice())?;
-    let book = Book::resume(alloc, units, cert, nodes)?;
+    let book = Book::resume(alloc, units, cert, Rules::Turned, nodes)?;
     Ok((book, order))
 }
 
@@ -101,7 +105,7 @@ impl Desk {
     /// A desk for these units in the order of the search.
     pub(crate) fn new(alloc: Global, units: Units, nodes: u64) -> Result<Desk, AllocError> {
         let order = search_order(alloc, &units)?;
-        let book = Book::new(alloc, &units, order.as_slice(), nodes)?;
+        let book = Book::new(alloc, &units, order.as_slice(), Rules::Turned, nodes)?;
         Ok(Desk {
             units,
             order,
@@ -191,7 +195,8 @@ impl Desk {
 
     /// Ends the book, and begins another.
     fn finish(&mut self, alloc: Global, out: &mut Draft) {
-        let Ok(fresh) = Book::new(alloc, &self.units, self.order.as_slice(), self.nodes) else {
+        let order = self.order.as_slice();
+        let Ok(fresh) = Book::new(alloc, &self.units, order, Rules::Turned, self.nodes) else {
             return out.give_up();
         };
         let Ok(done) = mem::replace(&mut self.book, fresh).finish() else {
@@ -208,6 +213,10 @@ impl Desk {
         let Some(cert) = resumable(out, alloc, &self.units, call.after(2)) else {
             return;
         };
+        if cert.version > 3 {
+            drop(cert);
+            return out.add("version 4");
+        }
         match resumed(alloc, &self.units, cert, nodes) {
             Ok((book, order)) => {
                 drop(mem::replace(&mut self.book, book));

@@ -11,6 +11,7 @@ ghost use Rattle.ec_cert.specs.Shapes.{shape_of};
 use ec_branch::{Guide, explore};
 use ec_cert::Subtree;
 use ec_loads::Plan;
+use ec_symmetry::Rules;
 use ec_units::{Place, Units};
 use std::alloc::{AllocError, Global};
 
@@ -141,6 +142,14 @@ pub(crate) fn found_below(
         },
         halted: false,
     };
-    let sub = explore(alloc, units, order, prefix, &mut guide, wish.grant)?;
+    let sub = explore(
+        alloc,
+        units,
+        order,
+        Rules::Turned,
+        prefix,
+        &mut guide,
+        wish.grant,
+    )?;
     Ok((sub, guide.heard))
 }

@@ -7,10 +7,10 @@ use crate::call::Call;
 use crate::certs::{add_verdict, add_written, resumable};
 use crate::crews::{Crew, Told, add_outcome, crew_of};
 use ec_cert::Cert;
-use ec_checker::{Rules, level};
+use ec_checker::level;
 use ec_drafts::Draft;
 use ec_units::Units;
-use ec_workers::{Outcome, SolveFault, lines_of, partial, solve, solve_from};
+use ec_workers::{Outcome, SolveFault, lines_of, partial, rules_by, solve, solve_from};
 use std::alloc::{AllocError, Global};
 use std::sync::Wait;
 use std::thread::Threads;
@@ -26,11 +26,13 @@ fn cert_of(alloc: Global, units: &Units, outcome: Outcome) -> Result<Cert, Alloc
             best,
             order,
             tree,
+            strong,
             ..
         } => {
-            let level = level(alloc, units, Rules::Turned, order.as_slice(), &tree, &best)?;
+            let rules = rules_by(strong);
+            let level = level(alloc, units, rules, order.as_slice(), &tree, &best)?;
             let lines = lines_of(alloc, units)?;
-            Ok(partial(units, lines, order, best, tree, level))
+            Ok(partial(units, lines, order, best, tree, strong, level))
         }
     }
 }
@@ -90,7 +92,7 @@ fn cut(
 ) {
     let workers = crew.workers.clamp(1, 16);
     let nodes = crew.nodes.clamp(1, 10_000_000);
-    let found = solve(rt, alloc, units, workers, nodes, &Told::new());
+    let found = solve(rt, alloc, units, workers, nodes, crew.strong, &Told::new());
     end(told, text, alloc, units, found);
 }
 
@@ -128,6 +130,7 @@ fn onward(
     let more = Crew {
         workers: call.index(1),
         nodes: call.count(3),
+        strong: call.is_strong(),
     };
     match cert.finish() {
         Ok(cert) => resume(rt, alloc, units, cert.as_str(), more, out, other),
@@ -148,6 +151,7 @@ fn tell(
     let alone = Crew {
         workers: 1,
         nodes: call.count(1),
+        strong: call.is_strong(),
     };
     match call.name() {
         "level" => cut(rt, alloc, units, alone, out, other),

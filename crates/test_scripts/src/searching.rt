@@ -1,4 +1,4 @@
-//! The order of the units, the greedy plan, trees below a prefix, and what a search of one worker finds and writes.
+//! The orders of the units, the greedy plan, the first one, trees below a prefix, and what a search of one worker finds and writes.
 
 ghost use Rattle.std.specs.Prelude.{length};
 ghost use Rattle.ec_symmetry.specs.Orders.{IsOrder};
@@ -8,7 +8,7 @@ use crate::crews::{Crew, Shown, Told, crewed, crewed_again, met, search};
 use crate::guide::{Heard, Wish, found_below, is_reached};
 use crate::onward;
 use crate::samples::add_places;
-use ec_branch::{greedy, search_order};
+use ec_branch::{first_plan, greedy, search_order, strong_order};
 use ec_cert::Subtree;
 use ec_drafts::Draft;
 use ec_loads::{Plan, busiest, is_legal};
@@ -36,6 +36,7 @@ fn solved(
     let crew = Crew {
         workers: 1,
         nodes: call.count(1),
+        strong: call.is_strong(),
     };
     search(rt, alloc, units, crew, &gate, shown, out);
     let calls = gate.calls.load(Ordering::SeqCst);
@@ -48,12 +49,14 @@ fn certify(
     rt: &(impl Threads + Wait + Sync),
     alloc: Global,
     units: &Units,
+    strong: bool,
     shown: Shown,
     out: &mut Draft,
 ) {
     let crew = Crew {
         workers: 1,
         nodes: 1_000_000,
+        strong,
     };
     search(rt, alloc, units, crew, &Told::new(), shown, out);
 }
@@ -63,13 +66,32 @@ fn add_count(
     rt: &(impl Threads + Wait + Sync),
     alloc: Global,
     units: &Units,
-    wanted: &str,
+    call: Call<'_>,
     out: &mut Draft,
 ) {
     let mut text = Draft::new(alloc);
-    certify(rt, alloc, units, Shown::Cert, &mut text);
+    certify(rt, alloc, units, call.is_strong(), Shown::Cert, &mut text);
     match text.finish() {
-        Ok(text) => out.add(count_of(text.as_str(), wanted)),
+        Ok(text) => out.add(count_of(text.as_str(), call.after(1))),
+        Err(_) => out.give_up(),
+    }
+}
+
+/// Adds the lines of the tree of that certificate, with bars.
+fn add_tree_lines(
+    rt: &(impl Threads + Wait + Sync),
+    alloc: Global,
+    units: &Units,
+    call: Call<'_>,
+    out: &mut Draft,
+) {
+    let mut text = Draft::new(alloc);
+    certify(rt, alloc, units, call.is_strong(), Shown::Cert, &mut text);
+    match text.finish() {
+        Ok(text) => {
+            let (_, tree) = text.as_str().split_once("|tree|").unwrap_or(("", ""));
+            out.add(tree.strip_suffix("end|").unwrap_or(""));
+        }
         Err(_) => out.give_up(),
     }
 }
@@ -85,9 +107,14 @@ fn count_of(text: &str, wanted: &str) -> u32 {
     count
 }
 
-/// Adds the order in which a search gives units their places.
-fn add_order(out: &mut Draft, alloc: Global, units: &Units) {
-    match search_order(alloc, units) {
+/// Adds the order in which a search gives units their places, a strong one or another one.
+fn add_order(out: &mut Draft, alloc: Global, units: &Units, strong: bool) {
+    let order = if strong {
+        strong_order(alloc, units)
+    } else {
+        search_order(alloc, units)
+    };
+    match order {
         Ok(order) => out.add(format_args!("{order:?}")),
         Err(_) => out.give_up(),
     }
@@ -104,9 +131,14 @@ fn add_plan(out: &mut Draft, units: &Units, plan: &Plan) {
     }
 }
 
-/// Adds the places of the greedy plan and its greatest cost, where there is one.
-fn add_greedy(out: &mut Draft, alloc: Global, units: &Units) {
-    match greedy(alloc, units) {
+/// Adds the places of the greedy plan or the first one, and its greatest cost, where there is one.
+fn add_found(out: &mut Draft, alloc: Global, units: &Units, first: bool) {
+    let found = if first {
+        first_plan(alloc, units)
+    } else {
+        greedy(alloc, units)
+    };
+    match found {
         Ok(Some(plan)) => add_plan(out, units, &plan),
         Ok(None) => out.add("none"),
         Err(_) => out.give_up(),
@@ -160,16 +192,18 @@ pub(crate) fn answer(
     out: &mut Draft,
 ) {
     match call.name() {
-        "order" => add_order(out, alloc, units),
-        "greedy" => add_greedy(out, alloc, units),
+        "order" => add_order(out, alloc, units, call.is_strong()),
+        "greedy" => add_found(out, alloc, units, false),
+        "first" => add_found(out, alloc, units, true),
         "explore" => explored(out, alloc, units, call),
         "solve" => solved(rt, alloc, units, call, out),
         "crew" => crewed(rt, alloc, units, call, out),
         "again" => crewed_again(rt, alloc, units, call, out),
         "meet" => met(rt, alloc, units, call, out),
-        "checked" => certify(rt, alloc, units, Shown::Verdict, out),
-        "lines" => add_count(rt, alloc, units, call.after(1), out),
-        "certificate" => certify(rt, alloc, units, Shown::Cert, out),
+        "checked" => certify(rt, alloc, units, call.is_strong(), Shown::Verdict, out),
+        "lines" => add_count(rt, alloc, units, call, out),
+        "tree" => add_tree_lines(rt, alloc, units, call, out),
+        "certificate" => certify(rt, alloc, units, call.is_strong(), Shown::Cert, out),
         _ => onward::answer(rt, alloc, units, call, out),
     }
 }

@@ -109,7 +109,8 @@ fn search_pair(
     }
 }
 
-/// Searches every two units with so many slots, once with each number of workers: `pairs WORKERS WORKERS NODES`.
+/// Searches every two units with so many slots, once with each number of workers: `pairs WORKERS WORKERS NODES`; where the
+/// call says so, the second time by the strong rules.
 pub(crate) fn answer(
     rt: &(impl Threads + Wait + Sync),
     alloc: Global,
@@ -123,10 +124,12 @@ pub(crate) fn answer(
         one: Crew {
             workers: call.index(1),
             nodes,
+            strong: false,
         },
         other: Crew {
             workers: call.index(2),
             nodes,
+            strong: call.is_strong(),
         },
     };
     let mut tally = Tally {

@@ -42,7 +42,14 @@ fn path_of(path: Option<&String>) -> &str {
 fn add_job(out: &mut Draft, job: Job) {
     match job {
         Job::Cost => out.add("<cost"),
-        Job::Plan { workers, nodes } => out.add(format_args!("<plan {workers} {nodes}")),
+        Job::Plan {
+            workers,
+            nodes,
+            strong,
+        } => {
+            let how = if strong { " strong" } else { "" };
+            out.add(format_args!("<plan {workers} {nodes}{how}"));
+        }
         Job::Resume { workers, nodes } => out.add(format_args!("<resume {workers} {nodes}")),
         Job::Check => out.add("<check"),
         Job::Frames => out.add("<frames"),

@@ -1,7 +1,7 @@
 //! What a row's job answers, as one text.
 
 use crate::table::jobs::{Told, Way, done};
-use crate::table::row::{ALL, Kind, Row};
+use crate::table::row::{ALL, Kind, Row, is_plan};
 use ec_drafts::Draft;
 use std::alloc::Global;
 use std::sync::Wait;
@@ -17,7 +17,7 @@ fn add(out: &mut Draft, bytes: &[u8]) {
 
 /// Adds a certificate. Where the row of a plan has the whole one, whether it is a front of that is told in its place.
 fn add_cert(out: &mut Draft, row: &Row<'_>, cert: &[u8]) {
-    if row.job != "plan" || row.cert.is_empty() {
+    if !is_plan(row.job) || row.cert.is_empty() {
         add(out, cert);
     } else if row.cert.as_bytes().starts_with(cert) && cert.len() < row.cert.len() {
         out.add("a front\n");
@@ -71,7 +71,7 @@ fn add_told(out: &mut Draft, row: &Row<'_>, told: &Told) {
         Kind::Capture => add_file(out, told.out.as_slice()),
     }
     let failed = told.failed;
-    let is_plan = row.job == "plan";
+    let is_plan = is_plan(row.job);
     add_if(out, failed.units, "units failed\n");
     add_if(out, failed.cert || is_plan && failed.out, "cert failed\n");
     add_if(out, failed.text, "text failed\n");

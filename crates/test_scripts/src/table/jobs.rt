@@ -80,7 +80,11 @@ fn search_or(row: &Row<'_>, other: Job) -> Job
     let workers = row.workers.clamp(1, 16);
     let nodes = row.nodes.clamp(1, 10_000_000);
     match row.job {
-        "plan" => Job::Plan { workers, nodes },
+        "plan" | "strong" => Job::Plan {
+            workers,
+            nodes,
+            strong: row.job == "strong",
+        },
         "resume" => Job::Resume { workers, nodes },
         _ => other,
     }

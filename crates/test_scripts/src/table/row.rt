@@ -1,6 +1,6 @@
 //! A row of the table: `job nodes units-calls cert-calls text-calls file-calls`, then `^`, what it answers, `^`, the units, and
 //! where it has one `^` and a certificate. Numbers that are left out are large. A plan by 16 workers is the job
-//! `plan/16`, and `resume/16` goes on with the certificate, as `resume` does by one. The calls on the certificate are of
+//! `plan/16`, one by the strong rules `strong`, and `resume/16` goes on with the certificate, as `resume` does by one. The calls on the certificate are of
 //! the one that is read, or that a plan writes; those on the file are of a capture file, or of the certificate that a
 //! resumed search writes.
 
@@ -70,12 +70,17 @@ fn job_and_workers(head: &str) -> (&str, usize) {
 /// What a job writes beside its text, and whether it takes the places in the units, and no certificate.
 fn kind_of(job: &str) -> (Kind, bool) {
     match job {
-        "plan" | "resume" => (Kind::Search, false),
+        "plan" | "strong" | "resume" => (Kind::Search, false),
         "capture" => (Kind::Capture, true),
         "captured" => (Kind::Capture, false),
         "frames" | "play" => (Kind::Plain, true),
         _ => (Kind::Plain, false),
     }
+}
+
+/// Whether a job searches for a plan, in turned time or by the strong rules.
+pub(crate) fn is_plan(job: &str) -> bool {
+    matches!(job, "plan" | "strong")
 }
 
 /// The row that a text is; a text that is none is answered otherwise.
@@ -85,7 +90,7 @@ pub(crate) fn row_of(text: &str) -> Row<'_> {
     let (units, cert) = rest.split_once('^').unwrap_or((rest, ""));
     let (job, workers) = job_and_workers(head);
     let (kind, is_alone) = kind_of(job);
-    let written = if job == "plan" { 3 } else { 5 };
+    let written = if is_plan(job) { 3 } else { 5 };
     let calls = Calls {
         units: number(head, 2),
         cert: number(head, 3),

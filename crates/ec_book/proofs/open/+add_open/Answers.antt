@@ -1,8 +1,9 @@
 use Rattle.std.proofs.Common.{◌≡◌, rules, refl, ◌+◌, ◌<◌, ◌++◌, ◌∷◌, [], length, vec_len, drop, get_or, arith, ap, ◌∙◌, sym}
-use Rattle.ec_loads.specs.Line.{turned_time, line_by}
+use Rattle.ec_loads.specs.Line.{line_by}
 use Rattle.ec_cert.specs.Shapes.{shape_of}
 use Rattle.ec_cert.proofs.TreeLemmas.{shape_of-trees}
 use Rattle.ec_symmetry.specs.Orders.{prefix_of}
+use Rattle.ec_symmetry.specs.Ruled.{line_rules}
 use Rattle.ec_book.specs.Open.{leaf_places, open_places}
 use Rattle.ec_book.proofs.DrawLemmas.{shape_of-OpenLeaf}
 use Rattle.ec_book.proofs.OpenLemmas.{opened_from, opened_all, opened_short, opened_first, split_opened, child_opened, opened_end, no_kids, append_none, opened_step, path_back}
@@ -12,14 +13,14 @@ use Rattle.ec_book.proofs.open.+add_open.Goals as goal
 pub returns-then-len-order-clause-out : goal.returns-then-len-order-clause-out
 returns-then-len-order-clause-out t c =
     let loads = c.args.loads.now in
-    opened_short (line_by turned_time loads.loads loads.slots) c.args.order.now c.args.tree.now c.as_ref-trees.result.now c.args.path.now.items c.args.out.now.items
+    opened_short (line_by (line_rules c.args.rules) loads.loads loads.slots) c.args.order.now c.args.tree.now c.as_ref-trees.result.now c.args.path.now.items c.args.out.now.items
     (shape_of-trees c.args.tree.now c.in-Split.trees c.as_ref-trees.result.now c.in-Split.is c.as_ref-trees.ensures) (omega (arith, c.if-len-order.true, c.len.ensures))
 
-pub children_after-places-requires-clause-order : goal.children_after-places-requires-clause-order
-children_after-places-requires-clause-order t c = c.requires.order
+pub next_children-places-requires-clause-order : goal.next_children-places-requires-clause-order
+next_children-places-requires-clause-order t c = c.requires.order
 
-pub children_after-places-requires-clause-few : goal.children_after-places-requires-clause-few
-children_after-places-requires-clause-few t c = omega (arith, c.if-len-order.false, c.len.ensures, ap length c.as_slice.ensures.value)
+pub next_children-places-requires-clause-few : goal.next_children-places-requires-clause-few
+next_children-places-requires-clause-few t c = omega (arith, c.if-len-order.false, c.len.ensures, ap length c.as_slice.ensures.value)
 
 pub loop-i-init : goal.loop-i-init
 loop-i-init t c =
@@ -32,8 +33,8 @@ loop-i-init t c =
     record {
       path = refl;
       out =
-          opened_first (line_by turned_time loads.loads loads.slots) order c.as_ref-trees.result.now.items u _ path c.as_slice.result.now c.children_after-places.result c.args.out.now.items
-          c.as_slice.ensures.value next c.children_after-places.ensures;
+          opened_first (line_by (line_rules c.args.rules) loads.loads loads.slots) order c.as_ref-trees.result.now.items u _ path c.as_slice.result.now c.next_children-places.result c.args.out.now.items
+          c.as_slice.ensures.value next c.next_children-places.ensures;
     }
 
 pub returns-in_default-next-clause-out : goal.returns-in_default-next-clause-out
@@ -45,8 +46,8 @@ returns-in_default-next-clause-out t c =
     let long : c.len-in-Split.result ≡ length q = omega (arith, c.len-in-Split.ensures) in
     let short : length q < length order = omega (arith, c.if-len-order.false, c.len.ensures) in
     let at : u ≡ get_or order (length q) 0 = c.from-unit.ensures ∙ ap (λ w. get_or order w 0) long in
-    let whole = split_opened (line_by turned_time loads.loads loads.slots) order c.args.tree.now c.as_ref-trees.result.now u q (shape_of-trees c.args.tree.now c.in-Split.trees c.as_ref-trees.result.now c.in-Split.is c.as_ref-trees.ensures) short at in
-    let none = no_kids (line_by turned_time loads.loads loads.slots) order (drop c.loop-i.i c.as_ref-trees.result.now.items) u q c.loop-i.places c.in_default-next.ensures.steps.0 in
+    let whole = split_opened (line_by (line_rules c.args.rules) loads.loads loads.slots) order c.args.tree.now c.as_ref-trees.result.now u q (shape_of-trees c.args.tree.now c.in-Split.trees c.as_ref-trees.result.now c.in-Split.is c.as_ref-trees.ensures) short at in
+    let none = no_kids (line_by (line_rules c.args.rules) loads.loads loads.slots) order (drop c.loop-i.i c.as_ref-trees.result.now.items) u q c.loop-i.places c.in_default-next.ensures.steps.0 in
     sym (append_none c.loop-i.out.items) ∙ ap (λ w. c.loop-i.out.items ++ w) (sym none) ∙ c.loop-i.invariant.out ∙ ap (λ w. c.args.out.now.items ++ w) (sym whole)
 
 pub returns-after-loop-i-clause-out : goal.returns-after-loop-i-clause-out
@@ -58,8 +59,8 @@ returns-after-loop-i-clause-out t c =
     let long : c.len-in-Split.result ≡ length q = omega (arith, c.len-in-Split.ensures) in
     let short : length q < length order = omega (arith, c.if-len-order.false, c.len.ensures) in
     let at : u ≡ get_or order (length q) 0 = c.from-unit.ensures ∙ ap (λ w. get_or order w 0) long in
-    let whole = split_opened (line_by turned_time loads.loads loads.slots) order c.args.tree.now c.as_ref-trees.result.now u q (shape_of-trees c.args.tree.now c.in-Split.trees c.as_ref-trees.result.now c.in-Split.is c.as_ref-trees.ensures) short at in
-    let none = opened_end (line_by turned_time loads.loads loads.slots) order c.as_ref-trees.result.now.items u q c.loop-i.places c.loop-i.i (omega (arith, c.loop-i-test.false, c.len-i-end.ensures)) in
+    let whole = split_opened (line_by (line_rules c.args.rules) loads.loads loads.slots) order c.args.tree.now c.as_ref-trees.result.now u q (shape_of-trees c.args.tree.now c.in-Split.trees c.as_ref-trees.result.now c.in-Split.is c.as_ref-trees.ensures) short at in
+    let none = opened_end (line_by (line_rules c.args.rules) loads.loads loads.slots) order c.as_ref-trees.result.now.items u q c.loop-i.places c.loop-i.i (omega (arith, c.loop-i-test.false, c.len-i-end.ensures)) in
     sym (append_none c.loop-i.out.items) ∙ ap (λ w. c.loop-i.out.items ++ w) (sym none) ∙ c.loop-i.invariant.out ∙ ap (λ w. c.args.out.now.items ++ w) (sym whole)
 
 pub loop-i-preserved : goal.loop-i-preserved
@@ -67,7 +68,7 @@ loop-i-preserved t c =
     let q = c.args.path.now.items in
     let order = c.args.order.now in
     let loads = c.args.loads.now in
-    let line = line_by turned_time loads.loads loads.slots in
+    let line = line_by (line_rules c.args.rules) loads.loads loads.slots in
     let u = c.from-unit.result in
     let long : c.len-in-Split.result ≡ length q = omega (arith, c.len-in-Split.ensures) in
     let short : length q < length order = omega (arith, c.if-len-order.false, c.len.ensures) in
@@ -109,4 +110,4 @@ returns-in_ok-push-in-OpenLeaf-clause-out t c =
     let leaf = ap shape_of c.in-OpenLeaf.is ∙ shape_of-OpenLeaf in
     c.in_ok-push-in-OpenLeaf.ensures.items
     ∙ ap (λ w. c.args.out.now.items ++ w ∷ []) (c.new.ensures ∙ c.in_ok-copy-in-OpenLeaf.ensures.items ∙ c.as_slice-in-OpenLeaf.ensures.value)
-    ∙ ap (λ s. c.args.out.now.items ++ leaf_places (line_by turned_time loads.loads loads.slots) s (prefix_of loads.loads order q) (drop (length q) order) q) (sym leaf)
+    ∙ ap (λ s. c.args.out.now.items ++ leaf_places (line_by (line_rules c.args.rules) loads.loads loads.slots) s (prefix_of loads.loads order q) (drop (length q) order) q) (sym leaf)

@@ -1,5 +1,6 @@
 use Rattle.std.proofs.Common.{◌≡◌, ◌++◌, length, drop, ◌-◌}
-use Rattle.ec_loads.specs.Line.{turned_time, line_by}
+use Rattle.ec_loads.specs.Line.{line_by}
+use Rattle.ec_symmetry.specs.Ruled.{line_rules}
 use Rattle.ec_book.proofs.OpenLemmas.{opened_from, opened_all}
 use Rattle.ec_book.proofs.open.+add_open.Given as goal
 
@@ -10,6 +11,6 @@ abbrev pub invariant-loop-i : goal.invariant-loop-i
 invariant-loop-i l =
     record {
       path : l.path.items ≡ l.initial.path.items;
-      out : l.out.items ++ opened_from (line_by turned_time l.loads.loads l.loads.slots) l.order (drop l.i l.trees.items) l.unit l.initial.path.items l.places
-          ≡ l.initial.out.items ++ opened_all (line_by turned_time l.loads.loads l.loads.slots) l.order l.trees.items l.unit l.initial.path.items;
+      out : l.out.items ++ opened_from (line_by (line_rules l.rules) l.loads.loads l.loads.slots) l.order (drop l.i l.trees.items) l.unit l.initial.path.items l.places
+          ≡ l.initial.out.items ++ opened_all (line_by (line_rules l.rules) l.loads.loads l.loads.slots) l.order l.trees.items l.unit l.initial.path.items;
     }

@@ -2,10 +2,11 @@ use Rattle.std.proofs.Common.{IfOk, subst, length, drop}
 use Rattle.ec_units.specs.Load.{loads_of}
 use Rattle.ec_loads.specs.Held.{Held}
 use Rattle.ec_bounds.proofs.HeldLemmas.{empty_rest}
-use Rattle.ec_loads.specs.Line.{turned_time, line_of}
+use Rattle.ec_loads.specs.Line.{line_of}
 use Rattle.ec_loads.specs.Search.{IsPartialTree}
 use Rattle.ec_cert.specs.Shapes.{shape_of}
 use Rattle.ec_symmetry.specs.Orders.{prefix_of}
+use Rattle.ec_symmetry.specs.Ruled.{line_rules}
 use Rattle.ec_branch.specs.Frames.{IsFair}
 use Rattle.ec_branch.proofs.exploring.explore.Goals as goal
 
@@ -18,5 +19,5 @@ returns-clause-least g c =
 
 pub returns-clause-partial : goal.returns-clause-partial
 returns-clause-partial g c =
-    subst (λ (w : Held). IfOk c.explore_in.result (λ sub. IsPartialTree (line_of turned_time w) sub.threshold (shape_of sub.tree) (prefix_of w.loads c.args.order.now c.args.prefix.now) (drop (length c.args.prefix.now) c.args.order.now)))
+    subst (λ (w : Held). IfOk c.explore_in.result (λ sub. IsPartialTree (line_of (line_rules c.args.rules) w) sub.threshold (shape_of sub.tree) (prefix_of w.loads c.args.order.now c.args.prefix.now) (drop (length c.args.prefix.now) c.args.order.now)))
     c.in_ok-loads.ensures c.explore_in.ensures.partial

@@ -1,7 +1,7 @@
 use Rattle.std.proofs.Common.{◌-◌, length, set, None, ap, ◌∙◌, arith}
 use Rattle.std.proofs.lemmas.List.{length-set}
 use Rattle.ec_loads.specs.Held.{Held}
-use Rattle.ec_loads.specs.Line.{turned_time, line_of}
+use Rattle.ec_loads.specs.Line.{line_of}
 use Rattle.ec_bounds.proofs.HeldLemmas.{rest_follows}
 use Rattle.ec_branch.proofs.ReadyLemmas.{undo_step}
 use Rattle.ec_branch.proofs.exploring.remove_all.Goals as goal
@@ -19,8 +19,8 @@ loop-i-preserved c =
       within = omega (arith, inv.within);
       left = rest_follows c.loop-i.loads c.take_back.new.loads c.loop-i.rest c.take_back.new.rest u None inv.left made c.take_back.ensures.rest;
       places =
-          λ before ready kids at.
+          λ rules before ready kids at.
           ap (λ (w : Held). w.places) made
-          ∙ ap (λ w. set w u None) (inv.places before ready kids at)
-          ∙ undo_step (line_of turned_time c.args.loads.now) before c.args.order.now c.args.prefix.now i (i - 1) u _ ready kids (omega (arith, c.loop-i-test.true)) inv.within c.from-unit.ensures;
+          ∙ ap (λ w. set w u None) (inv.places rules before ready kids at)
+          ∙ undo_step (line_of rules c.args.loads.now) before c.args.order.now c.args.prefix.now i (i - 1) u _ ready kids (omega (arith, c.loop-i-test.true)) inv.within c.from-unit.ensures;
     }

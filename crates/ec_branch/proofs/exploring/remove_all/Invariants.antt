@@ -1,5 +1,5 @@
 use Rattle.std.proofs.Common.{◌≡◌, ◌≤◌, length, take}
-use Rattle.ec_loads.specs.Line.{turned_time, line_of}
+use Rattle.ec_loads.specs.Line.{Rules, line_of}
 use Rattle.ec_loads.specs.Search.{Prefix}
 use Rattle.ec_symmetry.specs.Orders.{AreChildren, with_places}
 use Rattle.ec_bounds.specs.Left.{IsRestOf}
@@ -18,6 +18,6 @@ invariant-loop-i l =
       count : length l.loads.places ≡ length h.places;
       within : l.i ≤ length l.prefix;
       left : IsRestOf l.rest l.loads;
-      places : (before : Prefix) → IsReadyFor h.loads h.slots before l.order → AreChildren (line_of turned_time h) before l.order l.prefix → h.places ≡ with_places before l.order l.prefix
+      places : (rules : Rules) (before : Prefix) → IsReadyFor h.loads h.slots before l.order → AreChildren (line_of rules h) before l.order l.prefix → h.places ≡ with_places before l.order l.prefix
           → l.loads.places ≡ with_places before l.order (take l.i l.prefix);
     }

@@ -1,11 +1,10 @@
-use Rattle.std.proofs.Common.{◌≡◌, ℕ, ◌+◌, ◌-◌, ◌++◌, [], ◌∷◌, List, length, set, Some, inl, inr, ap, sym, subst, ◌∙◌, arith}
-use Rattle.ec_units.specs.declared.slave.Place.{Place}
-use Rattle.ec_loads.specs.Line.{Line, turned_time, line_of}
+use Rattle.std.proofs.Common.{◌≡◌, ◌+◌, ◌-◌, ◌++◌, [], ◌∷◌, length, set, Some, inl, inr, ap, sym, subst, ◌∙◌, arith}
+use Rattle.ec_loads.specs.Line.{line_of}
 use Rattle.ec_cert.specs.Shapes.{shape_of}
 use Rattle.ec_cert.specs.declared.tree.Tree.{OpenLeaf}
-use Rattle.ec_branch.specs.declared.level.Level.{Level}
+use Rattle.ec_symmetry.specs.Ruled.{line_rules}
 use Rattle.ec_branch.specs.Frames.{Frame}
-use Rattle.ec_branch.specs.Stacks.{State, state_of, IsAsked, IsSpent, IsAmong, IsExplored}
+use Rattle.ec_branch.specs.Stacks.{state_of, IsAsked, IsSpent, IsAmong, IsExplored}
 use Rattle.ec_branch.proofs.StackLemmas.{among_more, among_place, closed_explored, open_explored, shape_of-OpenLeaf}
 use Rattle.ec_branch.proofs.level.close_next.Goals as goal
 
@@ -25,22 +24,22 @@ push_reserved-requires-in-Some g c =
     let room = at.trees in
     omega (arith, fewer, room, c.loop-place.level.trees.ok.0)
 
-pub raised_leaf-requires-clause-phase : goal.raised_leaf-requires-clause-phase
-raised_leaf-requires-clause-phase g c =
+pub raised_by-requires-clause-phase : goal.raised_by-requires-clause-phase
+raised_by-requires-clause-phase g c =
     let first = c.requires.among in
     let at = c.loop-place.invariant.among first.0 first.1 first.2 first.3 in
-    (among_place (line_of turned_time c.args.loads.now) _ c.args.loads.now.places first.0 at.0 first.2 _ c.loop-place.level c.in-Some.place c.next.new.self at.1 c.in-Some.ensures.steps).0
+    (among_place (line_of (line_rules c.args.rules) c.args.loads.now) _ c.args.loads.now.places first.0 at.0 first.2 _ c.loop-place.level c.in-Some.place c.next.new.self at.1 c.in-Some.ensures.steps).0
 
-pub raised_leaf-requires-clause-slot : goal.raised_leaf-requires-clause-slot
-raised_leaf-requires-clause-slot g c =
+pub raised_by-requires-clause-slot : goal.raised_by-requires-clause-slot
+raised_by-requires-clause-slot g c =
     let first = c.requires.among in
     let at = c.loop-place.invariant.among first.0 first.1 first.2 first.3 in
-    (among_place (line_of turned_time c.args.loads.now) _ c.args.loads.now.places first.0 at.0 first.2 _ c.loop-place.level c.in-Some.place c.next.new.self at.1 c.in-Some.ensures.steps).1
+    (among_place (line_of (line_rules c.args.rules) c.args.loads.now) _ c.args.loads.now.places first.0 at.0 first.2 _ c.loop-place.level c.in-Some.place c.next.new.self at.1 c.in-Some.ensures.steps).1
 
 pub returns-then-not-ask-clause-passed : goal.returns-then-not-ask-clause-passed
 returns-then-not-ask-clause-passed g c =
     λ later done from h.
-    let line = line_of turned_time c.args.loads.now in
+    let line = line_of (line_rules c.args.rules) c.args.loads.now in
     let floor = (g.G.Guide.frame c.args.guide.now).floor in
     let ps = c.args.loads.now.places in
     let u = c.loop-place.level.unit in
@@ -55,10 +54,10 @@ returns-then-not-ask-clause-passed g c =
       inr (subst IsSpent (sym refused.1) refused.0),
     )
 
-pub returns-in_default-raised_leaf-clause-passed : goal.returns-in_default-raised_leaf-clause-passed
-returns-in_default-raised_leaf-clause-passed g c =
+pub returns-in_default-raised_by-clause-passed : goal.returns-in_default-raised_by-clause-passed
+returns-in_default-raised_by-clause-passed g c =
     λ later done from h.
-    let line = line_of turned_time c.args.loads.now in
+    let line = line_of (line_rules c.args.rules) c.args.loads.now in
     let floor = (g.G.Guide.frame c.args.guide.now).floor in
     let ps = c.args.loads.now.places in
     let level = c.loop-place.level in
@@ -86,22 +85,22 @@ loop-place-preserved g c =
       left = omega (arith, c.ask.ensures.left, inv.left);
       fewer = omega (arith, fewer, inv.fewer);
       among = λ later done from h.
-          let line = line_of turned_time c.args.loads.now in
+          let line = line_of (line_rules c.args.rules) c.args.loads.now in
           let floor = (g.G.Guide.frame c.args.guide.now).floor in
           let ps = c.args.loads.now.places in
           let p = c.in-Some.place in
           let at = inv.among later done from h in
-          let leaf = closed_explored line floor (set ps c.loop-place.level.unit (Some p)) later old now (c.ask.new.search.left - 1) (shape_of c.in-Some-raised_leaf.leaf) asked spent c.in-Some-raised_leaf.ensures in (
+          let leaf = closed_explored line floor (set ps c.loop-place.level.unit (Some p)) later old now (c.ask.new.search.left - 1) (shape_of c.in-Some-raised_by.leaf) asked spent c.in-Some-raised_by.ensures in (
             at.0 ++ p ∷ [],
             among_more line floor ps later at.0 from old (record { value = now.value; left = c.ask.new.search.left - 1; halted = now.halted; known = now.known }) c.loop-place.level p c.next.new.self
-                c.in-Some-raised_leaf.leaf c.push_reserved-in-Some.new.self at.1 c.in-Some.ensures.steps leaf c.push_reserved-in-Some.ensures.items c.push_reserved-in-Some.ensures.capacity,
+                c.in-Some-raised_by.leaf c.push_reserved-in-Some.new.self at.1 c.in-Some.ensures.steps leaf c.push_reserved-in-Some.ensures.items c.push_reserved-in-Some.ensures.capacity,
           );
     }
 
 pub returns-clause-passed : goal.returns-clause-passed
 returns-clause-passed g c =
     λ later done from h.
-    let line = line_of turned_time c.args.loads.now in
+    let line = line_of (line_rules c.args.rules) c.args.loads.now in
     let floor = (g.G.Guide.frame c.args.guide.now).floor in
     let ps = c.args.loads.now.places in
     let level = c.loop-place.level in

@@ -1,6 +1,7 @@
 use Rattle.std.proofs.Common.{◌≡◌, ℕ, ◌≤◌, List, length}
 use Rattle.ec_units.specs.declared.slave.Place.{Place}
-use Rattle.ec_loads.specs.Line.{turned_time, line_of}
+use Rattle.ec_loads.specs.Line.{line_of}
+use Rattle.ec_symmetry.specs.Ruled.{line_rules}
 use Rattle.ec_branch.specs.Stacks.{State, state_of, IsAmong}
 use Rattle.ec_branch.proofs.level.close_next.Given as goal
 
@@ -16,6 +17,6 @@ invariant-loop-place g l =
       left : l.search.left ≤ l.initial.search.left;
       fewer : length l.level.places ≤ length l.initial.level.places;
       among : (later : List ℕ) (done : List Place) (from : State) →
-          IsAmong (line_of turned_time l.loads) (g.G.Guide.frame l.initial.guide).floor l.loads.places later done from (state_of l.initial.search (g.G.Guide.halted l.initial.guide) (g.G.Guide.known l.initial.guide)) l.initial.level →
-          (more : List Place) × IsAmong (line_of turned_time l.loads) (g.G.Guide.frame l.initial.guide).floor l.loads.places later more from (state_of l.search (g.G.Guide.halted l.guide) (g.G.Guide.known l.guide)) l.level;
+          IsAmong (line_of (line_rules l.rules) l.loads) (g.G.Guide.frame l.initial.guide).floor l.loads.places later done from (state_of l.initial.search (g.G.Guide.halted l.initial.guide) (g.G.Guide.known l.initial.guide)) l.initial.level →
+          (more : List Place) × IsAmong (line_of (line_rules l.rules) l.loads) (g.G.Guide.frame l.initial.guide).floor l.loads.places later more from (state_of l.search (g.G.Guide.halted l.guide) (g.G.Guide.known l.guide)) l.level;
     }

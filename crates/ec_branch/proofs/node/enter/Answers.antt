@@ -1,11 +1,11 @@
 use Rattle.std.proofs.Common.{◌≡◌, ◌+◌, ◌-◌, ◌∷◌, true, false, None, refl, ap, sym, ◌∙◌, arith}
 use Rattle.std.proofs.lemmas.Option.{slice_get_within}
-use Rattle.ec_loads.specs.Line.{turned_time, line_of}
-use Rattle.ec_cert.specs.Shapes.{shape_of}
+use Rattle.ec_loads.specs.Line.{line_of}
+use Rattle.ec_symmetry.specs.Ruled.{line_rules}
 use Rattle.ec_branch.specs.Stacks.{state_of}
 use Rattle.ec_branch.proofs.LeafLemmas.{at_none}
 use Rattle.ec_branch.proofs.KnownLemmas.{follows_found}
-use Rattle.ec_branch.proofs.StackLemmas.{under_first, closed_explored, stopped_explored}
+use Rattle.ec_branch.proofs.StackLemmas.{under_first}
 use Rattle.ec_branch.proofs.WalkLemmas.{ready_at, none_left, found_walked}
 use Rattle.ec_branch.proofs.node.enter.Goals as goal
 
@@ -17,7 +17,7 @@ returns-in-None-clause-entered g c =
     let still = at_none _ c.in_ok-leaf.field-0 c.in_default.not-Some c.in_ok-leaf.ensures in
     record {
       walked =
-          found_walked frame h frame.floor c.args.order.now c.in_ok-plan-in-None.plan.places from.value c.args.search.now.value from.left (c.args.search.now.left - 1) (g.G.Guide.halted c.found.new.self)
+          found_walked (line_rules c.args.rules) frame h frame.floor c.args.order.now c.in_ok-plan-in-None.plan.places from.value c.args.search.now.value from.left (c.args.search.now.left - 1) (g.G.Guide.halted c.found.new.self)
           c.top_of-cost.result.0 c.in-Some-found.value c.top_of-cost.result.1
           c.requires.units c.requires.slots refl
           c.requires.ready (none_left c.args.order.now c.in-None.ensures.cases) c.in_ok-plan-in-None.ensures still.0 c.top_of-cost.ensures.busiest c.top_of-cost.ensures.short still.1
@@ -29,8 +29,8 @@ returns-in-None-clause-entered g c =
       stays = λ k. absurd (let no : true ≡ false = sym k ∙ asked.runs in cc);
     }
 
-pub children_of-places-requires : goal.children_of-places-requires
-children_of-places-requires g c =
+pub children_by-places-requires : goal.children_by-places-requires
+children_by-places-requires g c =
     let h = c.args.loads.now in
     let u = c.from-unit.result in
     let ready = ready_at h.loads h.slots h.places c.args.order.now c.in-Some-split_first.field-0-1.now c.in-Some-split_first.unit.now u c.requires.ready c.in-Some-split_first.ensures.cases.0 c.from-unit.ensures in
@@ -48,8 +48,8 @@ returns-clause-entered g c =
     record {
       later = later;
       next = c.in-Some-split_first.ensures.cases.0 ∙ ap (λ w. w ∷ later) (sym c.from-unit.ensures);
-      places = c.children_of-places.ensures;
-      under = under_first (line_of turned_time h) (g.G.Guide.frame c.args.guide.now).floor h.places u later from now (c.args.search.now.left - 1) made.trees.items asked left made.ensures.items;
+      places = c.children_by-places.ensures;
+      under = under_first (line_of (line_rules c.args.rules) h) (g.G.Guide.frame c.args.guide.now).floor h.places u later from now (c.args.search.now.left - 1) made.trees.items asked left made.ensures.items;
       none = made.ensures.items;
       room = omega (arith, made.ensures.exact, c.len.ensures.value);
       short = omega (arith, c.len.ensures.value, c.len.type_inv);

@@ -1,28 +1,24 @@
-use Rattle.std.proofs.Common.{rules, ap, sym, ◌∙◌, length}
-use Rattle.std.specs.List.{range_with_len}
+use Rattle.std.proofs.Common.{◌≡◌, sym, subst, ◌∙◌, length}
 use Rattle.std.proofs.lemmas.List.{length-map}
-use Rattle.std.proofs.lemmas.List.Sorted.{answers_always, ties_still_rise, IsNonDecreasingBy-from_sort_by_key}
 use Rattle.ec_units.specs.Load.{load_of, loads_of}
-use Rattle.ec_branch.proofs.OrderLemmas.{numbers_of, order_of_turns, sorted_order, starts_sorted, ok_map}
+use Rattle.ec_symmetry.specs.Orders.{IsOrder}
+use Rattle.ec_branch.proofs.TurnLemmas.{turns_long, turns_in_file, ok_both, ok_map}
+use Rattle.ec_branch.proofs.OrderLemmas.{weights_fall}
 use Rattle.ec_branch.proofs.order.search_order.Goals as goal
+
+pub in_turn-requires : goal.in_turn-requires
+in_turn-requires c = turns_in_file c.in_ok-turns.turns.items (length c.args.units.now.units) c.in_ok-turns.ensures.units
 
 pub returns-clause-sorted : goal.returns-clause-sorted
 returns-clause-sorted c =
     let us = c.args.units.now.units in
     let first = c.in_ok-turns.turns.items in
-    let ts = c.sort_by_key.new.self.items in
-    let up = IsNonDecreasingBy-from_sort_by_key (λ t. t.lightness) ts c.in_ok-sort_by_key.ensures.sorted (λ a r q k. search rules) in
-    let units = c.in_ok-turns.ensures.units ∙ ap (range_with_len 0) (sym (length-map us load_of)) in
-    ok_map c.numbers.result
-    (λ order is.
-    sorted_order (loads_of us) first ts order.items units c.in_ok-turns.ensures.lightness c.sort_by_key.ensures.permutation up
-    (ties_still_rise (λ t. t.unit) (λ t. t.lightness) first ts (starts_sorted first (length us) c.in_ok-turns.ensures.units)
-    (c.in_ok-sort_by_key.ensures.stable (λ t. t.lightness) (answers_always _ _ _ (λ f a r g h. search rules))))
-    (is ∙ ap numbers_of c.as_slice.ensures.value))
-    c.numbers.ensures
+    let long : length first ≡ length (loads_of us) = turns_long first (length us) c.in_ok-turns.ensures.units ∙ sym (length-map us load_of) in
+    ok_both c.in_turn.result
+    (λ order each turned. weights_fall (loads_of us) first order.items (subst (λ n. IsOrder n order.items) long each) c.in_ok-turns.ensures.ranks turned)
+    c.in_turn.ensures.each c.in_turn.ensures.sorted
 
 pub returns-clause-each : goal.returns-clause-each
 returns-clause-each c =
-    ok_map c.numbers.result
-    (λ order is. order_of_turns (length c.args.units.now.units) c.in_ok-turns.turns.items c.sort_by_key.new.self.items order.items c.in_ok-turns.ensures.units c.sort_by_key.ensures.permutation (is ∙ ap numbers_of c.as_slice.ensures.value))
-    c.numbers.ensures
+    let long = turns_long c.in_ok-turns.turns.items (length c.args.units.now.units) c.in_ok-turns.ensures.units in
+    ok_map c.in_turn.result (λ order each. subst (λ n. IsOrder n order.items) long each) c.in_turn.ensures.each

@@ -1,6 +1,7 @@
 use Rattle.std.proofs.Common.{arith, refl, set}
-use Rattle.ec_loads.specs.Line.{turned_time, line_by}
+use Rattle.ec_loads.specs.Line.{line_by}
 use Rattle.ec_cert.specs.Shapes.{shape_of}
+use Rattle.ec_symmetry.specs.Ruled.{line_rules}
 use Rattle.ec_book.specs.declared.piece.Piece.TheVariants.{Free, Taken}
 use Rattle.ec_cert.specs.BestPlan.{value_of}
 use Rattle.ec_book.specs.Steps.{start}
@@ -51,14 +52,14 @@ invariant_of-self c =
       counted =
           counted-back (start (shape_of b.given) b.given_value) b.nodes b.pieces.items (value_of b.best) b.spent b.held b.taken b.low b.log.items _ inv.counted c.args.worker c.args.piece c.in-Ok.grant
           c.push_reserved.new.self.items at c.push_reserved.ensures.items;
-      grown = grown-set (shape_of b.given) (line_by turned_time b.loads.loads b.loads.slots) b.order.items b.pieces.items b.prefixes.items b.reports.items (value_of b.best) b.spent inv.grown c.args.piece (Taken c.args.worker c.in-Ok.grant) Free at refl;
+      grown = grown-set (shape_of b.given) (line_by (line_rules b.rules) b.loads.loads b.loads.slots) b.order.items b.pieces.items b.prefixes.items b.reports.items (value_of b.best) b.spent inv.grown c.args.piece (Taken c.args.worker c.in-Ok.grant) Free at refl;
       spare = inv.spare;
     })
 
 pub returns-clause-ok : goal.returns-clause-ok
 returns-clause-ok c =
     let b = c.self.inside in
-    rw (← c.self.view_is) (λ j. book_view b.loads.loads b.loads.slots b.order.items b.nodes (set b.pieces.items c.args.piece Free) b.prefixes.items b.best b.spent (c.push_reserved.ensures.items j) (shape_of b.given) b.given_value)
+    rw (← c.self.view_is) (λ j. book_view b.loads.loads b.loads.slots b.order.items (line_rules b.rules) b.nodes (set b.pieces.items c.args.piece Free) b.prefixes.items b.best b.spent (c.push_reserved.ensures.items j) (shape_of b.given) b.given_value)
 
 pub returns-clause-held : goal.returns-clause-held
 returns-clause-held c =

@@ -1,7 +1,8 @@
-use Rattle.std.proofs.Common.{◌≡◌, refl, arith, ap, length}
-use Rattle.ec_loads.specs.Line.{turned_time, line_by}
+use Rattle.std.proofs.Common.{◌≡◌, refl, arith}
+use Rattle.ec_loads.specs.Line.{line_by}
 use Rattle.ec_cert.specs.Shapes.{shape_of}
 use Rattle.ec_cert.specs.BestPlan.{value_of}
+use Rattle.ec_symmetry.specs.Ruled.{line_rules}
 use Rattle.ec_book.specs.Numbered.{numbered, plain}
 use Rattle.ec_book.specs.Grown.{grown}
 use Rattle.ec_book.specs.Steps.{start}
@@ -18,7 +19,7 @@ open_leaves-built-requires-clause-room c = omega (arith, c.self.invariant.grown.
 pub returns-clause-ok : goal.returns-clause-ok
 returns-clause-ok c =
     let b = c.self.inside in
-    let line = line_by turned_time b.loads.loads b.loads.slots in
+    let line = line_by (line_rules b.rules) b.loads.loads b.loads.slots in
     let order = b.order.items in
     let pieces = b.pieces.items in
     let prefixes = b.prefixes.items in

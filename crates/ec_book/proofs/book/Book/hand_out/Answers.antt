@@ -1,7 +1,8 @@
 use Rattle.std.proofs.Common.{◌≡◌, ◌<◌, ◌+◌, ◌-◌, arith, refl, sym, ◌∙◌, vec_capacity, slice_get, Some, rules}
 use Rattle.std.proofs.lemmas.Option.{slice_get_read, slice_get_within}
-use Rattle.ec_loads.specs.Line.{turned_time, line_by}
+use Rattle.ec_loads.specs.Line.{line_by}
 use Rattle.ec_cert.specs.Shapes.{shape_of}
+use Rattle.ec_symmetry.specs.Ruled.{line_rules}
 use Rattle.ec_book.specs.declared.piece.Piece.TheVariants.{Free, Taken}
 use Rattle.ec_cert.specs.BestPlan.{value_of}
 use Rattle.ec_book.specs.Steps.{start, granted}
@@ -26,7 +27,7 @@ invariant_of-self-2 c =
           (vec_capacity c.push_reserved.new.self) c.push_reserved.new.self.items at
           (omega (arith, c.min-grant.ensures, c.from.ensures, some, left, c.requires.some)) (omega (arith, c.min-grant.ensures, left, counted.held_is)) log_is
           (omega (arith, c.in-Ok-reserve.ensures.ok, c.in-Some.ensures.1, c.push_reserved.ensures.capacity, c.reserve.ensures.len, b.log.ok.0));
-      grown = grown-set (shape_of b.given) (line_by turned_time b.loads.loads b.loads.slots) b.order.items b.pieces.items b.prefixes.items b.reports.items (value_of b.best) b.spent inv.grown p Free (Taken c.args.worker g) at refl;
+      grown = grown-set (shape_of b.given) (line_by (line_rules b.rules) b.loads.loads b.loads.slots) b.order.items b.pieces.items b.prefixes.items b.reports.items (value_of b.best) b.spent inv.grown p Free (Taken c.args.worker g) at refl;
       spare = inv.spare;
     })
 
@@ -42,7 +43,7 @@ returns-clause-ok c =
       record {
         free = c.requires.free;
         place = rw (← c.self.view_is) place;
-        reached = rw (← c.self.view_is) (reached_at (line_by turned_time b.loads.loads b.loads.slots) b.order.items b.prefixes.items c.args.at c.new.result place grown.reached);
+        reached = rw (← c.self.view_is) (reached_at (line_by (line_rules b.rules) b.loads.loads b.loads.slots) b.order.items b.prefixes.items c.args.at c.new.result place grown.reached);
         value = search rules;
         grant = search rules;
         some = search rules;

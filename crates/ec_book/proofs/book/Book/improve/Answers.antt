@@ -1,6 +1,7 @@
 use Rattle.std.proofs.Common.{arith, vec_capacity, rules}
-use Rattle.ec_loads.specs.Line.{turned_time, line_by}
+use Rattle.ec_loads.specs.Line.{line_by}
 use Rattle.ec_cert.specs.Shapes.{shape_of}
+use Rattle.ec_symmetry.specs.Ruled.{line_rules}
 use Rattle.ec_book.specs.Steps.{start, IsBelow}
 use Rattle.ec_book.specs.Faults.{IsPlanOf}
 use Rattle.ec_cert.specs.BestPlan.{value_of}
@@ -21,7 +22,7 @@ invariant_of-self-2 c =
           counted-better (start (shape_of b.given) b.given_value) b.nodes b.pieces.items (value_of b.best) b.spent b.held b.taken b.low b.log.items _ inv.counted c.args.worker v
           (vec_capacity c.push_reserved.new.self) c.push_reserved.new.self.items below log_is
           (omega (arith, c.in-Ok.ensures.ok, c.in-Some-checked_add.ensures.1, c.push_reserved.ensures.capacity, c.reserve.ensures.len, b.log.ok.0));
-      grown = grown-better (shape_of b.given) (line_by turned_time b.loads.loads b.loads.slots) b.order.items b.pieces.items b.prefixes.items b.reports.items (value_of b.best) b.spent inv.grown v below;
+      grown = grown-better (shape_of b.given) (line_by (line_rules b.rules) b.loads.loads b.loads.slots) b.order.items b.pieces.items b.prefixes.items b.reports.items (value_of b.best) b.spent inv.grown v below;
       spare = inv.spare;
     }
 

@@ -1,7 +1,8 @@
 use Rattle.std.proofs.Common.{◌≡◌, ◌+◌, ap, ◌++◌, ◌∷◌, [], arith, refl, ◌∙◌, set, replicate, drop, ◌≤◌, ◌<◌, length, length-append}
-use Rattle.ec_loads.specs.Line.{turned_time, line_by}
+use Rattle.ec_loads.specs.Line.{line_by}
 use Rattle.ec_loads.specs.Search.{node_count, IsPartialTree}
 use Rattle.ec_cert.specs.Shapes.{shape_of}
+use Rattle.ec_symmetry.specs.Ruled.{line_rules}
 use Rattle.ec_book.specs.declared.piece.Piece.TheVariants.{Free, Taken, Ended}
 use Rattle.ec_symmetry.specs.Orders.{prefix_of}
 use Rattle.ec_book.specs.Open.{AreOpened, open_places}
@@ -33,7 +34,7 @@ returns-in-Err-add_opened-clause-err c =
     let sub = c.args.counted.sub in
     let welcome : IsWelcome b.pieces.items b.prefixes.items (value_of b.best) c.args.worker c.args.piece c.args.prefix.now sub.threshold (node_count (shape_of sub.tree)) c.in-Ok.grant =
     rw (c.as_slice-pieces.ensures.value, c.as_slice-prefixes.ensures.value, c.value_in-value.ensures) at c.in-Ok.ensures.ok in
-    rw (← c.self.view_is) ((c.in-Ok.grant, welcome), refl, λ j. book_view b.loads.loads b.loads.slots b.order.items b.nodes (c.in-Err-add_opened.ensures.same.0 j) (c.in-Err-add_opened.ensures.kept j) b.best b.spent b.log.items (shape_of b.given) b.given_value)
+    rw (← c.self.view_is) ((c.in-Ok.grant, welcome), refl, λ j. book_view b.loads.loads b.loads.slots b.order.items (line_rules b.rules) b.nodes (c.in-Err-add_opened.ensures.same.0 j) (c.in-Err-add_opened.ensures.kept j) b.best b.spent b.log.items (shape_of b.given) b.given_value)
 
 pub push_reserved-requires : goal.push_reserved-requires
 push_reserved-requires c =
@@ -91,7 +92,7 @@ invariant_of-self-2 c =
     rw (c.as_slice-pieces.ensures.value, c.as_slice-prefixes.ensures.value, c.value_in-value.ensures) at c.in-Ok.ensures.ok in
     let loads = b.loads.loads in
     let slots = b.loads.slots in
-    let line = line_by turned_time loads slots in
+    let line = line_by (line_rules b.rules) loads slots in
     let order = b.order.items in
     let p = c.args.piece in
     let g = c.in-Ok.grant in
@@ -136,7 +137,7 @@ pub returns-clause-ok : goal.returns-clause-ok
 returns-clause-ok c =
     let b = c.self.inside in
     let sub = c.args.counted.sub in
-    let line = line_by turned_time b.loads.loads b.loads.slots in
+    let line = line_by (line_rules b.rules) b.loads.loads b.loads.slots in
     let order = b.order.items in
     let p = c.args.piece in
     let count = c.in-Ok-add_opened.count in
@@ -147,4 +148,4 @@ returns-clause-ok c =
     c.add_free.ensures ∙ (λ j. set (c.add_opened.ensures.same.0 j) p Ended ++ replicate count Free) in
     let log_is : c.push_reserved.new.self.items ≡ b.log.items ++ (Reported c.args.worker p (node_count (shape_of sub.tree)) (length b.pieces.items) (length (open_places line order (shape_of sub.tree) c.args.prefix.now))) ∷ [] =
     c.push_reserved.ensures.items ∙ (λ j. b.log.items ++ (Reported c.args.worker p (c.in-Ok.ensures.nodes j) (first_is j) (more.0 j)) ∷ []) in
-    rw (← c.self.view_is) (λ j. book_view b.loads.loads b.loads.slots order b.nodes ((pieces_are ∙ ap (λ n. set b.pieces.items p Ended ++ replicate n Free) more.0) j) (more.1 j) b.best (b.spent + c.in-Ok.ensures.nodes j) (log_is j) (shape_of b.given) b.given_value)
+    rw (← c.self.view_is) (λ j. book_view b.loads.loads b.loads.slots order (line_rules b.rules) b.nodes ((pieces_are ∙ ap (λ n. set b.pieces.items p Ended ++ replicate n Free) more.0) j) (more.1 j) b.best (b.spent + c.in-Ok.ensures.nodes j) (log_is j) (shape_of b.given) b.given_value)

@@ -1,9 +1,10 @@
 use Rattle.std.proofs.Common.{◌≡◌, [], length, ap, ◌∙◌, arith, replicate}
 use Rattle.ec_units.specs.Load.{loads_of}
-use Rattle.ec_loads.specs.Line.{turned_time, line_by, line_of}
+use Rattle.ec_loads.specs.Line.{line_by, line_of}
 use Rattle.ec_loads.specs.Search.{open_count}
 use Rattle.ec_cert.specs.BestPlan.{value_of}
 use Rattle.ec_cert.specs.Shapes.{shape_of}
+use Rattle.ec_symmetry.specs.Ruled.{line_rules}
 use Rattle.ec_book.specs.declared.piece.Piece.TheVariants.{Free}
 use Rattle.ec_book.specs.Open.{open_places}
 use Rattle.ec_book.specs.Views.{book_view}
@@ -22,15 +23,15 @@ invariant_of-result c =
     let us = c.args.units.now.units in
     let n = c.args.units.now.slots in
     let cert = c.args.cert in
-    let line = line_by turned_time (loads_of us) n in
+    let line = line_by (line_rules c.args.rules) (loads_of us) n in
     let order_is : c.into_vec-order.result.items ≡ cert.order = c.into_vec-order.ensures in
     let opened : c.in_ok-prefixes.prefixes.items ≡ open_places line cert.order (shape_of cert.tree) [] =
-    c.in_ok-prefixes.ensures ∙ (λ j. open_places (line_of turned_time (c.in_ok-loads.ensures j)) ((c.as_slice.ensures.value ∙ order_is) j) (shape_of cert.tree) []) in
+    c.in_ok-prefixes.ensures ∙ (λ j. open_places (line_of (line_rules c.args.rules) (c.in_ok-loads.ensures j)) ((c.as_slice.ensures.value ∙ order_is) j) (shape_of cert.tree) []) in
     let free = pieces-are (shape_of cert.tree) line cert.order (value_of cert.best) c.requires.tree _ _ c.in_ok-prefixes.prefixes.items _ c.add_free.ensures c.in_ok-pieces.ensures.items opened in
     let pieces_is : c.add_free.new.pieces.items ≡ replicate (open_count (shape_of cert.tree)) Free =
     free (omega (arith, c.len-count.ensures, c.in_ok-prefixes.prefixes.ok.0)) in
     rw (order_is, c.value_in-given_value.ensures) (
-    kept-given us n cert.order cert.best (shape_of cert.tree) c.args.nodes c.requires.order c.requires.best c.requires.tree
+    kept-given us n cert.order (line_rules c.args.rules) cert.best (shape_of cert.tree) c.args.nodes c.requires.order c.requires.best c.requires.tree
     c.in_ok-loads.loads c.add_free.new.pieces.items c.in_ok-prefixes.prefixes.items c.new-2.result.items c.new-3.result.items _ _ _
     c.in_ok-loads.ensures pieces_is opened c.new-2.ensures.items c.new-3.ensures.items c.in_ok-leaves.ensures.items (omega (arith, c.in_ok-leaves.ensures.capacity, c.len-count.ensures, c.in_ok-prefixes.prefixes.ok.0)))
 
@@ -39,11 +40,11 @@ returns c =
     let us = c.args.units.now.units in
     let n = c.args.units.now.slots in
     let cert = c.args.cert in
-    let line = line_by turned_time (loads_of us) n in
+    let line = line_by (line_rules c.args.rules) (loads_of us) n in
     let order_is : c.into_vec-order.result.items ≡ cert.order = c.into_vec-order.ensures in
     let opened : c.in_ok-prefixes.prefixes.items ≡ open_places line cert.order (shape_of cert.tree) [] =
-    c.in_ok-prefixes.ensures ∙ (λ j. open_places (line_of turned_time (c.in_ok-loads.ensures j)) ((c.as_slice.ensures.value ∙ order_is) j) (shape_of cert.tree) []) in
+    c.in_ok-prefixes.ensures ∙ (λ j. open_places (line_of (line_rules c.args.rules) (c.in_ok-loads.ensures j)) ((c.as_slice.ensures.value ∙ order_is) j) (shape_of cert.tree) []) in
     let free = pieces-are (shape_of cert.tree) line cert.order (value_of cert.best) c.requires.tree _ _ c.in_ok-prefixes.prefixes.items _ c.add_free.ensures c.in_ok-pieces.ensures.items opened in
     let pieces_is : c.add_free.new.pieces.items ≡ replicate (open_count (shape_of cert.tree)) Free =
     free (omega (arith, c.len-count.ensures, c.in_ok-prefixes.prefixes.ok.0)) in
-    λ j. book_view (c.in_ok-loads.ensures j).loads (c.in_ok-loads.ensures j).slots (order_is j) c.args.nodes (pieces_is j) (opened j) cert.best 0 (c.new-3.ensures.items j) (shape_of cert.tree) (c.value_in-given_value.ensures j)
+    λ j. book_view (c.in_ok-loads.ensures j).loads (c.in_ok-loads.ensures j).slots (order_is j) (line_rules c.args.rules) c.args.nodes (pieces_is j) (opened j) cert.best 0 (c.new-3.ensures.items j) (shape_of cert.tree) (c.value_in-given_value.ensures j)

@@ -1,5 +1,0 @@
-use Rattle.std.proofs.Common.{rules}
-use Rattle.ec_branch.proofs.first_plan.better.Goals as goal
-
-pub returns-then-cost-choice-clause-kept : goal.returns-then-cost-choice-clause-kept
-returns-then-cost-choice-clause-kept c = search rules
