@@ -5,7 +5,7 @@ use ec_loads::Pair;
 use ec_units::Place;
 use std::alloc::Global;
 
-/// A call: its text, whose first word is its name, and whether the word `strong` stood before it.
+/// A call: its text, whose first word is its name, and whether the word `strongly` stood before it.
 #[derive(Clone, Copy)]
 pub(crate) struct Call<'a> {
     text: &'a str,
@@ -32,7 +32,7 @@ fn pair_of(word: &str) -> Option<Pair> {
 
 impl<'a> Call<'a> {
     pub(crate) fn of(text: &'a str) -> Call<'a> {
-        match text.strip_prefix("strong ") {
+        match text.strip_prefix("strongly ") {
             Some(text) => Call { text, strong: true },
             None => Call {
                 text,
