@@ -1,10 +1,8 @@
 -- One tick more through a line of threads.
 -- A step whose frames are known to exist promises a record with them as a field (`IsRound`, `IsStopped`). "Both lists
 -- grow alike" is a clause for every base: `(base : ..) → old ≡ base ++ .. → new ≡ base ++ ..`.
-use Rattle.std.specs.Prelude.{nat_lt, if◌then◌else◌}
-use Rattle.std.proofs.Common.{◌≡◌, ℕ, ◌+◌, ◌<◌, Bool, true, false, List, [], ◌∷◌, ◌++◌, Some, None, length, length-append, map, get_or, unwrap_or, refl, sym, ap, ◌∙◌, subst, arith, append_assoc, append-nil}
+use Rattle.std.proofs.Common.{◌≡◌, ℕ, ◌+◌, ◌<◌, List, [], ◌∷◌, ◌++◌, Some, length, length-append, get_or, unwrap_or, refl, sym, ap, ◌∙◌, subst, arith, append_assoc, append-nil}
 use Rattle.std.proofs.lemmas.List.{map-append}
-use Rattle.std.proofs.lemmas.Bool.Decides.{nat_tests}
 use Rattle.ec_units.specs.declared.units.Units.{Units}
 use Rattle.ec_fmmu.specs.declared.mapping.Mapping.{Mapping}
 use Rattle.ec_slave.specs.Journey.{journey, arrived}
@@ -13,45 +11,21 @@ use Rattle.ec_play.specs.declared.rows.TickRow.{TickRow}
 use Rattle.ec_play.specs.Sent.{Sent, start_sents, tick_sents, ticks_sents, all_sents}
 use Rattle.ec_play.specs.Faults.{first_fault}
 use Rattle.ec_play.specs.Images.{last_byte, all_entries}
-use Rattle.ec_play.specs.Lines.{bytes_of, came_back, slaves_after, AreRight}
+use Rattle.ec_play.specs.Lines.{bytes_of, came_back, slaves_after}
 use Rattle.ec_play.specs.Rows.{row_of}
 use Rattle.ec_play.proofs.LineLemmas.{journey-append, came-append, after-append, length-came, fault-first, fault-later}
 use Rattle.ec_play.proofs.TickLemmas.{ticks-more, right-more, row-more, bytes-more, fault-more}
 use Rattle.ec_play_threads.specs.Frames.{IsFront}
-use Rattle.ec_play_threads.specs.Rounds.{due_sents, IsRound, IsStopped, ArePlayed, IsFirstFault}
+use Rattle.ec_play_threads.specs.Rounds.{IsRound, IsStopped, ArePlayed, IsFirstFault}
 use Rattle.ec_play_threads.proofs.FrontLemmas.{parts_same, fault-front, fault-rest}
 
--- what is due in a tick that is played
-pub due-now : (us : Units) (m : Mapping) (image : List ℕ) (n t : ℕ) → t < n → due_sents us m image n t ≡ tick_sents us m image t
-due-now us m image n t l = let now : nat_lt t n ≡ true = grind (arith, nat_tests) in ap (λ (b : Bool). if b then tick_sents us m image t else []) now
-
--- after the last tick nothing is due
-due-none : (us : Units) (m : Mapping) (image : List ℕ) (n : ℕ) → due_sents us m image n n ≡ []
-due-none us m image n = let past : nat_lt n n ≡ false = grind (arith, nat_tests) in ap (λ (b : Bool). if b then tick_sents us m image n else []) past
-
-pub went-all : (us : Units) (m : Mapping) (image : List ℕ) (n t : ℕ) (sent : List (List ℕ)) → t ≡ n →
-    sent ≡ bytes_of ((start_sents us m ++ ticks_sents us m image t) ++ due_sents us m image n t) → sent ≡ bytes_of (all_sents us m image n)
-went-all us m image n t sent e h =
-    h ∙ (λ i. bytes_of ((start_sents us m ++ ticks_sents us m image (e i)) ++ due_sents us m image n (e i)))
-    ∙ ap (λ w. bytes_of (all_sents us m image n ++ w)) (due-none us m image n) ∙ ap bytes_of (append-nil (all_sents us m image n))
-
+-- all was sent, and all came
 pub many-all : (us : Units) (m : Mapping) (image : List ℕ) (n t k : ℕ) → t ≡ n → k ≡ length (start_sents us m) + length (ticks_sents us m image t) → k ≡ length (all_sents us m image n)
 many-all us m image n t k e h = h ∙ sym (length-append (start_sents us m) (ticks_sents us m image t)) ∙ ap (λ w. length (all_sents us m image w)) e
 
 -- the bytes of some frames and of others
 pub bytes-append : (xs ys : List Sent) → bytes_of (xs ++ ys) ≡ bytes_of xs ++ bytes_of ys
 bytes-append xs ys = map-append (λ s. s.bytes) xs ys
-
--- what went before tick t + 1, and what is due in it
-pub went-more : (us : Units) (m : Mapping) (image : List ℕ) (starts : List Sent) (n t : ℕ) (old new more : List (List ℕ)) → t < n →
-    old ≡ bytes_of ((starts ++ ticks_sents us m image t) ++ due_sents us m image n t) → new ≡ old ++ more → more ≡ bytes_of (due_sents us m image n (t + 1)) →
-    new ≡ bytes_of ((starts ++ ticks_sents us m image (t + 1)) ++ due_sents us m image n (t + 1))
-went-more us m image starts n t old new more l e h k =
-    let ticks = ticks_sents us m image t in
-    let due = due_sents us m image n (t + 1) in
-    let all : (starts ++ ticks) ++ due_sents us m image n t ≡ starts ++ ticks_sents us m image (t + 1) =
-    ap (λ w. (starts ++ ticks) ++ w) (due-now us m image n t l) ∙ append_assoc starts ticks (tick_sents us m image t) ∙ ap (λ w. starts ++ w) (sym (ticks-more us m image t)) in
-    h ∙ (λ i. (e ∙ ap bytes_of all) i ++ k i) ∙ sym (bytes-append (starts ++ ticks_sents us m image (t + 1)) due)
 
 module _ {X : Type 0} (out : X → List ℕ → List ℕ) (next : X → List ℕ → X) where
   -- frames that came back behind others
@@ -100,23 +74,20 @@ module _ {X : Type 0} (out : X → List ℕ → List ℕ) (next : X → List ℕ
             (r.bytes k (subst (λ w. k < w) (sym same) l) ∙ ap (λ w. unwrap_or (last_byte (65536 + k) (all_entries w)) (get_or before k 0)) backs);
       }
 
-  pub tick-stopped : (us : Units) (m : Mapping) (image : List ℕ) (slaves : List X) (n t last : ℕ) (rows : List TickRow) (sent_old sent_new old new : List (List ℕ)) (before : List ℕ) (f : PlayFault) →
+  pub tick-stopped : (us : Units) (m : Mapping) (image : List ℕ) (slaves : List X) (n t last : ℕ) (rows : List TickRow) (sent old new more : List (List ℕ)) (before : List ℕ) (f : PlayFault) →
       n ≡ length (start_sents us m) + length (ticks_sents us m image t) → length old ≡ n → t < last →
-      sent_old ≡ bytes_of ((start_sents us m ++ ticks_sents us m image t) ++ due_sents us m image last t) →
+      sent ≡ bytes_of ((start_sents us m ++ ticks_sents us m image t) ++ tick_sents us m image t) ++ more →
       (old ≡ came_back out next slaves (start_sents us m ++ ticks_sents us m image t) → ArePlayed out next us m image slaves t rows before) →
-      IsStopped n (due_sents us m image last t) sent_old sent_new old new f →
-      IsFront new (journey out next slaves sent_new) → IsFirstFault out next us m image last slaves f
-  tick-stopped us m image slaves n t last rows sent_old sent_new old new before f e len l went h r front =
+      IsStopped n (tick_sents us m image t) old new f →
+      IsFront new (journey out next slaves sent) → IsFirstFault out next us m image last slaves f
+  tick-stopped us m image slaves n t last rows sent old new more before f e len l went h r front =
       let starts = start_sents us m in
       let first = slaves_after out next slaves starts in
       let ticks = ticks_sents us m image t in
       let own = tick_sents us m image t in
-      let due = due-now us m image last t l in
       let now = slaves_after out next first ticks in
       let many : length old ≡ length (starts ++ ticks) = omega (arith, e, len, length-append starts ticks) in
-      let sent : sent_new ≡ bytes_of ((starts ++ ticks) ++ own) ++ r.more = r.went ∙ ap (λ w. w ++ r.more) (went ∙ ap (λ w. bytes_of ((starts ++ ticks) ++ w)) due) in
-      let at = stopped slaves (starts ++ ticks) own r.more old r.backs front.0 n f many
-      (ap (λ w. w ++ front.0) (sym r.came) ∙ front.1 ∙ ap (journey out next slaves) sent) (ap (λ w. first_fault n w r.backs) (sym due) ∙ r.fault) in
+      let at = stopped slaves (starts ++ ticks) own more old r.backs front.0 n f many (ap (λ w. w ++ front.0) (sym r.came) ∙ front.1 ∙ ap (journey out next slaves) went) r.fault in
       let was = h at.0 in
       let here = sym (ap (λ w. first_fault n own (came_back out next w own)) (after-append out next slaves starts ticks)) ∙ at.1 in
       let zero-more : length starts ≡ 0 + length starts = omega arith in
@@ -125,12 +96,12 @@ module _ {X : Type 0} (out : X → List ℕ → List ℕ) (next : X → List ℕ
       ∙ fault-more out next us m image first now (length starts) n t last f refl e was.right l here)
 
   -- a faulty one among the start frames
-  pub start-stopped : (us : Units) (m : Mapping) (image : List ℕ) (slaves : List X) (last : ℕ) (sent_old sent_new old new : List (List ℕ)) (f : PlayFault) →
-      old ≡ [] → sent_old ≡ bytes_of (start_sents us m) → IsStopped 0 (start_sents us m) sent_old sent_new old new f →
-      IsFront new (journey out next slaves sent_new) → IsFirstFault out next us m image last slaves f
-  start-stopped us m image slaves last sent_old sent_new old new f none went r front =
+  pub start-stopped : (us : Units) (m : Mapping) (image : List ℕ) (slaves : List X) (last : ℕ) (sent old new : List (List ℕ)) (f : PlayFault) →
+      old ≡ [] → sent ≡ bytes_of (start_sents us m) → IsStopped 0 (start_sents us m) old new f →
+      IsFront new (journey out next slaves sent) → IsFirstFault out next us m image last slaves f
+  start-stopped us m image slaves last sent old new f none went r front =
       let starts = start_sents us m in
-      let sent : sent_new ≡ bytes_of starts ++ r.more = r.went ∙ ap (λ w. w ++ r.more) went in
-      let at = stopped slaves [] starts r.more [] r.backs front.0 0 f refl
-      (ap (λ w. w ++ front.0) (ap (λ w. w ++ r.backs) (sym none) ∙ sym r.came) ∙ front.1 ∙ ap (journey out next slaves) sent) r.fault in
+      let all : sent ≡ bytes_of starts ++ [] = went ∙ sym (append-nil (bytes_of starts)) in
+      let at = stopped slaves [] starts [] [] r.backs front.0 0 f refl
+      (ap (λ w. w ++ front.0) (ap (λ w. w ++ r.backs) (sym none) ∙ sym r.came) ∙ front.1 ∙ ap (journey out next slaves) all) r.fault in
       fault-first out next slaves 0 starts (ticks_sents us m image last) f at.1

@@ -1,19 +1,15 @@
--- What comes back of the frames of a tick while those of the next one are sent.
-use Rattle.std.specs.Prelude.{◌≡◌, ℕ, ◌+◌, ◌<◌, nat_lt, if◌then◌else◌, List, [], ◌++◌, length, get_or, unwrap_or, Some, None}
+-- What comes back of the frames of a tick.
+use Rattle.std.specs.Prelude.{◌≡◌, ℕ, ◌+◌, ◌<◌, List, [], ◌++◌, length, get_or, unwrap_or, Some, None}
 use Rattle.ec_units.specs.declared.units.Units.{Units}
 use Rattle.ec_fmmu.specs.declared.mapping.Mapping.{Mapping}
 use Rattle.ec_outcome.specs.declared.play.PlayFault.{PlayFault}
 use Rattle.ec_play.specs.declared.rows.TickRow.{TickRow}
 use Rattle.ec_player.specs.Start.{starts_of}
-use Rattle.ec_play.specs.Sent.{Sent, start_sents, tick_sents, ticks_sents, all_sents}
+use Rattle.ec_play.specs.Sent.{Sent, start_sents, ticks_sents, all_sents}
 use Rattle.ec_play.specs.Faults.{first_fault}
 use Rattle.ec_play.specs.Images.{last_byte, all_entries, image_after}
 use Rattle.ec_play.specs.Lines.{came_back, slaves_after, AreRight}
 use Rattle.ec_play.specs.Rows.{row_of, rows_of}
-
--- what is sent in tick t of n ticks
-abbrev pub due_sents : Units → Mapping → List ℕ → ℕ → ℕ → List Sent
-due_sents us m image n t = if nat_lt t n then tick_sents us m image t else []
 
 -- all of a tick's frames came back behind those that came before, none of them faulty; what is told of them, and the bytes that came
 pub record IsRound (n : ℕ) (sents : List Sent) (old new : List (List ℕ)) (before after : List ℕ) (row : TickRow) : Type 0 where
@@ -24,12 +20,10 @@ pub record IsRound (n : ℕ) (sents : List Sent) (old new : List (List ℕ)) (be
   pub told : row ≡ row_of sents backs
   pub bytes : (k : ℕ) → k < length before → get_or after k 0 ≡ unwrap_or (last_byte (65536 + k) (all_entries backs)) (get_or before k 0)
 
--- frames came back up to the first that is faulty, while others were sent
-pub record IsStopped (n : ℕ) (sents : List Sent) (sent_old sent_new old new : List (List ℕ)) (f : PlayFault) : Type 0 where
+-- frames came back up to the first that is faulty
+pub record IsStopped (n : ℕ) (sents : List Sent) (old new : List (List ℕ)) (f : PlayFault) : Type 0 where
   pub backs : List (List ℕ)
-  pub more : List (List ℕ)
   pub came : new ≡ old ++ backs
-  pub went : sent_new ≡ sent_old ++ more
   pub fault : first_fault n sents backs ≡ Some f
 
 module _ {X : Type 0} (out : X → List ℕ → List ℕ) (next : X → List ℕ → X) where

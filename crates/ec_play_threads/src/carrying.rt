@@ -1,14 +1,15 @@
 //! The thread of a slave.
 
-ghost use Rattle.std.specs.Prelude.{◌≡◌, [], ◌∷◌, ◌++◌, IfSome};
+ghost use Rattle.std.specs.Prelude.{◌≡◌, ◌<◌, [], ◌∷◌, ◌++◌, IfSome};
 ghost use Rattle.rtrb.specs.Ends.{SameRing};
-ghost use Rattle.rtrb.specs.Ring.{sent, received, all_sent, SameProducer, SameConsumer};
+ghost use Rattle.rtrb.specs.Ring.{sent, received, all_sent, known_free, SameProducer, SameConsumer};
 ghost use Rattle.ec_slave.specs.Journey.{outs, final};
 ghost use Rattle.ec_play_threads.specs.Frames.{bytes_in};
 
+use crate::seats::Seat;
 use ec_frames::Frame;
 use ec_slave::Pass;
-use rtrb::{Consumer, Finished, Producer, PushError};
+use rtrb::{Consumer, Finished, Producer};
 use std::snapshot::Snapshot;
 use std::sync::Wait;
 use std::thread;
@@ -36,20 +37,28 @@ impl<X: Pass> Promise<Back<X>> for Carried<X> {
     ghost kept_by = { λ p r. Carries X.out X.next p r };
 }
 
+/// Waits until there is room for a frame.
+fn wait_for_room<R: Wait>(rt: &R, producer: &mut Producer<Frame>)
+    ensures ring { SameProducer producer.old producer.new }
+    ensures sent { sent producer.new ≡ sent producer.old }
+    ensures room { 0 < known_free producer.new }
+{
+    for _ in rt.forever() {
+        if !producer.is_full() {
+            return;
+        }
+        thread::yield_now();
+    }
+    unreachable!()
+}
+
 /// Puts a frame, once there is room for it.
 fn put_waiting<R: Wait>(rt: &R, producer: &mut Producer<Frame>, frame: Frame)
     ensures ring { SameProducer producer.old producer.new }
     ensures sent { sent producer.new ≡ sent producer.old ++ frame ∷ [] }
 {
-    let mut frame = frame;
-    for _ in rt.forever() {
-        match producer.push(frame) {
-            Ok(()) => return,
-            Err(PushError::Full(back)) => frame = back,
-        }
-        thread::yield_now();
-    }
-    unreachable!()
+    wait_for_room(rt, producer);
+    producer.push_reserved(frame);
 }
 
 /// Lets each frame that comes pass the slave, and puts it to the next ring, until no more can come.
@@ -58,6 +67,7 @@ pub(crate) fn carry<X: Pass, R: Wait>(
     mut slave: X,
     mut taken: Consumer<Frame>,
     mut put: Producer<Frame>,
+    seat: Seat<'_>,
 ) -> Back<X>
     requires { (received taken ≡ []) × (sent put ≡ []) }
     ensures taken { SameConsumer taken result.taken }
@@ -66,23 +76,19 @@ pub(crate) fn carry<X: Pass, R: Wait>(
 {
     for _ in rt.forever() {
         let gone = taken.is_abandoned();
-        match taken.pop() {
-            Ok(frame) => {
-                let mut frame = frame;
-                slave.pass(&mut frame);
-                put_waiting(rt, &mut put, frame);
+        if taken.is_empty() {
+            if gone {
+                break;
             }
-            Err(_) => {
-                if gone {
-                    break;
-                }
-                thread::yield_now();
-            }
+            seat.wait(rt);
+            continue;
         }
+        let mut frame = taken.pop_known();
+        slave.pass(&mut frame);
+        put_waiting(rt, &mut put, frame);
+        seat.behind().wake();
     }
-    Back {
-        slave,
-        taken,
-        put: put.finish(),
-    }
+    let put = put.finish();
+    seat.behind().wake();
+    Back { slave, taken, put }
 }

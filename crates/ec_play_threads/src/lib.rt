@@ -2,11 +2,13 @@
 //! through rings from the calling thread to the first slave, from each slave to the next, and from the last one back.
 #![tactic(auto)]
 
+mod ahead;
 mod carrying;
 mod laws;
 mod line;
 mod playing;
 mod rounds;
+mod seats;
 mod ticks;
 
 pub use laws::same_answer;

@@ -10,6 +10,7 @@ ghost use Rattle.ec_play_threads.specs.Threads.{Linked};
 ghost use Rattle.ec_play_threads.specs.Plays.{IsLack};
 
 use crate::carrying::{Back, Carried, carry};
+use crate::seats::Seat;
 use ec_frames::Frame;
 use ec_play::PlayFault;
 use ec_slave::Pass;
@@ -17,11 +18,10 @@ use rtrb::{Consumer, Finished, Producer, RingBuffer};
 use std::alloc::Global;
 use std::snapshot::Snapshot;
 use std::sync::Wait;
-use std::thread;
 use std::thread::{PromisedHandle, Scope, Threads};
 
-/// Frames that a ring has room for.
-pub(crate) const RING: usize = 8;
+/// Frames that a ring has room for: all that are under way, so that sending never waits for what comes back.
+pub(crate) const RING: usize = 64;
 
 /// The thread of a slave, with what it promises.
 pub(crate) type Handle<X> = PromisedHandle<Back<X>, Carried<X>>;
@@ -33,6 +33,7 @@ fn start<'s, E, X: Pass + Send + Drop + 's, R: Wait + Sync>(
     slave: X,
     taken: Consumer<Frame>,
     put: Producer<Frame>,
+    seat: Seat<'s>,
 ) -> Option<Handle<X>>
     requires { (received taken ≡ []) × (sent_by put ≡ []) }
     ensures { IfSome result (λ h. (h.promise.slave.value ≡ slave) × (h.promise.taken.value ≡ taken) × (h.promise.put.value ≡ put)) }
@@ -43,7 +44,7 @@ fn start<'s, E, X: Pass + Send + Drop + 's, R: Wait + Sync>(
         put: Snapshot::of(&put),
     };
     scope
-        .spawn_with(promise, move || carry(rt, slave, taken, put))
+        .spawn_with(promise, move || carry(rt, slave, taken, put, seat))
         .ok()
 }
 
@@ -55,6 +56,7 @@ pub(crate) fn start_all<'s, E, X: Pass + Send + Drop + 's, R: Wait + Sync>(
     alloc: Global,
     slaves: Vec<X>,
     first: Consumer<Frame>,
+    seat: Seat<'s>,
     handles: &mut Vec<Handle<X>>,
 ) -> Result<Consumer<Frame>, PlayFault>
     requires { (received first ≡ []) × (handles.old.items ≡ []) }
@@ -64,14 +66,16 @@ pub(crate) fn start_all<'s, E, X: Pass + Send + Drop + 's, R: Wait + Sync>(
     ensures fault { IfErr result IsLack }
 {
     let mut taken = first;
+    let mut seat = seat;
     for slave in slaves {
         let Ok((put, next)) = RingBuffer::new(alloc, RING) else {
             return Err(PlayFault::Ring);
         };
-        let Some(handle) = start(rt, scope, slave, taken, put) else {
+        let Some(handle) = start(rt, scope, slave, taken, put, seat) else {
             return Err(PlayFault::Spawn);
         };
         taken = next;
+        seat = seat.behind();
         let Ok(()) = handles.push(handle) else {
             return Err(PlayFault::OutOfMemory);
         };
@@ -83,16 +87,18 @@ pub(crate) fn start_all<'s, E, X: Pass + Send + Drop + 's, R: Wait + Sync>(
 pub(crate) fn give_up<X: Pass + Send + Drop, R: Threads>(
     rt: &R,
     first: Producer<Frame>,
+    seat: Seat<'_>,
     handles: Vec<Handle<X>>,
 ) {
     let _ended = first.finish();
+    seat.wake();
     for handle in handles {
         let _back = handle.join(rt);
     }
 }
 
 /// Takes what is still under way, until nothing more can come.
-fn drain<R: Wait>(rt: &R, last: &mut Consumer<Frame>)
+fn drain<R: Wait>(rt: &R, last: &mut Consumer<Frame>, own: Seat<'_>)
     ensures ring { SameConsumer last.old last.new }
     ensures more { (frames : List (ArrayVec ℕ)) × (received last.new ≡ received last.old ++ frames) }
 {
@@ -102,7 +108,7 @@ fn drain<R: Wait>(rt: &R, last: &mut Consumer<Frame>)
             if gone {
                 return;
             }
-            thread::yield_now();
+            own.wait(rt);
         }
     }
     unreachable!()
@@ -155,6 +161,8 @@ pub(crate) fn close<X: Pass + Send + Drop, R: Threads + Wait>(
     alloc: Global,
     first: Producer<Frame>,
     last: Consumer<Frame>,
+    seat: Seat<'_>,
+    own: Seat<'_>,
     handles: Vec<Handle<X>>,
 ) -> Result<Vec<X>, PlayFault>
     requires { Linked first.end (map (λ h. h.promise) handles.items) last.end }
@@ -164,7 +172,8 @@ pub(crate) fn close<X: Pass + Send + Drop, R: Threads + Wait>(
 {
     let mut last = last;
     let ended = first.finish();
-    drain(rt, &mut last);
+    seat.wake();
+    drain(rt, &mut last, own);
     match ended {
         Some(finished) => join_all(rt, alloc, handles, finished, last),
         None => Err(PlayFault::Ring),

@@ -11,6 +11,7 @@ ghost use Rattle.ec_play.specs.Plays.{IsAnswer};
 ghost use Rattle.ec_play_threads.specs.Plays.{IsLack};
 
 use crate::line::{RING, close, give_up, start_all};
+use crate::seats::{Seat, places_of};
 use crate::ticks::{Outcome, play_line};
 use ec_fmmu::Mapping;
 use ec_play::{PlayFault, Played, Rows};
@@ -20,13 +21,14 @@ use rtrb::RingBuffer;
 use std::alloc::Global;
 use std::sync::Wait;
 use std::thread;
-use std::thread::{Scope, Threads};
+use std::thread::{Parker, Scope, Threads};
 
 /// Starts the threads, plays, and joins them.
 fn play_in<'s, E, X: Pass + Send + Drop + 's, R: Threads + Wait + Sync>(
     rt: &'s R,
     scope: &Scope<'s, E>,
     alloc: Global,
+    places: &'s [Parker],
     units: &Units,
     mapping: &Mapping,
     image: &[u8],
@@ -38,6 +40,8 @@ fn play_in<'s, E, X: Pass + Send + Drop + 's, R: Threads + Wait + Sync>(
     requires few { ticks ≤ 65536 }
     ensures answer { IsAnswer X.out X.next IsLack units.now mapping.now image.now ticks slaves.items result }
 {
+    let seat = Seat::of(places, 0);
+    let own = Seat::of(places, slaves.len());
     let Ok(mut handles) = Vec::with_capacity(alloc, slaves.len()) else {
         return Err(PlayFault::OutOfMemory);
     };
@@ -45,17 +49,17 @@ fn play_in<'s, E, X: Pass + Send + Drop + 's, R: Threads + Wait + Sync>(
         return Err(PlayFault::Ring);
     };
     let mut first = first;
-    let mut last = match start_all(rt, scope, alloc, slaves, taken, &mut handles) {
+    let mut last = match start_all(rt, scope, alloc, slaves, taken, seat, &mut handles) {
         Ok(last) => last,
         Err(fault) => {
-            give_up(rt, first, handles);
+            give_up(rt, first, seat, handles);
             return Err(fault);
         }
     };
     let outcome = play_line::<X, R>(
-        rt, alloc, &mut first, &mut last, units, mapping, image, ticks,
+        rt, alloc, &mut first, &mut last, seat, own, units, mapping, image, ticks,
     );
-    let slaves = match close(rt, alloc, first, last, handles) {
+    let slaves = match close(rt, alloc, first, last, seat, own, handles) {
         Ok(slaves) => slaves,
         Err(fault) => return Err(fault),
     };
@@ -73,9 +77,9 @@ fn play_in<'s, E, X: Pass + Send + Drop + 's, R: Threads + Wait + Sync>(
     }
 }
 
-/// Plays a plan as `play_plain` does, with a thread for each slave (own profile, after ETG.1000.4, clause 5.4): rings of 8 frames lead
-/// from the calling thread through the slaves, in file order, and back. The frames of a tick are sent while those of the one before
-/// it are under way, and each is judged as it comes back. After the first faulty frame no more is sent. All threads are joined.
+/// Plays a plan as `play_plain` does, with a thread for each slave (own profile, after ETG.1000.4, clause 5.4): rings lead from the
+/// calling thread through the slaves, in file order, and back. Ticks are sent ahead, so that up to 64 frames are under way, and each
+/// frame is judged as it comes back. After the first faulty frame no more is sent. All threads are joined.
 ///
 /// # Errors
 ///
@@ -98,6 +102,10 @@ pub fn play_threads<X: Pass + Send + Drop, R: Threads + Wait + Sync>(
     ensures cost { IfOk result (λ p. (places : List Place) → IsLayoutFor units.now places mapping.now →
         map (λ r. r.bytes) p.ticks ≡ map (tick_cost (plan_items (loads_of units.now.units) places) units.now.slots) (range_with_len 0 ticks)) }
 {
+    let Ok(places) = places_of(alloc) else {
+        return Err(PlayFault::OutOfMemory);
+    };
+    let places = places.as_slice();
     thread::scope(
         thread::scope_env(),
         rt,
@@ -106,6 +114,10 @@ pub fn play_threads<X: Pass + Send + Drop, R: Threads + Wait + Sync>(
             requires image { length image.now ≡ mapping.now.total }
             requires few { ticks ≤ 65536 }
             ensures answer { IsAnswer X.out X.next IsLack units.entry.now mapping.entry.now image.entry.now ticks slaves.items result }
-        { play_in(rt, scope, alloc, units, mapping, image, ticks, slaves) },
+        {
+            play_in(
+                rt, scope, alloc, places, units, mapping, image, ticks, slaves,
+            )
+        },
     )
 }

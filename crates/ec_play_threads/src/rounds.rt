@@ -1,6 +1,6 @@
-//! Frames are sent while earlier ones come back.
+//! Frames are sent as there is room for them, and taken and judged as they come back.
 
-ghost use Rattle.std.specs.Prelude.{◌≡◌, ◌⊎◌, ℕ, ◌+◌, ◌<◌, ◌≤◌, ◌^◌, List, ◌++◌, length, map, take, get_or, IfOk, OnOk, IfErr, None, vec_capacity};
+ghost use Rattle.std.specs.Prelude.{◌≡◌, ◌⊎◌, ℕ, ◌+◌, ◌<◌, ◌≤◌, ◌^◌, List, ◌++◌, length, map, take, get_or, IfOk, IfErr, None, vec_capacity};
 ghost use Rattle.arrayvec.specs.ArrayVec.{ArrayVec};
 ghost use Rattle.rtrb.specs.Ring.{sent as sent_by, received, SameProducer, SameConsumer};
 ghost use Rattle.ec_play.specs.Faults.{first_fault};
@@ -9,6 +9,7 @@ ghost use Rattle.ec_play.specs.Trips.{sent_in};
 ghost use Rattle.ec_play_threads.specs.Frames.{bytes_in};
 ghost use Rattle.ec_play_threads.specs.Rounds.{IsRound, IsStopped};
 
+use crate::seats::Seat;
 use ec_frames::Frame;
 use ec_play::{PlayFault, TickRow, Trip, bring, copy_of, judge_trip, row_of};
 use rtrb::{Consumer, Producer};
@@ -33,18 +34,28 @@ fn send_next(first: &mut Producer<Frame>, trips: &[Trip], count: usize) -> usize
     }
 }
 
-/// Sends all of these frames, as there is room for them.
-pub(crate) fn send_all<R: Wait>(rt: &R, first: &mut Producer<Frame>, trips: &[Trip])
+/// Lets the thread at a place and others run where nothing was sent.
+fn make_room(seat: Seat<'_>, moved: bool) {
+    if !moved {
+        seat.wake();
+        thread::yield_now();
+    }
+}
+
+/// Sends all of these frames, as there is room for them, to the thread at a place.
+pub(crate) fn send_all<R: Wait>(rt: &R, first: &mut Producer<Frame>, seat: Seat<'_>, trips: &[Trip])
     ensures ring { SameProducer first.old first.new }
     ensures sent { bytes_in (sent_by first.new) ≡ bytes_in (sent_by first.old) ++ bytes_of (map sent_in trips.now) }
 {
     let mut count = 0;
     for _ in rt.forever() {
+        let before = count;
         count = send_next(first, trips, count);
         if count == trips.len() {
+            seat.wake();
             return;
         }
-        thread::yield_now();
+        make_room(seat, count != before);
     }
     unreachable!()
 }
@@ -78,64 +89,64 @@ fn take_next(
     fault
 }
 
-/// Sends the frames of `next` while those of `due`, which were sent before, come back, each of which is judged as it comes; `from` is
-/// the number of the first that is due. Gives those that came back. After the first faulty one no more is sent.
-pub(crate) fn exchange<R: Wait>(
+/// Sleeps at a place where nothing came.
+fn rest<R: Wait>(rt: &R, own: Seat<'_>, moved: bool) {
+    if !moved {
+        own.wait(rt);
+    }
+}
+
+/// Takes the frames that are due as they come back, each of which is judged as it comes; `from` is the number of the first. Gives
+/// those that came back. After the first faulty one no more is taken.
+pub(crate) fn take_all<R: Wait>(
     rt: &R,
     alloc: Global,
-    first: &mut Producer<Frame>,
     last: &mut Consumer<Frame>,
+    own: Seat<'_>,
     due: &[Trip],
-    next: &[Trip],
     from: u32,
 ) -> Result<Vec<Frame>, PlayFault>
     requires number { from + length due.now < 2 ^ 32 }
-    ensures rings { SameProducer first.old first.new × SameConsumer last.old last.new }
-    ensures went { OnOk result (bytes_in (sent_by first.new) ≡ bytes_in (sent_by first.old) ++ bytes_of (map sent_in next.now)) }
+    ensures ring { SameConsumer last.old last.new }
     ensures came { IfOk result (λ v. received last.new ≡ received last.old ++ v.items) }
     ensures many { IfOk result (λ v. length v.items ≡ length due.now) }
     ensures right { IfOk result (λ v. first_fault from (map sent_in due.now) (bytes_in v.items) ≡ None) }
-    ensures fault { IfErr result (λ f. IsMemory f ⊎ IsStopped from (map sent_in due.now) (bytes_in (sent_by first.old)) (bytes_in (sent_by first.new))
-        (bytes_in (received last.old)) (bytes_in (received last.new)) f) }
+    ensures fault { IfErr result (λ f. IsMemory f ⊎ IsStopped from (map sent_in due.now) (bytes_in (received last.old)) (bytes_in (received last.new)) f) }
 {
     let Ok(mut backs) = Vec::with_capacity(alloc, due.len()) else {
         return Err(PlayFault::OutOfMemory);
     };
-    let mut count = 0;
     for _ in rt.forever() {
-        count = send_next(first, next, count);
+        let before = backs.len();
         if let Some(fault) = take_next(last, due, from, &mut backs) {
             return Err(fault);
         }
-        if count == next.len() && backs.len() == due.len() {
+        if backs.len() == due.len() {
             return Ok(backs);
         }
-        thread::yield_now();
+        rest(rt, own, backs.len() != before);
     }
     unreachable!()
 }
 
-/// Sends the frames of a tick while those of the one before it come back, and tells of these; notes in `came` the inputs that come.
+/// Takes the frames of a tick as they come back, and tells of them; notes in `came` the inputs that come.
 pub(crate) fn play_tick<R: Wait>(
     rt: &R,
     alloc: Global,
-    first: &mut Producer<Frame>,
     last: &mut Consumer<Frame>,
+    own: Seat<'_>,
     due: &[Trip],
-    next: &[Trip],
     from: u32,
     came: &mut [u8],
 ) -> Result<TickRow, PlayFault>
     requires few { length due.now ≤ 8 }
     requires number { from + length due.now < 2 ^ 32 }
-    ensures rings { SameProducer first.old first.new × SameConsumer last.old last.new }
+    ensures ring { SameConsumer last.old last.new }
     ensures len { length came.new ≡ length came.old }
-    ensures went { OnOk result (bytes_in (sent_by first.new) ≡ bytes_in (sent_by first.old) ++ bytes_of (map sent_in next.now)) }
     ensures round { IfOk result (IsRound from (map sent_in due.now) (bytes_in (received last.old)) (bytes_in (received last.new)) came.old came.new) }
-    ensures fault { IfErr result (λ f. IsMemory f ⊎ IsStopped from (map sent_in due.now) (bytes_in (sent_by first.old)) (bytes_in (sent_by first.new))
-        (bytes_in (received last.old)) (bytes_in (received last.new)) f) }
+    ensures fault { IfErr result (λ f. IsMemory f ⊎ IsStopped from (map sent_in due.now) (bytes_in (received last.old)) (bytes_in (received last.new)) f) }
 {
-    let backs = match exchange(rt, alloc, first, last, due, next, from) {
+    let backs = match take_all(rt, alloc, last, own, due, from) {
         Ok(backs) => backs,
         Err(fault) => return Err(fault),
     };

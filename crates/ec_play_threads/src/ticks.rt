@@ -6,40 +6,20 @@ ghost use Rattle.ec_player.specs.Frames.{HasLayout};
 ghost use Rattle.ec_slave.specs.Journey.{journey};
 ghost use Rattle.ec_play.specs.Sent.{start_sents, all_sents};
 ghost use Rattle.ec_play.specs.Lines.{bytes_of, came_back, AreRight, IsMemory};
-ghost use Rattle.ec_play.specs.Trips.{sent_in};
 ghost use Rattle.ec_play_threads.specs.Frames.{bytes_in, IsFront};
-ghost use Rattle.ec_play_threads.specs.Rounds.{due_sents, ArePlayed, IsLinePlayed, IsFirstFault};
+ghost use Rattle.ec_play_threads.specs.Rounds.{ArePlayed, IsLinePlayed, IsFirstFault};
 
-use crate::rounds::{exchange, play_tick, send_all};
+use crate::ahead::Ahead;
+use crate::rounds::{play_tick, send_all, take_all};
+use crate::seats::Seat;
 use ec_fmmu::Mapping;
 use ec_frames::Frame;
-use ec_play::{PlayFault, Rows, TickRow, Trip, image_of, start_trips, tick_trips};
+use ec_play::{PlayFault, Rows, TickRow, image_of, start_trips};
 use ec_slave::Pass;
 use ec_units::Units;
 use rtrb::{Consumer, Producer};
 use std::alloc::{AllocError, Global};
 use std::sync::Wait;
-
-/// The frames of a tick, by slot, if it is below `ticks`.
-fn due_trips(
-    alloc: Global,
-    units: &Units,
-    mapping: &Mapping,
-    image: &[u8],
-    tick: u32,
-    ticks: u32,
-) -> Result<Vec<Trip>, AllocError>
-    requires layout { HasLayout units.now mapping.now }
-    requires image { length image.now ≡ mapping.now.total }
-    ensures sents { IfOk result (λ v. map sent_in v.items ≡ due_sents units.now mapping.now image.now ticks tick) }
-    ensures few { IfOk result (λ v. length v.items ≤ 8) }
-{
-    if tick < ticks {
-        tick_trips(alloc, units, mapping, image, tick)
-    } else {
-        Ok(Vec::new(alloc))
-    }
-}
 
 /// As many zeros.
 fn zeros(alloc: Global, count: usize) -> Result<Vec<u8>, AllocError>
@@ -55,26 +35,25 @@ struct Ticks {
     came: Vec<u8>,
 }
 
-/// Plays the ticks below `ticks`. The start frames came back, of which there are `start`, and `due` are the frames of tick 0, which
-/// are under way.
+/// Plays the ticks below `ticks`. The start frames came back, of which there are `start`.
 fn play_ticks<X: Pass, R: Wait>(
     rt: &R,
     alloc: Global,
     first: &mut Producer<Frame>,
     last: &mut Consumer<Frame>,
+    seat: Seat<'_>,
+    own: Seat<'_>,
     units: &Units,
     mapping: &Mapping,
     image: &[u8],
     ticks: u32,
-    due: Vec<Trip>,
     start: u32,
 ) -> Result<Ticks, PlayFault>
     requires layout { HasLayout units.now mapping.now }
     requires image { length image.now ≡ mapping.now.total }
-    requires few { (ticks ≤ 65536) × (length due.items ≤ 8) }
+    requires few { ticks ≤ 65536 }
     requires start { (start ≤ 769) × (start ≡ length (start_sents units.now mapping.now)) }
-    requires due { map sent_in due.items ≡ due_sents units.now mapping.now image.now ticks 0 }
-    requires went { bytes_in (sent_by first.old) ≡ bytes_of (start_sents units.now mapping.now) ++ bytes_of (due_sents units.now mapping.now image.now ticks 0) }
+    requires went { bytes_in (sent_by first.old) ≡ bytes_of (start_sents units.now mapping.now) }
     requires came { length (received last.old) ≡ start }
     requires begun { (slaves : List X) → bytes_in (received last.old) ≡ came_back X.out X.next slaves (start_sents units.now mapping.now) → AreRight X.out X.next slaves 0 (start_sents units.now mapping.now) }
     ensures rings { SameProducer first.old first.new × SameConsumer last.old last.new }
@@ -90,19 +69,21 @@ fn play_ticks<X: Pass, R: Wait>(
         return Err(PlayFault::OutOfMemory);
     };
     let mut rows = Vec::new(alloc);
-    let mut due = due;
+    let mut ahead = Ahead::new(alloc, start);
     let mut number = start;
     for tick in 0..ticks {
-        let Ok(next) = due_trips(alloc, units, mapping, image, tick + 1, ticks) else {
+        let Ok(()) = ahead.send(rt, alloc, first, seat, units, mapping, image, ticks, number) else {
             return Err(PlayFault::OutOfMemory);
+        };
+        let Some(due) = ahead.trips.pop_front() else {
+            unreachable!()
         };
         let row = match play_tick(
             rt,
             alloc,
-            first,
             last,
+            own,
             due.as_slice(),
-            next.as_slice(),
             number,
             came.as_mut_slice(),
         ) {
@@ -110,7 +91,6 @@ fn play_ticks<X: Pass, R: Wait>(
             Err(fault) => return Err(fault),
         };
         number += row.frames;
-        due = next;
         let Ok(()) = rows.push(row) else {
             return Err(PlayFault::OutOfMemory);
         };
@@ -132,6 +112,8 @@ pub(crate) fn play_line<X: Pass, R: Wait>(
     alloc: Global,
     first: &mut Producer<Frame>,
     last: &mut Consumer<Frame>,
+    seat: Seat<'_>,
+    own: Seat<'_>,
     units: &Units,
     mapping: &Mapping,
     image: &[u8],
@@ -152,17 +134,14 @@ pub(crate) fn play_line<X: Pass, R: Wait>(
     let Ok(starts) = start_trips(alloc, units, mapping) else {
         return Err(PlayFault::OutOfMemory);
     };
-    let Ok(due) = due_trips(alloc, units, mapping, image, 0, ticks) else {
-        return Err(PlayFault::OutOfMemory);
-    };
-    send_all(rt, first, starts.as_slice());
-    match exchange(rt, alloc, first, last, starts.as_slice(), due.as_slice(), 0) {
+    send_all(rt, first, seat, starts.as_slice());
+    match take_all(rt, alloc, last, own, starts.as_slice(), 0) {
         Ok(_) => {}
         Err(fault) => return Err(fault),
     }
     let start = starts.len() as u32;
     let played = play_ticks::<X, R>(
-        rt, alloc, first, last, units, mapping, image, ticks, due, start,
+        rt, alloc, first, last, seat, own, units, mapping, image, ticks, start,
     );
     let Ticks { rows, came } = match played {
         Ok(played) => played,

@@ -1,7 +1,9 @@
 pub mod Requests
 pub mod Access
 pub mod Fmmus
+pub mod Stretches
 pub mod Logical
 pub mod Step
+pub mod Idle
 pub mod Examples
 pub mod Journey

@@ -1,5 +1,5 @@
 -- Logical commands: each byte afterwards is said through the mapped bytes that the datagram meets. FMMU 1 counts before FMMU 0.
-use Rattle.std.specs.Prelude.{ℕ, ◌+◌, ◌-◌, ◌&&◌, nat_lt, nat_le, Bool, if◌then◌else◌, List, length, map, get_or, slice_set, Option, Some, None, is_some}
+use Rattle.std.specs.Prelude.{ℕ, ◌+◌, ◌-◌, ◌&&◌, nat_lt, nat_le, Bool, if◌then◌else◌, List, length, map, get_or, Option, Some, None, is_some}
 use Rattle.std.specs.List.{range_with_len, list_any}
 use Rattle.ec_slave.specs.declared.fmmu.Fmmu.{Fmmu}
 use Rattle.ec_slave.specs.declared.fmmu.Fmmus.{Fmmus}
@@ -42,11 +42,6 @@ unfoldable pub written_to : Fmmus → List ℕ → ℕ → List ℕ → List ℕ
 written_to fs memory address bytes =
     map (λ m. byte_at (first_of (sent_to fs.second (length memory) address (length bytes) m) (sent_to fs.first (length memory) address (length bytes) m)) bytes (get_or memory m 0))
     (range_with_len 0 (length memory))
-
--- a list with a byte put at a place, if there is a place
-abbrev pub set_at : Option ℕ → ℕ → List ℕ → List ℕ
-set_at None b list = list
-set_at (Some k) b list = slice_set list k b
 
 -- at least one of n bytes from an address on meets the map
 unfoldable pub meets : Fmmus → ℕ → Direction → ℕ → ℕ → Bool

@@ -1,7 +1,7 @@
 //! The FMMUs of a slave.
 
-ghost use Rattle.std.specs.Prelude.{◌≡◌, ◌+◌, ◌≤◌, ◌<◌, length, ◌^◌};
-ghost use Rattle.ec_slave.specs.Fmmus.{fmmu_at, fmmus_in, has, place_of};
+ghost use Rattle.std.specs.Prelude.{◌≡◌, ◌+◌, ◌≤◌, length};
+ghost use Rattle.ec_slave.specs.Fmmus.{fmmu_at, fmmus_in, has};
 
 use byteorder::{ByteOrder, LittleEndian};
 
@@ -63,28 +63,12 @@ pub(crate) fn fmmus_in(memory: &[u8]) -> Fmmus
 }
 
 impl Fmmu {
-    fn has(self, direction: Direction) -> bool
+    pub(crate) fn has(self, direction: Direction) -> bool
         ensures { result ≡ has self direction }
     {
         match direction {
             Direction::Reads => self.reads,
             Direction::Writes => self.writes,
-        }
-    }
-
-    /// The byte of a memory of `size` bytes to which a logical byte is mapped, if it is.
-    pub(crate) fn place_of(self, size: usize, direction: Direction, byte: u64) -> Option<usize>
-        ensures { result ≡ place_of self size direction byte }
-    {
-        let logical = u64::from(self.logical);
-        if !self.has(direction) || byte < logical || logical + u64::from(self.len) <= byte {
-            return None;
-        }
-        let place = usize::from(self.physical) + (byte - logical) as usize;
-        if byte <= 0xFFFF_FFFF && place < size {
-            Some(place)
-        } else {
-            None
         }
     }
 }

@@ -6,10 +6,12 @@ mod access;
 mod bytes;
 mod datagram;
 mod fmmu;
+mod idle;
 mod laws;
 mod logical;
 mod request;
 mod slave;
+mod stretch;
 
 pub use fmmu::{Direction, Fmmu, Fmmus};
 pub use laws::{mapped_bytes, same_journey, what_passes};

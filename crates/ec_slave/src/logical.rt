@@ -1,86 +1,63 @@
 //! Logical commands, through the FMMUs.
 
-ghost use Rattle.std.specs.Prelude.{◌≡◌, ℕ, ◌+◌, ◌≤◌, ◌<◌, length, map, get_or, is_some, unwrap_or, if◌then◌else◌};
-ghost use Rattle.std.specs.List.{range_with_len};
+ghost use Rattle.std.specs.Prelude.{◌≡◌, ℕ, ◌+◌, ◌≤◌, ◌<◌, ◌&&◌, length, get_or, unwrap_or, if◌then◌else◌};
 ghost use Rattle.ec_slave.specs.declared.fmmu.Direction.{Direction};
 ghost use Rattle.ec_slave.specs.Fmmus.{place_of};
-ghost use Rattle.ec_slave.specs.Logical.{byte_at, met, read_from, set_at, sent_to, written_to, meets, mapped_gain, mapped, mapped_by};
+ghost use Rattle.ec_slave.specs.Logical.{byte_at, read_from, sent_to, written_to, meets, mapped_gain, mapped, mapped_by};
+ghost use Rattle.ec_slave.specs.Stretches.{maps};
 
+use crate::bytes::put;
 use crate::fmmu::{Direction, Fmmu, Fmmus, fmmus_in};
 use crate::request::Request;
 
-impl Fmmus {
-    /// The byte of a memory of `size` bytes that a logical byte meets, if it meets one.
-    fn met(self, size: usize, direction: Direction, byte: u64) -> Option<usize>
-        ensures { result ≡ met self size direction byte }
-    {
-        match self.second.place_of(size, direction, byte) {
-            Some(place) => Some(place),
-            None => self.first.place_of(size, direction, byte),
-        }
-    }
-
-    /// Whether at least one of so many bytes from an address on meets the map.
-    fn meets(self, size: usize, direction: Direction, address: u32, count: usize) -> bool
-        requires { count < 65536 }
-        ensures { result ≡ meets self size direction address count }
-    {
-        for k in 0..count {
-            if self
-                .met(size, direction, u64::from(address) + k as u64)
-                .is_some()
-            {
-                return true;
-            }
-        }
-        false
-    }
+/// Puts into the data each byte of the memory to which one FMMU maps its logical byte, and tells whether there is one.
+fn read_through(fmmu: Fmmu, field: &mut [u8], memory: &[u8], address: u32) -> bool
+    requires { length field.old < 65536 }
+    ensures field { (k : ℕ) → k < length field.old → get_or field.new k 0 ≡ byte_at (place_of fmmu (length memory.now) Direction.Reads (address + k)) memory.now (get_or field.old k 0) }
+    ensures met { result ≡ maps fmmu (length memory.now) Direction.Reads address (length field.old) }
+{
+    let stretch = fmmu.stretch(memory.len(), Direction::Reads, address, field.len());
+    let bytes = &memory[stretch.place..stretch.place + stretch.len];
+    put(field, stretch.from, bytes);
+    stretch.len != 0
 }
 
-/// Puts into the data each byte of the memory that its logical byte meets, else the byte that came.
-fn read_from(fmmus: Fmmus, field: &mut [u8], bytes: &[u8], memory: &[u8], address: u32)
+/// Puts into the data each byte of the memory that its logical byte meets, else the byte that came, and tells whether one meets
+/// the map.
+fn read_from(fmmus: Fmmus, field: &mut [u8], bytes: &[u8], memory: &[u8], address: u32) -> bool
     requires same { length field.old ≡ length bytes.now }
     requires short { length bytes.now < 65536 }
-    ensures { field.new ≡ read_from fmmus memory.now address bytes.now }
+    ensures field { field.new ≡ read_from fmmus memory.now address bytes.now }
+    ensures met { result ≡ meets fmmus (length memory.now) Direction.Reads address (length bytes.now) }
 {
-    for k in 0..field.len() {
-        field[k] = match fmmus.met(
-            memory.len(),
-            Direction::Reads,
-            u64::from(address) + k as u64,
-        ) {
-            Some(place) => memory[place],
-            None => bytes[k],
-        };
-    }
+    field.copy_from_slice(bytes);
+    let first = read_through(fmmus.first, field, memory, address);
+    let second = read_through(fmmus.second, field, memory, address);
+    first | second
 }
 
-/// Puts a byte into the memory where one FMMU maps its logical byte, if it does.
-fn write_byte(fmmu: Fmmu, memory: &mut [u8], logical: u64, byte: u8)
-    ensures { memory.new ≡ set_at (place_of fmmu (length memory.old) Direction.Writes logical) byte memory.old }
-{
-    if let Some(place) = fmmu.place_of(memory.len(), Direction::Writes, logical) {
-        memory[place] = byte;
-    }
-}
-
-/// Puts each byte that came into the memory where one FMMU maps its logical byte.
-fn write_through(fmmu: Fmmu, memory: &mut [u8], bytes: &[u8], address: u32)
+/// Puts each byte that came into the memory where one FMMU maps its logical byte, and tells whether there is one.
+fn write_through(fmmu: Fmmu, memory: &mut [u8], bytes: &[u8], address: u32) -> bool
     requires { length bytes.now < 65536 }
-    ensures { (m : ℕ) → get_or memory.new m 0 ≡ byte_at (sent_to fmmu (length memory.old) address (length bytes.now) m) bytes.now (get_or memory.old m 0) }
+    ensures memory { (m : ℕ) → get_or memory.new m 0 ≡ byte_at (sent_to fmmu (length memory.old) address (length bytes.now) m) bytes.now (get_or memory.old m 0) }
+    ensures met { result ≡ maps fmmu (length memory.old) Direction.Writes address (length bytes.now) }
 {
-    for (k, byte) in bytes.iter().enumerate() {
-        write_byte(fmmu, memory, u64::from(address) + k as u64, *byte);
-    }
+    let stretch = fmmu.stretch(memory.len(), Direction::Writes, address, bytes.len());
+    let sent = &bytes[stretch.from..stretch.from + stretch.len];
+    put(memory, stretch.place, sent);
+    stretch.len != 0
 }
 
-/// Puts each byte that came into the memory where the FMMUs map its logical byte, through FMMU 1 last.
-fn write_to(fmmus: Fmmus, memory: &mut [u8], bytes: &[u8], address: u32)
+/// Puts each byte that came into the memory where the FMMUs map its logical byte, through FMMU 1 last, and tells whether one
+/// meets the map.
+fn write_to(fmmus: Fmmus, memory: &mut [u8], bytes: &[u8], address: u32) -> bool
     requires { length bytes.now < 65536 }
-    ensures { memory.new ≡ written_to fmmus memory.old address bytes.now }
+    ensures memory { memory.new ≡ written_to fmmus memory.old address bytes.now }
+    ensures met { result ≡ meets fmmus (length memory.old) Direction.Writes address (length bytes.now) }
 {
-    write_through(fmmus.first, memory, bytes, address);
-    write_through(fmmus.second, memory, bytes, address);
+    let first = write_through(fmmus.first, memory, bytes, address);
+    let second = write_through(fmmus.second, memory, bytes, address);
+    first | second
 }
 
 /// What the working counter gains.
@@ -96,25 +73,36 @@ fn gain_of(request: Request, met_read: bool, met_write: bool) -> u16
     }
 }
 
-/// Puts a reply into the field, if one is asked for.
-fn reply(fmmus: Fmmus, field: &mut [u8], bytes: &[u8], memory: &[u8], address: u32, reads: bool)
+/// Puts a reply into the field, if one is asked for, and tells whether a byte is read.
+fn reply(
+    fmmus: Fmmus,
+    field: &mut [u8],
+    bytes: &[u8],
+    memory: &[u8],
+    address: u32,
+    reads: bool,
+) -> bool
     requires same { length field.old ≡ length bytes.now }
     requires short { length bytes.now < 65536 }
-    ensures { field.new ≡ (if reads then read_from fmmus memory.now address bytes.now else field.old) }
+    ensures field { field.new ≡ (if reads then read_from fmmus memory.now address bytes.now else field.old) }
+    ensures met { result ≡ (reads && meets fmmus (length memory.now) Direction.Reads address (length bytes.now)) }
 {
-    if reads {
-        read_from(fmmus, field, bytes, memory, address);
+    if !reads {
+        return false;
     }
+    read_from(fmmus, field, bytes, memory, address)
 }
 
-/// Puts the bytes that came into the memory, if a write is asked for.
-fn store(fmmus: Fmmus, memory: &mut [u8], bytes: &[u8], address: u32, writes: bool)
+/// Puts the bytes that came into the memory, if a write is asked for, and tells whether a byte is written.
+fn store(fmmus: Fmmus, memory: &mut [u8], bytes: &[u8], address: u32, writes: bool) -> bool
     requires { length bytes.now < 65536 }
-    ensures { memory.new ≡ (if writes then written_to fmmus memory.old address bytes.now else memory.old) }
+    ensures memory { memory.new ≡ (if writes then written_to fmmus memory.old address bytes.now else memory.old) }
+    ensures met { result ≡ (writes && meets fmmus (length memory.old) Direction.Writes address (length bytes.now)) }
 {
-    if writes {
-        write_to(fmmus, memory, bytes, address);
+    if !writes {
+        return false;
     }
+    write_to(fmmus, memory, bytes, address)
 }
 
 /// Does what a logical command asks, with the bytes that came, by the FMMUs that the memory holds: puts a reply into the data
@@ -134,9 +122,7 @@ pub(crate) fn access_logical(
     ensures gain { result ≡ (mapped request memory.old address bytes.now).gain }
 {
     let fmmus = fmmus_in(memory);
-    let met_read = fmmus.meets(memory.len(), Direction::Reads, address, bytes.len());
-    let met_write = fmmus.meets(memory.len(), Direction::Writes, address, bytes.len());
-    reply(fmmus, field, bytes, memory, address, request.reads);
-    store(fmmus, memory, bytes, address, request.writes);
-    gain_of(request, met_read, met_write)
+    let read = reply(fmmus, field, bytes, memory, address, request.reads);
+    let written = store(fmmus, memory, bytes, address, request.writes);
+    gain_of(request, read, written)
 }

@@ -6,6 +6,7 @@ ghost use Rattle.ec_frames.specs.declared.reading.FrameFault.{FrameFault};
 ghost use Rattle.ec_slave.specs.Step.{slave_step, memory_after, frame_after, datagrams_step};
 
 use crate::datagram::step_datagrams;
+use crate::idle::leaves;
 use ec_frames::{Frame, parse};
 use std::alloc::{AllocError, Global};
 use std::marker::Model;
@@ -84,9 +85,8 @@ impl SlaveBox {
         self.memory[usize::from(at)] = byte;
     }
 
-    /// Lets a frame pass (own profile, after ETG.1000.4, clauses 5.3 and 5.4). One that doesn't parse stays as it is; else its
-    /// datagrams are done in order. No byte of the frame changes but positions, data and working counters.
-    pub fn step(&mut self, frame: &mut Frame)
+    /// Does the datagrams of a frame, over a copy of it.
+    fn act(&mut self, frame: &mut Frame)
         ensures memory { self.new ≡ memory_after self.old frame.old.items }
         ensures frame { frame.new.items ≡ frame_after self.old frame.old.items }
     {
@@ -94,6 +94,18 @@ impl SlaveBox {
         if let Ok(parsed) = parse(arriving.as_slice()) {
             step_datagrams(self.memory.as_mut_slice(), frame.as_mut_slice(), &parsed);
         }
+    }
+
+    /// Lets a frame pass (own profile, after ETG.1000.4, clauses 5.3 and 5.4). One that doesn't parse stays as it is; else its
+    /// datagrams are done in order. No byte of the frame changes but positions, data and working counters.
+    pub fn step(&mut self, frame: &mut Frame)
+        ensures memory { self.new ≡ memory_after self.old frame.old.items }
+        ensures frame { frame.new.items ≡ frame_after self.old frame.old.items }
+    {
+        if leaves(self.memory.as_slice(), frame.as_slice()) {
+            return;
+        }
+        self.act(frame);
     }
 }
 

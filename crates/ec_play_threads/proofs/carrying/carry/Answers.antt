@@ -7,17 +7,17 @@ use Rattle.ec_play_threads.proofs.LinkLemmas.{map-push}
 use Rattle.ec_play_threads.proofs.PassLemmas.{outs-push, final-push}
 use Rattle.ec_play_threads.proofs.carrying.carry.Goals as goal
 
-pub loop-preserved-in-Ok : goal.loop-preserved-in-Ok
-loop-preserved-in-Ok g c =
+pub loop-preserved : goal.loop-preserved
+loop-preserved g c =
     let i = c.loop.invariant in
     let out = g.X.Pass.out in
     let next = g.X.Pass.next in
     let s = c.args.slave in
     let was = received c.loop.taken in
-    let x = c.in-Ok.frame in
+    let x = c.pop_known-frame.result in
     let items : ArrayVec ℕ → List ℕ = λ f. f.items in
-    let more : bytes_in (received c.pop.new.self) ≡ bytes_in was ++ x.items ∷ [] =
-    ap bytes_in (c.in-Ok.ensures.ok.0 ∙ ap (λ l. l ++ x ∷ []) c.is_abandoned-gone.ensures.1) ∙ map-push items was x in
+    let more : bytes_in (received c.pop_known-frame.new.self) ≡ bytes_in was ++ x.items ∷ [] =
+    ap bytes_in (c.pop_known-frame.ensures.received.0 ∙ ap (λ l. l ++ x ∷ []) (c.is_empty.ensures.looked.1 ∙ c.is_abandoned-gone.ensures.1)) ∙ map-push items was x in
     let put : bytes_in (sent c.put_waiting.new.producer) ≡ bytes_in (sent c.loop.put) ++ c.pass.new.frame.items ∷ [] =
     ap bytes_in c.put_waiting.ensures.sent ∙ map-push items (sent c.loop.put) c.pass.new.frame in
     let o = outs-push out next s (bytes_in was) x.items in

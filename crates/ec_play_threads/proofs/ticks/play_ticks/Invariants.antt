@@ -1,23 +1,20 @@
-use Rattle.std.proofs.Common.{◌≡◌, ℕ, ◌+◌, ◌*◌, ◌≤◌, List, ◌++◌, length, map}
+use Rattle.std.proofs.Common.{◌≡◌, ◌+◌, ◌*◌, ◌≤◌, List, ◌++◌, length}
 use Rattle.rtrb.specs.Ring.{sent, received, SameProducer, SameConsumer}
 use Rattle.ec_play.specs.Sent.{start_sents, ticks_sents}
-use Rattle.ec_play.specs.Lines.{bytes_of, came_back}
-use Rattle.ec_play.specs.Trips.{sent_in}
+use Rattle.ec_play.specs.Lines.{came_back}
 use Rattle.ec_play_threads.specs.Frames.{bytes_in}
-use Rattle.ec_play_threads.specs.Rounds.{due_sents, ArePlayed}
+use Rattle.ec_play_threads.specs.Rounds.{ArePlayed}
+use Rattle.ec_play_threads.specs.Windows.{IsAhead}
 use Rattle.ec_play_threads.proofs.ticks.play_ticks.Given as goal
 
 abbrev pub invariant-loop-tick : goal.invariant-loop-tick
 invariant-loop-tick g l =
     let starts = start_sents l.units l.mapping in
     let ticks = ticks_sents l.units l.mapping l.image l.tick in
-    let own = due_sents l.units l.mapping l.image l.ticks l.tick in
     record {
       first : SameProducer l.fn.first l.first;
       last : SameConsumer l.fn.last l.last;
-      due : map sent_in l.due.items ≡ own;
-      few : length l.due.items ≤ 8;
-      went : bytes_in (sent l.first) ≡ bytes_of ((starts ++ ticks) ++ own);
+      ahead : IsAhead l.units l.mapping l.image l.ticks l.tick l.ahead (bytes_in (sent l.first));
       number : l.number ≡ length starts + length ticks;
       most : l.number ≤ 769 + 8 * l.tick;
       many : length (received l.last) ≡ l.number;

@@ -1,13 +1,12 @@
-use Rattle.std.proofs.Common.{◌+◌, get_or, refl, ◌∙◌}
+use Rattle.std.proofs.Common.{arith}
+use Rattle.std.specs.Prelude.{length}
 use Rattle.ec_slave.specs.declared.fmmu.Direction.TheVariants as direction
-use Rattle.ec_slave.specs.Fmmus.{place_of}
-use Rattle.ec_slave.specs.Logical.{set_at}
-use Rattle.ec_slave.proofs.WriteLemmas.{written_step}
+use Rattle.ec_slave.proofs.StretchLemmas.{maps_is}
+use Rattle.ec_slave.proofs.WriteLemmas.{written_part}
 use Rattle.ec_slave.proofs.logical.write_through.Goals as goal
 
-pub loop-k-preserved : goal.loop-k-preserved
-loop-k-preserved c =
-    let byte = get_or c.args.bytes.now c.loop-k.k 0 in
-    written_step c.args.fmmu c.args.address c.loop-k.k byte c.args.bytes.now c.args.memory.now c.loop-k.memory c.write_byte.new.memory _ refl c.loop-k.auto.memory refl
-    (c.write_byte.ensures ∙ (λ i. set_at (place_of c.args.fmmu (c.loop-k.auto.memory i) direction.Writes (c.from.ensures i + c.loop-k.k)) byte c.loop-k.memory))
-    c.loop-k.invariant
+pub returns-clause-memory : goal.returns-clause-memory
+returns-clause-memory c = written_part c.args.fmmu c.args.address c.stretch-stretch.result c.args.bytes.now c.args.memory.now c.put.new.list _ c.stretch-stretch.ensures (omega arith) c.put.ensures
+
+pub returns-clause-met : goal.returns-clause-met
+returns-clause-met c = maps_is c.args.fmmu (length c.args.memory.now) direction.Writes c.args.address (length c.args.bytes.now) c.stretch-stretch.result c.stretch-stretch.ensures

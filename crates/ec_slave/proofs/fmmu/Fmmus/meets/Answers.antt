@@ -1,17 +1,9 @@
-use Rattle.std.proofs.Common.{ℕ, ◌+◌, Option, sym, ap, ◌∙◌, arith}
-use Rattle.std.specs.Prelude.{is_some}
-use Rattle.ec_slave.specs.Logical.{met, meets}
-use Rattle.ec_slave.proofs.RangeLemmas.{any_at, any_none}
+use Rattle.std.proofs.Common.{refl}
+use Rattle.ec_slave.proofs.StretchLemmas.{maps_is, met_is}
 use Rattle.ec_slave.proofs.fmmu.Fmmus.meets.Goals as goal
 
-pub returns-then-is_some : goal.returns-then-is_some
-unfolding meets
-returns-then-is_some c =
-    sym (any_at (λ k. is_some (met c.args.self c.args.size c.args.direction (c.args.address + k))) c.args.count c.loop-k.k c.loop-k-test.true
-    (ap (λ a. is_some (met c.args.self c.args.size c.args.direction (a + c.loop-k.k))) (sym c.from.ensures)
-    ∙ ap (λ (o : Option ℕ). is_some o) (sym c.met.ensures) ∙ sym c.is_some.ensures ∙ c.if-is_some.true))
-
 pub returns : goal.returns
-unfolding meets
 returns c =
-    sym (any_none (λ k. is_some (met c.args.self c.args.size c.args.direction (c.args.address + k))) c.args.count (λ k h. c.loop-k.invariant k (omega arith)))
+    met_is c.args.self c.args.size c.args.size c.args.direction c.args.address c.args.count c.args.count _ _ refl refl
+    (maps_is c.args.self.first c.args.size c.args.direction c.args.address c.args.count _ c.stretch-first.ensures)
+    (maps_is c.args.self.second c.args.size c.args.direction c.args.address c.args.count _ c.stretch-second.ensures)

@@ -2,7 +2,7 @@ use Rattle.std.proofs.Common.{◌≡◌, List, ℕ, length, refl, ap, sym, ◌�
 use Rattle.ec_frames.specs.Reading.{Entry, ReadsAs}
 use Rattle.ec_slave.specs.Step.{datagrams_step}
 use Rattle.ec_slave.proofs.StepLemmas.{extent_fits, step_read, step_unread, rewritten}
-use Rattle.ec_slave.proofs.slave.SlaveBox.step.Goals as goal
+use Rattle.ec_slave.proofs.slave.SlaveBox.act.Goals as goal
 
 -- what is read of the copy is read of the frame
 moved : (copy frame : List ℕ) (ds : List Entry) → copy ≡ frame → ReadsAs copy ds → ReadsAs frame ds

@@ -1,20 +1,17 @@
 use Rattle.std.proofs.lemmas.Grind.{common_steps}
 use Rattle.std.proofs.Common.{rules, ◌++◌, length, map, refl, sym, ap, ◌∙◌, arith, append-nil}
-use Rattle.rtrb.specs.Ring.{sent, received}
+use Rattle.rtrb.specs.Ring.{received}
 use Rattle.ec_play.specs.Faults.{first_fault}
 use Rattle.ec_play.specs.Trips.{sent_in}
 use Rattle.ec_play_threads.specs.Frames.{bytes_in}
 use Rattle.ec_play_threads.proofs.FrontLemmas.{none_yet}
-use Rattle.ec_play_threads.proofs.rounds.exchange.Goals as goal
+use Rattle.ec_play_threads.proofs.rounds.take_all.Goals as goal
 
 pub loop-init : goal.loop-init
 loop-init g c =
     let none = c.in-Ok.ensures.items in
     record {
-      first = ((refl, refl, refl, refl), refl);
       last = ((refl, refl, refl, refl), refl);
-      some = omega arith;
-      went = sym (append-nil (bytes_in (sent c.args.first.now)));
       came = sym (append-nil (received c.args.last.now)) ∙ ap (λ w. received c.args.last.now ++ w) (sym none);
       few = omega (arith, ap length none);
       room = c.in-Ok.ensures.exact;

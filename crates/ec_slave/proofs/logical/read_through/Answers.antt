@@ -1,0 +1,12 @@
+use Rattle.std.proofs.Common.{arith}
+use Rattle.std.specs.Prelude.{length}
+use Rattle.ec_slave.specs.declared.fmmu.Direction.TheVariants as direction
+use Rattle.ec_slave.proofs.StretchLemmas.{maps_is}
+use Rattle.ec_slave.proofs.WriteLemmas.{read_part}
+use Rattle.ec_slave.proofs.logical.read_through.Goals as goal
+
+pub returns-clause-field : goal.returns-clause-field
+returns-clause-field c = read_part c.args.fmmu c.args.address c.stretch-stretch.result c.args.memory.now c.args.field.now c.put.new.list _ c.stretch-stretch.ensures (omega arith) c.put.ensures
+
+pub returns-clause-met : goal.returns-clause-met
+returns-clause-met c = maps_is c.args.fmmu (length c.args.memory.now) direction.Reads c.args.address (length c.args.field.now) c.stretch-stretch.result c.stretch-stretch.ensures
