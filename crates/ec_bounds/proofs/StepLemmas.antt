@@ -1,9 +1,10 @@
 -- Steps of the loops over classes, units and periods that are left, and what their results say.
-use Rattle.std.proofs.Common.{◌≡◌, ℕ, zero, suc, ◌+◌, ◌-◌, ◌*◌, ◌/◌, ◌%◌, ◌<◌, ◌≤◌, ◌==◌, ◌||◌, max, Bool, true, false, cond, is_none, List, [], ◌∷◌, ◌++◌, length, map, take, drop, set, get_or, filter, count_by, All, Option, Some, None, refl, sym, ap, ◌∙◌, subst, arith, inl, inr, add-one, drop-cons, drop_of_length-le, append_assoc, append-nil, mod-eq_of_lt}
+use Rattle.std.proofs.Common.{◌≡◌, ℕ, zero, suc, ◌+◌, ◌-◌, ◌*◌, ◌/◌, ◌%◌, ◌<◌, ◌≤◌, ◌==◌, ◌||◌, max, Bool, true, false, cond, is_none, List, [], ◌∷◌, ◌++◌, length, map, take, drop, set, get_or, filter, count_by, All, Option, Some, None, refl, sym, ap, ◌∙◌, subst, arith, inl, inr, add-one, drop-cons, drop_of_length-le, append_assoc, append-nil, mod-eq_of_lt, ◌≢◌, ◌&&◌}
+use Rattle.std.proofs.Math.Bool.{or-false, or-true, and-false, or_assoc}
 use Rattle.std.specs.Prelude.{IsTrue, nat_lt, ◌↔◌}
 use Rattle.std.specs.List.{AllZip, list_any, range_with_len}
 use Rattle.std.proofs.lemmas.Bool.{cases_eq, cond-true, cond-false, eq-eqb, ne_eqb}
-use Rattle.std.proofs.lemmas.List.{take_more_set}
+use Rattle.std.proofs.lemmas.List.{take_more_set, get_or-set_same, get_or-set_other}
 use Rattle.std.proofs.lemmas.List.Elements.{All-nil, All-cons, All-filter}
 use Rattle.ec_hyper.specs.Lcm.{lcm_of}
 use Rattle.ec_units.specs.declared.slave.Place.{Place}
@@ -78,6 +79,38 @@ open_next ls ps p f i d e k m here kept = sym (sym kept ∙ open-at ls ps p f i 
 pub open_none : (ls : List Load) (ps : Prefix) (p f i : ℕ) → length ls ≤ i → is_open (items (drop i ls) (drop i ps)) p f ≡ is_open (items ls ps) p f → false ≡ is_open (items ls ps) p f
 open_none ls ps p f i past kept = sym (ap (λ w. is_open (items w (drop i ps)) p f) (drop_of_length-le ls past)) ∙ kept
 
+-- the table of open classes: a unit without a place, of another period, with a phase that the table doesn't have, and one that is noted
+pub placed_none : (b : Bool) → b ≡ (b || false)
+placed_none b = sym (or-false b)
+
+pub placed_other : (b c : Bool) (p q : ℕ) → p ≢ q → b ≡ (b || ((p == q) && c))
+placed_other b c p q other = placed_none b ∙ ap (λ w. b || (w && c)) (sym (ne_eqb p q other))
+
+pub placed_far : (b c : Bool) (f k : ℕ) → f ≢ k → b ≡ (b || (c && (f == k)))
+placed_far b c f k far = placed_none b ∙ ap (λ w. b || w) (sym (and-false c)) ∙ ap (λ w. b || (c && w)) (sym (ne_eqb f k far))
+
+pub placed_here : (bs : List Bool) (p q f k : ℕ) → p ≡ q → k < length bs → get_or (set bs k true) f false ≡ (get_or bs f false || ((p == q) && (f == k)))
+placed_here bs p q f k same room =
+    let c = p == q in
+    let is : c ≡ true = eq-eqb p q same in
+    elim (cases_eq f k) [
+      | inl on ↦
+          ap (λ j. get_or (set bs k true) j false) on ∙ get_or-set_same bs k true false room ∙ sym (or-true (get_or bs f false))
+          ∙ ap (λ w. get_or bs f false || w) (sym (ap (λ w. w && (f == k)) is ∙ eq-eqb f k on))
+      | inr off ↦ get_or-set_other bs k f true false off ∙ placed_far (get_or bs f false) c f k off
+    ]
+
+-- the loop over units: one more, and the end
+pub open_more : (ls : List Load) (ps : Prefix) (p f i : ℕ) (d : Load) (e : Option Place) (a b : Bool) → i < length ls → i < length ps → b ≡ (a || is_placed_in p f (get_or ls i d) (get_or ps i e)) →
+    (a || is_open (items (drop i ls) (drop i ps)) p f) ≡ is_open (items ls ps) p f → (b || is_open (items (drop (i + 1) ls) (drop (i + 1) ps)) p f) ≡ is_open (items ls ps) p f
+open_more ls ps p f i d e a b k m noted kept =
+    let rest = is_open (items (drop (i + 1) ls) (drop (i + 1) ps)) p f in
+    ap (λ w. w || rest) noted ∙ or_assoc a (is_placed_in p f (get_or ls i d) (get_or ps i e)) rest
+    ∙ ap (λ w. a || w) (sym (open-at ls ps p f i d e k m)) ∙ kept
+
+pub open_all : (ls : List Load) (ps : Prefix) (p f i : ℕ) (a : Bool) → length ls ≤ i → (a || is_open (items (drop i ls) (drop i ps)) p f) ≡ is_open (items ls ps) p f → a ≡ is_open (items ls ps) p f
+open_all ls ps p f i a past kept = placed_none a ∙ ap (λ w. a || is_open (items w (drop i ps)) p f) (sym (drop_of_length-le ls past)) ∙ kept
+
 -- the room of an open and of a closed class
 pub room_open : (u t k : ℕ) (b : Bool) → b ≡ true → k ≡ t → u - k ≡ u - (t + cond b 0 12)
 room_open u t k b opened is = let none : ◌≡◌ {A = ℕ} (cond b 0 12) 0 = cond-true b 0 12 opened in omega (arith, none, is)
@@ -126,6 +159,30 @@ count-iff loads n val ps p c b count over is some all left = (
       let above = subst (λ a. room_count (items loads ps) n (lcm_of (periods_of loads)) a p c < count_by (is_large p c) (unplaced loads ps)) same holds.3 in
       below_to 0 over (omega (arith, above, all, left)),
 )
+
+-- the table of periods: one that it has, and one that it doesn't
+pub noted_here : (bs : List Bool) (q p : ℕ) → q < length bs → get_or (set bs q true) p false ≡ (get_or bs p false || (q == p))
+noted_here bs q p room = elim (cases_eq p q) [
+  | inl on ↦
+      ap (λ j. get_or (set bs q true) j false) on ∙ get_or-set_same bs q true false room ∙ sym (or-true (get_or bs p false))
+      ∙ ap (λ w. get_or bs p false || w) (sym (eq-eqb q p (sym on)))
+  | inr off ↦
+      get_or-set_other bs q p true false off ∙ placed_none (get_or bs p false) ∙ ap (λ w. get_or bs p false || w) (sym (ne_eqb q p (λ same. off (sym same))))
+]
+
+pub noted_far : (b : Bool) (q p : ℕ) → p < 61 → 61 ≤ q → b ≡ (b || (q == p))
+noted_far b q p low far = placed_none b ∙ ap (λ w. b || w) (sym (ne_eqb q p (λ same. absurd (omega (arith, same)))))
+
+-- the loop over units whose periods are noted: one more, and the end
+pub seen_more : (ls : List Load) (p i : ℕ) (d : Load) (a b : Bool) → i < length ls → b ≡ (a || has_period p (get_or ls i d)) → (a || list_any (has_period p) (drop i ls)) ≡ list_any (has_period p) ls →
+    (b || list_any (has_period p) (drop (i + 1) ls)) ≡ list_any (has_period p) ls
+seen_more ls p i d a b k noted kept =
+    let rest = list_any (has_period p) (drop (i + 1) ls) in
+    let at : list_any (has_period p) (drop i ls) ≡ (has_period p (get_or ls i d) || rest) = rw (add-one, drop-cons ls i d k) refl in
+    ap (λ w. w || rest) noted ∙ or_assoc a (has_period p (get_or ls i d)) rest ∙ ap (λ w. a || w) (sym at) ∙ kept
+
+pub seen_all : (ls : List Load) (p i : ℕ) (a : Bool) → length ls ≤ i → (a || list_any (has_period p) (drop i ls)) ≡ list_any (has_period p) ls → a ≡ list_any (has_period p) ls
+seen_all ls p i a past kept = placed_none a ∙ ap (λ w. a || list_any (has_period p) w) (sym (drop_of_length-le ls past)) ∙ kept
 
 -- the loop that collects periods: one more number
 range-more : (test : ℕ → Bool) (k m : ℕ) → 61 - k ≡ suc m → filter test (range_with_len k (61 - k)) ≡ cond (test k) (k ∷ filter test (range_with_len (k + 1) (61 - (k + 1)))) (filter test (range_with_len (k + 1) (61 - (k + 1))))

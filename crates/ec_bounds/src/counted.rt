@@ -8,7 +8,7 @@ ghost use Rattle.ec_loads.specs.Rooms.{is_large as large, room_count, CountHolds
 ghost use Rattle.ec_bounds.specs.Left.{left_loads, IsRestOf};
 
 use crate::rest::{MOST_UNITS, Rest};
-use crate::rooms::room;
+use crate::rooms::{open_classes, room};
 use ec_loads::Loads;
 use ec_units::Load;
 
@@ -62,9 +62,10 @@ fn left_over(loads: &Loads, period: u16, bytes: u16, value: u64, count: u64) -> 
     requires { 0 < bytes }
     ensures { result ≡ count - room_count (items_of loads.now) loads.now.slots (lcm_of (periods_of loads.now.loads)) value period bytes }
 {
+    let opens = open_classes(loads, period);
     let mut left = count;
     for phase in 0..period {
-        left = left.saturating_sub(room(loads, period, phase, value) / u64::from(bytes));
+        left = left.saturating_sub(room(loads, &opens, period, phase, value) / u64::from(bytes));
     }
     left
 }

@@ -1,6 +1,6 @@
 //! The bound by new groups: each costs 12 bytes in its ticks.
 
-ghost use Rattle.std.specs.Prelude.{◌≡◌, ◌+◌, ◌-◌, ◌*◌, ◌/◌, ◌<◌, ◌≤◌, ◌↔◌, IsTrue, All, length, take};
+ghost use Rattle.std.specs.Prelude.{◌≡◌, ℕ, ◌||◌, false, get_or, ◌+◌, ◌-◌, ◌*◌, ◌/◌, ◌<◌, ◌≤◌, ◌↔◌, IsTrue, All, length, take};
 ghost use Rattle.std.specs.List.{AllZip, list_any};
 ghost use Rattle.ec_hyper.specs.Lcm.{lcm_of};
 ghost use Rattle.ec_units.specs.Load.{periods_of};
@@ -10,18 +10,41 @@ ghost use Rattle.ec_bounds.specs.Left.{IsRestOf};
 
 use crate::counted::{NO_UNITS, fill_left};
 use crate::rest::Rest;
-use crate::rooms::room_beside;
+use crate::rooms::{open_classes, room_beside};
 use ec_loads::{GROUP_BYTES, Loads, Pair};
 use ec_units::Load;
 
 /// The most different periods.
 const MOST_PERIODS: usize = 60;
 
-/// Whether one of the units has this period, in ticks.
-fn has_period(left: &[Load], period: u16) -> bool
-    ensures { result ≡ list_any (of_period period) left.now }
+/// Notes the period of a unit.
+fn note_period(seen: &mut [bool; MOST_PERIODS + 1], load: Load)
+    ensures { (p : ℕ) → p < 61 → get_or seen.new p false ≡ (get_or seen.old p false || of_period p load) }
 {
-    left.iter().any(|load| load.period == period)
+    let period = usize::from(load.period);
+    if period <= MOST_PERIODS {
+        seen[period] = true;
+    }
+}
+
+/// Which periods, in ticks, the units have.
+fn periods_seen(left: &[Load]) -> [bool; MOST_PERIODS + 1]
+    ensures { (p : ℕ) → p < 61 → get_or result p false ≡ list_any (of_period p) left.now }
+{
+    let mut seen = [false; MOST_PERIODS + 1];
+    for i in 0..left.len() {
+        note_period(&mut seen, left[i]);
+    }
+    seen
+}
+
+/// Whether one of the units has this period, in ticks, of which a table tells it.
+fn has_period(_left: &[Load], seen: &[bool; MOST_PERIODS + 1], period: u16) -> bool
+    requires below { period < 61 }
+    requires seen { (p : ℕ) → p < 61 → get_or seen.now p false ≡ list_any (of_period p) _left.now }
+    ensures { result ≡ list_any (of_period period) _left.now }
+{
+    seen[usize::from(period)]
 }
 
 /// Writes the different periods of units into a table, in ascending order, and says how many.
@@ -30,9 +53,10 @@ fn fill_periods(left: &[Load], table: &mut [u16; MOST_PERIODS]) -> usize
     ensures few { result ≤ 60 }
     ensures positive { All (λ p. 1 ≤ p) (take result table.new) }
 {
+    let seen = periods_seen(left);
     let mut count = 0usize;
     for period in 1..61u16 {
-        if has_period(left, period) {
+        if has_period(left, &seen, period) {
             table[count] = period;
             count += 1;
         }
@@ -59,9 +83,10 @@ fn left_over(loads: &Loads, period: u16, pair: Pair, value: u64, bytes: u64) -> 
     requires { 1 ≤ pair.count }
     ensures { result ≡ bytes - room_below (items_of loads.now) loads.now.slots (lcm_of (periods_of loads.now.loads)) value period pair }
 {
+    let opens = open_classes(loads, period);
     let mut left = bytes.saturating_sub(u64::from(pair.count - 1) * u64::from(pair.room));
     for phase in 0..period {
-        left = left.saturating_sub(room_beside(loads, period, phase, pair.room, value));
+        left = left.saturating_sub(room_beside(loads, &opens, period, phase, pair.room, value));
     }
     left
 }

@@ -162,7 +162,7 @@ pub among_more :
     (line : Line) (floor : ℕ) (ps : Prefix) (later : List ℕ) (done : List Place) (from before now : State) (level : Level) (p : Place) (places : List Place) (t : Tree) (v : Vec Tree Global) →
     IsAmong line floor ps later done from before level → level.places ≡ p ∷ places → IsExplored line floor (set ps level.unit (Some p)) later before now (shape_of t) →
     v.items ≡ level.trees.items ++ t ∷ [] → vec_capacity v ≡ vec_capacity level.trees →
-    IsAmong line floor ps later (done ++ p ∷ []) from now (record { unit = level.unit; places = places; trees = v; room = level.room })
+    IsAmong line floor ps later (done ++ p ∷ []) from now (record { unit = level.unit; places = places; trees = v; room = level.room; above = level.above })
 among_more line floor ps later done from before now level p places t v among steps explored pushed room =
     let under = under_more line floor ps level.unit later done p from before now level.trees.items t among.under explored in
     let longer = ap length pushed ∙ length-append level.trees.items (t ∷ []) in
@@ -375,12 +375,12 @@ length-last (y ∷ xs) x = let rest = length-last xs x in omega (arith, rest)
 pub paused_next :
     (rules : Rules) (task : Task) (ls ls2 : Vec Level Global) (held held2 : Held) (left left2 : Left) (now asked : State) (level : Level) (p : Place) (places : List Place) →
     IsPaused rules task ls held left now level → IsAsked task.floor now asked → level.places ≡ p ∷ places →
-    ls2.items ≡ ls.items ++ record { unit = level.unit; places = places; trees = level.trees; room = level.room } ∷ [] → vec_capacity ls2 ≡ vec_capacity ls →
+    ls2.items ≡ ls.items ++ record { unit = level.unit; places = places; trees = level.trees; room = level.room; above = level.above } ∷ [] → vec_capacity ls2 ≡ vec_capacity ls →
     held2 ≡ with_place held level.unit (Some p) → left2 ≡ with_flag left level.unit false →
     IsOn rules task ls2 held2 left2 asked Enter
 paused_next rules task ls ls2 held held2 left left2 now asked level p places paused entered steps pushed same made flagged =
     let u = level.unit in
-    let level2 : Level = record { unit = level.unit; places = places; trees = level.trees; room = level.room } in
+    let level2 : Level = record { unit = level.unit; places = places; trees = level.trees; room = level.room; above = level.above } in
     let kids : paused.done ++ p ∷ places ≡ children task.line held.places u = ap (λ w. paused.done ++ w) (sym steps) ∙ paused.kids in
     let range = children-In task.line held.places u p (subst (In p) kids (In-mid paused.done p places)) in
     let at : held2.places ≡ set held.places u (Some p) = ap (λ (h : Held). h.places) made in
@@ -436,7 +436,7 @@ pub on_rise :
     IsOn rules task ls held left now (Up tree) → ls.items ≡ ls2.items ++ level ∷ [] → vec_capacity ls2 ≡ vec_capacity ls →
     held2 ≡ with_place held level.unit None → left2 ≡ with_flag left level.unit true →
     v.items ≡ level.trees.items ++ tree ∷ [] → vec_capacity v ≡ vec_capacity level.trees →
-    IsPaused rules task ls2 held2 left2 now (record { unit = level.unit; places = level.places; trees = v; room = level.room })
+    IsPaused rules task ls2 held2 left2 now (record { unit = level.unit; places = level.places; trees = v; room = level.room; above = level.above })
 on_rise rules task ls ls2 held held2 left left2 now tree level v on popped same made flagged trees_are room_is =
     let u = level.unit in
     let stack : IsStack task (level ∷ reverse ls2.items) held.places on.later on.from = subst (λ w. IsStack task w held.places on.later on.from) (ap reverse popped ∙ reverse-push ls2.items level) on.stack in

@@ -75,7 +75,7 @@ pub record IsAmong (line : Line) (floor : ℕ) (ps : Prefix) (later : List ℕ) 
 -- after some more children: this one is the next, and the guide was asked for it; or none is to be explored
 abbrev pub IsPassed : Line → ℕ → Prefix → List ℕ → State → State → Level → Option Place → Type 0
 IsPassed line floor ps later from now level (Some p) =
-    (done : List Place) × (before : State) × IsAsked floor before now × IsAmong line floor ps later done from before (record { unit = level.unit; places = p ∷ level.places; trees = level.trees; room = level.room })
+    (done : List Place) × (before : State) × IsAsked floor before now × IsAmong line floor ps later done from before (record { unit = level.unit; places = p ∷ level.places; trees = level.trees; room = level.room; above = level.above })
 IsPassed line floor ps later from now level None = (done : List Place) × IsAmong line floor ps later done from now level × ((length level.places ≡ 0) ⊎ IsSpent now)
 
 -- what became of a node

@@ -12,6 +12,7 @@ ghost use Rattle.ec_branch.specs.Walks.{IsClosing};
 
 use crate::leaf::{leaf_of, raised_leaf};
 use crate::strong_leaf::{is_merged, strong_leaf};
+use crate::tops::Tops;
 use ec_bounds::Rest;
 use ec_cert::Tree;
 use ec_loads::Loads;
@@ -20,7 +21,7 @@ use ec_units::Place;
 use std::alloc::{AllocError, Global};
 
 /// The leaf that closes the places so far at a value, by these rules; none where the places are to be split or are a
-/// better plan. The order names the units without a place.
+/// better plan. The order names the units without a place; the tops are theirs. A unit is above slot 0 only where `above` says so.
 pub(crate) fn leaf_by(
     alloc: Global,
     loads: &Loads,
@@ -28,6 +29,8 @@ pub(crate) fn leaf_by(
     order: &[u8],
     value: Option<u64>,
     rules: Rules,
+    above: bool,
+    tops: &mut Tops,
 ) -> Result<Option<Tree>, AllocError>
     requires { IsRestOf rest.now loads.now }
     ensures { IfOk result (λ leaf. MatchOption leaf
@@ -37,7 +40,7 @@ pub(crate) fn leaf_by(
     match rules {
         Rules::Plain => leaf_of(alloc, loads, rest, value),
         Rules::Turned => leaf_of(alloc, loads, rest, value),
-        Rules::Strong => strong_leaf(alloc, loads, rest, order, value),
+        Rules::Strong => strong_leaf(alloc, loads, rest, order, value, above, tops),
     }
 }
 
@@ -50,6 +53,7 @@ pub(crate) fn raised_by(
     place: Place,
     value: Option<u64>,
     rules: Rules,
+    above: bool,
 ) -> Option<Tree>
     requires free { slice_get loads.now.places unit ≡ Some None }
     requires phase { place.phase < (get_or loads.now.loads unit nobody).period }
@@ -60,7 +64,7 @@ pub(crate) fn raised_by(
         Rules::Plain => raised_leaf(loads, unit, place, value),
         Rules::Turned => raised_leaf(loads, unit, place, value),
         Rules::Strong => {
-            if is_merged(loads, place, value) {
+            if is_merged(loads, place, value, above) {
                 return Some(Tree::Merge);
             }
             raised_leaf(loads, unit, place, value)

@@ -1,121 +1,101 @@
-//! The rooms of the classes of a period, in a table. The class of a phase is the ticks in which what has this period and
-//! phase travels; it is open where a unit has them.
+//! The rooms of the classes of a period, in a table.
 
-ghost use Rattle.std.specs.Prelude.{◌<◌, ◌≤◌};
+ghost use Rattle.std.specs.Prelude.{◌+◌, ◌≤◌, length};
 
+use crate::needs::Size;
+use crate::tops::Class;
 use crate::waiting::MOST_TICKS;
-use ec_loads::{GROUP_BYTES, Loads};
 
-/// What a frame costs beside its groups, without padding, in bytes.
-const FRAME_BYTES: u64 = 40;
+/// A limit in bytes at which every unit has room.
+pub(crate) const MOST_LIMIT: u32 = 100_000;
 
 /// What the classes of a period have room for, in bytes: the open ones, the closed ones, and how many of these have
 /// room.
 #[derive(Clone, Copy, Debug)]
 pub(crate) struct Rooms {
-    pub open: u64,
-    pub closed: u64,
-    pub count: u64,
+    pub open: u32,
+    pub closed: u32,
+    pub count: u32,
 }
 
-/// Writes for each phase of a period into a table the greatest of 40 bytes and of what the ticks of its class cost
-/// without padding.
-fn fill_tops(loads: &Loads, period: u16, tops: &mut [u64; MOST_TICKS])
-    requires least { 1 ≤ period }
-    requires most { period ≤ 60 }
+/// The room of a class below a limit.
+fn room_of(class: Class, limit: u32) -> u32
+    ensures { result ≤ limit }
 {
-    let mut phase = 0u16;
-    for tick in 0..loads.ticks() {
-        let at = usize::from(phase);
-        tops[at] = tops[at].max(loads.raw(tick));
-        phase += 1;
-        if phase == period {
-            phase = 0;
-        }
-    }
-}
-
-/// Notes for each phase of a period whether its class is open.
-fn mark_open(loads: &Loads, period: u16, opens: &mut [bool; MOST_TICKS]) {
-    let all = loads.loads();
-    let places = loads.places();
-    for i in 0..all.len() {
-        if all[i].period == period {
-            if let Some(place) = places[i] {
-                let phase = usize::from(place.phase);
-                if phase < MOST_TICKS {
-                    opens[phase] = true;
-                }
-            }
-        }
-    }
-}
-
-/// The room of a class with this top, below a limit.
-fn room_of(top: u64, is_open: bool, limit: u64) -> u64 {
-    let room = limit.saturating_sub(top);
-    if is_open {
-        return room;
-    }
-    room.saturating_sub(u64::from(GROUP_BYTES))
+    limit.saturating_sub(u32::from(class.top) + u32::from(class.head))
 }
 
 /// With the room of one more class.
-fn with_room(rooms: Rooms, room: u64, is_open: bool) -> Rooms {
-    if is_open {
+fn with_room(rooms: Rooms, room: u32, class: Class) -> Rooms
+    requires open { rooms.open ≤ 10000000 }
+    requires closed { rooms.closed ≤ 10000000 }
+    requires count { rooms.count ≤ 10000000 }
+    requires room { room ≤ 100000 }
+    ensures open { result.open ≤ rooms.open + 100000 }
+    ensures closed { result.closed ≤ rooms.closed + 100000 }
+    ensures count { result.count ≤ rooms.count + 1 }
+{
+    if class.head == 0 {
         return Rooms {
-            open: rooms.open.saturating_add(room),
+            open: rooms.open + room,
             closed: rooms.closed,
             count: rooms.count,
         };
     }
     Rooms {
         open: rooms.open,
-        closed: rooms.closed.saturating_add(room),
-        count: rooms.count.saturating_add(room.min(1)),
+        closed: rooms.closed + room,
+        count: rooms.count + room.min(1),
     }
 }
 
-/// Writes the room of each class of a period below a limit into a table, and whether it is open into another one. Both
-/// tables are empty before.
-pub(crate) fn fill_rooms(
-    loads: &Loads,
-    period: u16,
-    limit: u64,
-    rooms: &mut [u64; MOST_TICKS],
-    opens: &mut [bool; MOST_TICKS],
-) -> Rooms
-    requires least { 1 ≤ period }
-    requires most { period ≤ 60 }
+/// Writes the room of each of these classes below a limit into a table.
+pub(crate) fn fill_rooms(row: &[Class], limit: u32, rooms: &mut [u32; MOST_TICKS]) -> Rooms
+    requires few { length row.now ≤ 60 }
+    requires limit { limit ≤ 100000 }
+    ensures open { result.open ≤ 6000000 }
+    ensures closed { result.closed ≤ 6000000 }
+    ensures count { result.count ≤ 60 }
 {
-    fill_tops(loads, period, rooms);
-    mark_open(loads, period, opens);
     let mut sums = Rooms {
         open: 0,
         closed: 0,
         count: 0,
     };
-    for i in 0..usize::from(period) {
-        let room = room_of(rooms[i].max(FRAME_BYTES), opens[i], limit);
+    for i in 0..row.len() {
+        let class = row[i];
+        let room = room_of(class, limit);
         rooms[i] = room;
-        sums = with_room(sums, room, opens[i]);
+        sums = with_room(sums, room, class);
     }
     sums
 }
 
-/// Whether so many units of so many bytes are more than have room in these classes.
-pub(crate) fn is_crowded(rooms: &[u64], all: Rooms, bytes: u16, count: u64) -> bool
-    requires { 1 ≤ bytes }
+/// How many units of a size have room in these classes.
+fn room_count(rooms: &[u32], size: Size) -> u64 {
+    let mut count = 0u64;
+    for room in rooms {
+        count = count.wrapping_add(u64::from(*room) * u64::from(size.inverse) >> 31);
+    }
+    count
+}
+
+/// Whether so many units of so many bytes are more than have room in these classes. Each quotient loses less than 1, so
+/// that not all need to be made.
+pub(crate) fn is_crowded(rooms: &[u32], all: Rooms, size: Size) -> bool
+    requires few { length rooms.now ≤ 60 }
+    requires open { all.open ≤ 6000000 }
+    requires closed { all.closed ≤ 6000000 }
 {
-    let bytes = u64::from(bytes);
-    let wanted = count.saturating_mul(bytes);
-    let lost = (bytes - 1).saturating_mul(rooms.len() as u64);
-    if wanted.saturating_add(lost) <= all.open.saturating_add(all.closed) {
+    let bytes = u32::from(size.bytes.max(1));
+    let wanted = size.count.saturating_mul(bytes);
+    let whole = all.open + all.closed;
+    if wanted > whole {
+        return true;
+    }
+    let lost = (bytes - 1) * rooms.len() as u32;
+    if wanted.saturating_add(lost) <= whole {
         return false;
     }
-    let mut left = count;
-    for room in rooms {
-        left = left.saturating_sub(*room / bytes);
-    }
-    left > 0
+    u64::from(size.count) > room_count(rooms, size)
 }

@@ -14,6 +14,7 @@ ghost use Rattle.ec_branch.specs.Walks.{IsReadyFor};
 
 use crate::back::take_back;
 use crate::guide::Guide;
+use crate::tops::Tops;
 use crate::value::Search;
 use crate::walk::walk;
 use ec_bounds::Rest;
@@ -92,7 +93,17 @@ pub fn explore_in<G: Guide>(
         left: grant,
     };
     let later = &order[prefix.len()..];
-    let walked = walk(alloc, loads, rest, later, rules, guide, &mut search);
+    let mut tops = Tops::none(alloc);
+    let walked = walk(
+        alloc,
+        loads,
+        rest,
+        later,
+        rules,
+        guide,
+        &mut search,
+        &mut tops,
+    );
     remove_all(loads, rest, order, prefix);
     let tree = walked?;
     Ok(Subtree {

@@ -19,13 +19,15 @@ use ec_symmetry::{Children, Rules};
 use ec_units::Place;
 
 /// A split that is under way: its unit, the places of its children that aren't explored yet, the trees of those that
-/// are, with room for all, and where these lie in the end, so that no memory is asked for then.
+/// are, with room for all, and where these lie in the end, so that no memory is asked for then; and, by the strong rules,
+/// whether a unit has a place above slot 0 in it.
 #[derive(Drop)]
 pub(crate) struct Level {
     pub unit: usize,
     pub places: Children,
     pub trees: Vec<Tree>,
     pub room: Box<Vec<Tree>>,
+    pub above: bool,
 }
 
 /// What comes next: the node at the places so far, or, with the tree below them, the split above.
@@ -80,7 +82,8 @@ fn close_next<G: Guide>(
             level.trees.push_reserved(Tree::OpenLeaf);
             return None;
         }
-        let Some(leaf) = raised_by(loads, level.unit, place, search.value, rules) else {
+        let Some(leaf) = raised_by(loads, level.unit, place, search.value, rules, level.above)
+        else {
             return Some(place);
         };
         search.left -= 1;

@@ -13,6 +13,7 @@ use crate::guide::Guide;
 use crate::leaf::top_of;
 use crate::level::Level;
 use crate::plan::whole;
+use crate::tops::Tops;
 use crate::value::Search;
 use ec_bounds::Rest;
 use ec_cert::Tree;
@@ -39,6 +40,8 @@ pub(crate) fn enter<G: Guide>(
     rules: Rules,
     guide: &mut G,
     search: &mut Search,
+    above: bool,
+    tops: &mut Tops,
 ) -> Result<Entered, AllocError>
     requires ready { IsReadyFor loads.now.loads loads.now.slots loads.now.places order.now }
     requires left { IsRestOf rest.now loads.now }
@@ -50,7 +53,7 @@ pub(crate) fn enter<G: Guide>(
     ensures entered { IfOk result (λ node. (from : State) → IsAsked (G.frame guide.old).floor from (state_of search.old (G.halted guide.old) (G.known guide.old)) →
         IsEntered (line_of (line_rules rules) loads.now) (G.frame guide.old).floor loads.now.places order.now from (state_of search.new (G.halted guide.new) (G.known guide.new)) node) }
 {
-    if let Some(leaf) = leaf_by(alloc, loads, rest, order, search.value, rules)? {
+    if let Some(leaf) = leaf_by(alloc, loads, rest, order, search.value, rules, above, tops)? {
         search.left -= 1;
         return Ok(Entered::Leaf(leaf));
     }
@@ -78,6 +81,7 @@ pub(crate) fn enter<G: Guide>(
                 places,
                 trees,
                 room,
+                above,
             }))
         }
     }

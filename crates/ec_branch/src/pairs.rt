@@ -4,43 +4,36 @@ ghost use Rattle.std.specs.Prelude.{◌≡◌, ◌<◌, ◌≤◌, IfOk, All, le
 ghost use Rattle.ec_loads.specs.Search.{IsShortPair};
 
 use crate::classes::{Rooms, fill_rooms};
-use crate::waiting::{MOST_TICKS, period_end, period_of};
-use ec_loads::{GROUP_BYTES, Loads, Pair};
-use ec_units::Load;
+use crate::needs::Need;
+use crate::tops::{Class, Tops};
+use crate::waiting::{MOST_TICKS, MOST_UNITS};
+use ec_loads::Pair;
 use std::alloc::{AllocError, Global};
 
 /// The greatest room of a pair in bytes.
-const MOST_ROOM: u64 = 12_304;
+const MOST_ROOM: u32 = 12_304;
 
-/// The bytes of these units.
-pub(crate) fn bytes_in(group: &[Load]) -> u64 {
-    let mut bytes = 0u64;
-    for load in group {
-        bytes = bytes.saturating_add(u64::from(load.bytes));
-    }
-    bytes
-}
-
-/// The bytes of a hyperperiod that the new groups of these units, all of one period, cost at most, and more than any
-/// value allows where the units have no room.
-pub(crate) fn most_group_bytes(loads: &Loads, period: u16, group: &[Load], rooms: Rooms) -> u64
-    requires { 1 ≤ period }
+/// The bytes of a hyperperiod that the new groups of a period cost at most, and more than any value allows where its
+/// units have no room.
+pub(crate) fn most_group_bytes(need: Need, rooms: Rooms) -> u64
+    requires open { rooms.open ≤ 6000000 }
+    requires closed { rooms.closed ≤ 6000000 }
 {
-    if rooms.open.saturating_add(rooms.closed) < bytes_in(group) {
+    if rooms.open + rooms.closed < need.bytes {
         return u64::MAX;
     }
-    let times = u64::from(GROUP_BYTES).saturating_mul(u64::from(loads.ticks() / u32::from(period)));
-    times.saturating_mul(rooms.count)
+    u64::from(need.group).saturating_mul(u64::from(rooms.count))
 }
 
 /// Where the greatest of these rooms is, of the closed classes.
-fn greatest(rooms: &[u64; MOST_TICKS], opens: &[bool; MOST_TICKS]) -> usize
+fn greatest(row: &[Class], rooms: &[u32; MOST_TICKS]) -> usize
+    requires { length row.now ≤ 60 }
     ensures { result < 60 }
 {
     let mut at = 0usize;
-    let mut most = 0u64;
-    for i in 0..MOST_TICKS {
-        if !opens[i] && rooms[i] > most {
+    let mut most = 0u32;
+    for i in 0..row.len() {
+        if row[i].head != 0 && rooms[i] > most {
             most = rooms[i];
             at = i;
         }
@@ -49,63 +42,66 @@ fn greatest(rooms: &[u64; MOST_TICKS], opens: &[bool; MOST_TICKS]) -> usize
 }
 
 /// The pair by which so many bytes, more than the open classes have room for, need the greatest of the closed ones.
-fn needed(rooms: &mut [u64; MOST_TICKS], opens: &[bool; MOST_TICKS], bytes: u64) -> Pair
+fn needed(row: &[Class], rooms: &mut [u32; MOST_TICKS], bytes: u32) -> Pair
+    requires { length row.now ≤ 60 }
     ensures { IsShortPair result }
 {
     let mut left = bytes;
     let mut pair = Pair { count: 0, room: 0 };
     for count in 0..60u16 {
-        if left > 0 {
-            let at = greatest(rooms, opens);
-            let room = rooms[at];
-            rooms[at] = 0;
-            left = left.saturating_sub(room);
-            pair = Pair {
-                count: count + 1,
-                room: room.min(MOST_ROOM) as u16,
-            };
+        if left == 0 {
+            return pair;
         }
+        let at = greatest(row, rooms);
+        let room = rooms[at];
+        rooms[at] = 0;
+        left = left.saturating_sub(room);
+        pair = Pair {
+            count: count + 1,
+            room: room.min(MOST_ROOM) as u16,
+        };
     }
     pair
 }
 
-/// How many new groups these units, all of one period, need below a limit: none where the open classes have room for
-/// them, else as many as there are greatest closed classes that then have it, with the least room of these; at most
-/// 65,535 where all classes together don't suffice.
-fn pair_of(loads: &Loads, group: &[Load], limit: u64) -> Pair
-    requires { 0 < length group.now }
+/// How many new groups the units of a need, whose classes these are, want below a limit: none where the open classes have
+/// room for them, else as many as there are greatest closed classes that then have it, with the least room of these; at
+/// most 65,535 where all classes together don't suffice.
+fn pair_of(row: &[Class], bytes: u32, limit: u32) -> Pair
+    requires few { length row.now ≤ 60 }
+    requires limit { limit ≤ 100000 }
     ensures { IsShortPair result }
 {
-    let period = period_of(group[0]);
-    let mut rooms = [0u64; MOST_TICKS];
-    let mut opens = [false; MOST_TICKS];
-    let all = fill_rooms(loads, period, limit, &mut rooms, &mut opens);
-    let bytes = bytes_in(group);
-    if all.open.saturating_add(all.closed) < bytes {
+    let mut rooms = [0u32; MOST_TICKS];
+    let all = fill_rooms(row, limit, &mut rooms);
+    if all.open + all.closed < bytes {
         return Pair {
             count: 65_535,
             room: 0,
         };
     }
-    needed(&mut rooms, &opens, bytes.saturating_sub(all.open))
+    needed(row, &mut rooms, bytes.saturating_sub(all.open))
 }
 
-/// For each period of these units, which stand by ascending period, how many new groups they need below a limit.
+/// For each period of the units that are left, so many, how many new groups they need below a limit.
 pub(crate) fn pairs_of(
     alloc: Global,
-    loads: &Loads,
-    left: &[Load],
-    limit: u64,
+    tops: &Tops,
+    left: usize,
+    limit: u32,
 ) -> Result<Vec<Pair>, AllocError>
-    ensures few { IfOk result (λ pairs. length pairs.items ≤ length left.now) }
+    requires limit { limit ≤ 100000 }
+    ensures few { IfOk result (λ pairs. length pairs.items ≤ 48) }
     ensures short { IfOk result (λ pairs. All IsShortPair pairs.items) }
 {
-    let mut pairs = Vec::new(alloc);
-    let mut start = 0usize;
-    while start < left.len() {
-        let end = period_end(left, start);
-        pairs.push(pair_of(loads, &left[start..end], limit))?;
-        start = end;
+    let (first, end) = tops.needs().range(left);
+    let mut pairs = Vec::with_capacity(alloc, end.saturating_sub(first))?;
+    for number in first..end {
+        if let Some(need) = tops.needs().need(number) {
+            if pairs.len() < MOST_UNITS {
+                pairs.push(pair_of(tops.row(need, left), need.bytes, limit))?;
+            }
+        }
     }
     Ok(pairs)
 }

@@ -10,21 +10,24 @@ ghost use Rattle.ec_bounds.specs.Left.{IsRestOf};
 ghost use Rattle.ec_cert.specs.Shapes.{shape_of};
 ghost use Rattle.ec_branch.specs.Walks.{IsClosing};
 
-use crate::classes::{fill_rooms, is_crowded};
+use crate::classes::{MOST_LIMIT, Rooms, fill_rooms, is_crowded};
 use crate::leaf::costly_leaf;
+use crate::needs::{Need, Needs, Size, period_in};
 use crate::pairs::{most_group_bytes, pairs_of};
-use crate::waiting::{MOST_TICKS, NO_UNITS, bytes_of, fill_waiting, period_end, period_of};
+use crate::tops::{Class, Tops};
+use crate::waiting::MOST_TICKS;
 use ec_bounds::{Rest, count_bound, groups_bound, merge_bound};
 use ec_cert::{Pairs, Tree};
 use ec_loads::Loads;
-use ec_units::{Load, Place};
+use ec_units::Place;
 use std::alloc::{AllocError, Global};
 
 /// The greatest value in bytes at which two slots can be one.
 const MOST_MERGED: u64 = 1579;
 
-/// Whether two slots can be one at a value where one more unit gets this place.
-pub(crate) fn is_merged(loads: &Loads, place: Place, value: Option<u64>) -> bool
+/// Whether two slots can be one at a value where one more unit gets this place. They are known not to be before, where no
+/// unit is `above` slot 0.
+pub(crate) fn is_merged(loads: &Loads, place: Place, value: Option<u64>, above: bool) -> bool
     ensures { IsTrue result → (unit : ℕ) → slice_get loads.now.places unit ≡ Some None → MergeHolds value (slice_set loads.now.places unit (Some place)) }
 {
     let Some(least) = value else {
@@ -36,66 +39,102 @@ pub(crate) fn is_merged(loads: &Loads, place: Place, value: Option<u64>) -> bool
     if place.slot > 0 {
         return true;
     }
-    merge_bound(loads, value)
+    above && merge_bound(loads, value)
 }
 
-/// Whether no unit of the same period and with as many bytes follows.
-fn is_last(group: &[Load], i: usize) -> bool
-    requires { i < length group.now }
+/// The bytes of a size.
+fn bytes_in(size: Size) -> u16
+    ensures least { 1 ≤ result }
+    ensures most { result ≤ 1486 }
 {
-    i + 1 >= group.len() || group[i + 1].bytes != group[i].bytes
+    size.bytes.clamp(1, 1486)
 }
 
-/// The leaf by counting units of one period, which stand by falling bytes, where it holds at the value: by the greatest
-/// bytes by which it does. The bytes of a hyperperiod that their new groups may cost are added to `most`.
-fn period_leaf(
+/// The leaf by counting units of a period, by these sizes of them and rooms of its classes, where it holds at the value:
+/// by the greatest bytes by which it does.
+fn sized_leaf(
     loads: &Loads,
     rest: &Rest,
-    group: &[Load],
+    need: Need,
+    sizes: &[Size],
+    rooms: &[u32],
+    all: Rooms,
     value: Option<u64>,
-    limit: u64,
-    most: &mut u64,
 ) -> Option<Tree>
-    requires some { 0 < length group.now }
+    requires few { length rooms.now ≤ 60 }
+    requires open { all.open ≤ 6000000 }
+    requires closed { all.closed ≤ 6000000 }
     requires left { IsRestOf rest.now loads.now }
     ensures { IfSome result (λ tree. IsClosing (line_of strong loads.now) value loads.now.places (shape_of tree)) }
 {
-    let period = period_of(group[0]);
-    let mut rooms = [0u64; MOST_TICKS];
-    let mut opens = [false; MOST_TICKS];
-    let all = fill_rooms(loads, period, limit, &mut rooms, &mut opens);
-    *most = most.saturating_add(most_group_bytes(loads, period, group, all));
-    for i in 0..group.len() {
-        let bytes = bytes_of(group[i]);
-        if is_last(group, i)
-            && is_crowded(&rooms[..usize::from(period)], all, bytes, i as u64 + 1)
-            && count_bound(loads, rest, period, bytes, value)
-        {
+    let period = period_in(need);
+    for size in sizes {
+        let bytes = bytes_in(*size);
+        if is_crowded(rooms, all, *size) && count_bound(loads, rest, period, bytes, value) {
             return Some(Tree::Count { period, bytes });
         }
     }
     None
 }
 
-/// The leaf by counting units where it holds at the value: by the least period by which it does.
+/// The leaf by counting units of a period, whose classes these are, where it holds at the value. The bytes of a
+/// hyperperiod that their new groups may cost are added to `most`.
+fn period_leaf(
+    loads: &Loads,
+    rest: &Rest,
+    needs: &Needs,
+    need: Need,
+    row: &[Class],
+    limit: u32,
+    value: Option<u64>,
+    most: &mut u64,
+) -> Option<Tree>
+    requires few { length row.now ≤ 60 }
+    requires limit { limit ≤ 100000 }
+    requires left { IsRestOf rest.now loads.now }
+    ensures { IfSome result (λ tree. IsClosing (line_of strong loads.now) value loads.now.places (shape_of tree)) }
+{
+    let mut rooms = [0u32; MOST_TICKS];
+    let all = fill_rooms(row, limit, &mut rooms);
+    *most = most.saturating_add(most_group_bytes(need, all));
+    let sizes = needs.sizes(need);
+    sized_leaf(loads, rest, need, sizes, &rooms[..row.len()], all, value)
+}
+
+/// The leaf by counting units where it holds at the value: by the least period by which it does. The classes of the
+/// periods up to there, or of all, are made where so many units are left.
 fn counted_leaf(
     loads: &Loads,
     rest: &Rest,
-    left: &[Load],
+    tops: &mut Tops,
+    left: usize,
+    limit: u32,
     value: Option<u64>,
-    limit: u64,
     most: &mut u64,
 ) -> Option<Tree>
-    requires { IsRestOf rest.now loads.now }
+    requires limit { limit ≤ 100000 }
+    requires left { IsRestOf rest.now loads.now }
     ensures { IfSome result (λ tree. IsClosing (line_of strong loads.now) value loads.now.places (shape_of tree)) }
 {
-    let mut start = 0usize;
-    while start < left.len() {
-        let end = period_end(left, start);
-        if let Some(leaf) = period_leaf(loads, rest, &left[start..end], value, limit, most) {
-            return Some(leaf);
+    let last = tops.last(loads, left);
+    let (first, end) = tops.needs().range(left);
+    for number in first..end {
+        if let Some(need) = tops.needs().need(number) {
+            tops.make(loads, need, left, last);
+            let row = tops.row(need, left);
+            if let Some(leaf) = period_leaf(
+                loads,
+                rest,
+                tops.needs(),
+                need,
+                row,
+                limit,
+                value,
+                most,
+            ) {
+                return Some(leaf);
+            }
         }
-        start = end;
     }
     None
 }
@@ -105,15 +144,16 @@ fn grouped_leaf(
     alloc: Global,
     loads: &Loads,
     rest: &Rest,
-    left: &[Load],
+    tops: &Tops,
+    left: usize,
+    limit: u32,
     value: Option<u64>,
-    limit: u64,
 ) -> Result<Option<Tree>, AllocError>
-    requires few { length left.now ≤ 48 }
+    requires limit { limit ≤ 100000 }
     requires left { IsRestOf rest.now loads.now }
     ensures { IfOk result (λ leaf. IfSome leaf (λ tree. IsClosing (line_of strong loads.now) value loads.now.places (shape_of tree))) }
 {
-    let pairs = pairs_of(alloc, loads, left, limit)?;
+    let pairs = pairs_of(alloc, tops, left, limit)?;
     if pairs.is_empty() {
         return Ok(None);
     }
@@ -124,55 +164,67 @@ fn grouped_leaf(
     Ok(None)
 }
 
+/// One byte less than a value, at most the limit at which every unit has room.
+fn limit_of(value: Option<u64>) -> u32
+    ensures { result ≤ 100000 }
+{
+    match value {
+        Some(value) => value.saturating_sub(1).min(u64::from(MOST_LIMIT)) as u32,
+        None => MOST_LIMIT,
+    }
+}
+
 /// The leaf by the room that is left, where one holds at the value: by counting units, else by new groups. The order
-/// names the units without a place.
+/// names the units without a place, and the tops are of these, once they are made, and of units that got their place.
 fn roomless_leaf(
     alloc: Global,
     loads: &Loads,
     rest: &Rest,
     order: &[u8],
     value: Option<u64>,
+    tops: &mut Tops,
 ) -> Result<Option<Tree>, AllocError>
     requires { IsRestOf rest.now loads.now }
     ensures { IfOk result (λ leaf. IfSome leaf (λ tree. IsClosing (line_of strong loads.now) value loads.now.places (shape_of tree))) }
 {
-    let Some(least) = value else {
-        return Ok(None);
-    };
-    let limit = least.saturating_sub(1);
-    let mut table = NO_UNITS;
-    let count = fill_waiting(loads, order, &mut table);
-    let left = &table[..count];
+    if tops.is_none() {
+        *tops = Tops::of(alloc, loads, order)?;
+    }
+    let left = order.len();
+    let limit = limit_of(value);
     let mut most = loads.raw_total() + rest.demand();
-    if let Some(leaf) = counted_leaf(loads, rest, left, value, limit, &mut most) {
+    if let Some(leaf) = counted_leaf(loads, rest, tops, left, limit, value, &mut most) {
         return Ok(Some(leaf));
     }
-    if most <= limit.saturating_mul(u64::from(loads.ticks())) {
+    if most <= u64::from(limit) * u64::from(loads.ticks()) {
         return Ok(None);
     }
-    grouped_leaf(alloc, loads, rest, left, value, limit)
+    grouped_leaf(alloc, loads, rest, tops, left, limit, value)
 }
 
 /// The leaf that closes the places so far at a value by the strong rules: two slots that can be one, else a payload that
 /// is too large, else a tick that costs at least the value, else units that don't find room, else new groups that cost
-/// too much; none where the places are to be split or are a better plan. The order names the units without a place.
+/// too much; none where the places are to be split or are a better plan. The order names the units without a place. No two
+/// slots can be one where no unit is `above` slot 0.
 pub(crate) fn strong_leaf(
     alloc: Global,
     loads: &Loads,
     rest: &Rest,
     order: &[u8],
     value: Option<u64>,
+    above: bool,
+    tops: &mut Tops,
 ) -> Result<Option<Tree>, AllocError>
     requires { IsRestOf rest.now loads.now }
     ensures { IfOk result (λ leaf. MatchOption leaf
         (Fits (items_of loads.now) loads.now.slots × ((t : ℕ) → ¬ (TickHolds loads.now.loads loads.now.slots value loads.now.places t)))
         (λ tree. IsClosing (line_of strong loads.now) value loads.now.places (shape_of tree))) }
 {
-    if merge_bound(loads, value) {
+    if above && merge_bound(loads, value) {
         return Ok(Some(Tree::Merge));
     }
     match costly_leaf(loads, value) {
-        None => roomless_leaf(alloc, loads, rest, order, value),
+        None => roomless_leaf(alloc, loads, rest, order, value, tops),
         Some(leaf) => Ok(Some(leaf)),
     }
 }

@@ -14,11 +14,13 @@ use crate::back::take_back;
 use crate::guide::Guide;
 use crate::level::{Level, Turn, next_child};
 use crate::node::{Entered, enter};
+use crate::tops::Tops;
 use crate::value::Search;
 use ec_bounds::Rest;
 use ec_cert::Tree;
 use ec_loads::Loads;
 use ec_symmetry::Rules;
+use ec_units::Place;
 use std::alloc::{AllocError, Global};
 
 /// What a step of the walk leads to.
@@ -40,6 +42,30 @@ fn undo(loads: &mut Loads, rest: &mut Rest, levels: &mut Vec<Level>)
     }
 }
 
+/// Whether it is a place above slot 0.
+fn is_above(place: &Option<Place>) -> bool {
+    match place {
+        Some(place) => place.slot > 0,
+        None => false,
+    }
+}
+
+/// Whether a unit has a place above slot 0 below the last split, by the strong rules: where it had so in the split, or
+/// the unit of the split has one.
+fn is_any_above(loads: &Loads, rules: Rules, levels: &[Level]) -> bool {
+    if rules != Rules::Strong {
+        return false;
+    }
+    let places = loads.places();
+    let Some(level) = levels.last() else {
+        return places.iter().any(|place| is_above(place));
+    };
+    match places.get(level.unit) {
+        Some(place) => level.above || is_above(place),
+        None => level.above,
+    }
+}
+
 /// One step of the walk: a node is closed or split, or its tree is added to the split above, which goes on with its
 /// next child or is closed itself. Where memory is refused, all stays as it was.
 fn step<G: Guide>(
@@ -51,6 +77,7 @@ fn step<G: Guide>(
     guide: &mut G,
     search: &mut Search,
     levels: &mut Vec<Level>,
+    tops: &mut Tops,
     turn: Turn,
 ) -> Result<Stepped, AllocError>
     requires on { (task : Task) × IsFor task order.now (G.frame guide.old) × IsOn (line_rules rules) task levels.old loads.old rest.old (state_of search.old (G.halted guide.old) (G.known guide.old)) turn }
@@ -73,6 +100,8 @@ fn step<G: Guide>(
             rules,
             guide,
             search,
+            is_any_above(loads, rules, levels.as_slice()),
+            tops,
         )? {
             Entered::Leaf(tree) => Ok(Stepped::On(Turn::Up(tree))),
             Entered::Split(level) => {
@@ -100,6 +129,7 @@ pub(crate) fn walk<G: Guide>(
     rules: Rules,
     guide: &mut G,
     search: &mut Search,
+    tops: &mut Tops,
 ) -> Result<Tree, AllocError>
     requires ready { IsReadyFor loads.old.loads loads.old.slots loads.old.places order.now }
     requires left { IsRestOf rest.old loads.old }
@@ -127,6 +157,7 @@ pub(crate) fn walk<G: Guide>(
             guide,
             search,
             &mut levels,
+            tops,
             turn,
         ) {
             Ok(Stepped::On(next)) => turn = next,

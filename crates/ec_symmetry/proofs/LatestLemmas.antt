@@ -1,7 +1,7 @@
 -- The loops over the units that have a place: the greatest place of an equal unit, and the periods.
-use Rattle.std.proofs.Common.{◌≡◌, ℕ, zero, suc, ◌+◌, ◌<◌, ◌≤◌, ◌⊎◌, ◌==◌, ◌&&◌, ◌||◌, nat_lt, not, Bool, true, false, List, [], ◌∷◌, ◌++◌, filter, length, take, set, get_or, Option, Some, None, is_some, All, refl, sym, ap, ◌∙◌, arith, inl, inr, add-one, append-nil, not-suc-le-zero, le_of_suc-le-suc, take_all}
+use Rattle.std.proofs.Common.{◌≡◌, ℕ, zero, suc, ◌+◌, ◌<◌, ◌≤◌, ◌⊎◌, ◌==◌, ◌&&◌, ◌||◌, nat_lt, not, Bool, true, false, List, [], ◌∷◌, ◌++◌, filter, length, take, set, get_or, Option, Some, None, is_some, All, refl, sym, ap, ◌∙◌, arith, inl, inr, add-one, append-nil, not-suc-le-zero, le_of_suc-le-suc, take_all, subst}
 use Prim.Native.Nat.{◌∣◌}
-use native.Mathlib.Nat.{le_of_dvd}
+use native.Mathlib.Nat.{le_of_dvd, dvd_refl}
 use Rattle.std.proofs.lemmas.Bool.{cases_eq, cases_lt, eqb-true, eq-eqb, ltb-true, lt-ltb, or_cases, or_left, or_right, and_parts, true≢false}
 use Rattle.std.proofs.lemmas.List.{take_more_set}
 use Rattle.std.proofs.lemmas.List.Elements.{All-head, All-tail, All-cons, All-nil}
@@ -12,9 +12,10 @@ use Rattle.ec_units.specs.declared.unit.Load.{Load}
 use Rattle.ec_units.specs.Load.{periods_of}
 use Rattle.ec_loads.specs.Held.{AreLoads}
 use Rattle.ec_loads.specs.Search.{Prefix}
-use Rattle.ec_loads.specs.Strong.{placed_periods, same_load, is_below, has_equal_above}
+use Rattle.ec_loads.specs.Strong.{placed_periods, strong_phases, same_load, is_below, has_equal_above}
 use Rattle.ec_loads.proofs.ItemLemmas.{positive_loads}
 use Rattle.ec_symmetry.specs.Latest.{IsLatest, IsLater}
+use Rattle.ec_symmetry.proofs.GcdLemmas.{gcd-only}
 use Rattle.ec_symmetry.proofs.ShiftRule.{placed-pos}
 
 -- two tests that hold together are one
@@ -212,6 +213,23 @@ placed-range (l ∷ ls) (Some p ∷ ps) all =
     let is = All-head (λ x. (1 ≤ x.period) × (x.period ≤ 60) × (x.bytes ≤ 1486)) l ls all in
     All-cons (λ p. (1 ≤ p) × (p ≤ 60)) l.period (placed_periods ls ps) (is.0, is.1)
     (placed-range ls ps (All-tail (λ x. (1 ≤ x.period) × (x.period ≤ 60) × (x.bytes ≤ 1486)) l ls all))
+
+-- what holds of each holds of the period of a unit that has a place
+placed_all : (P : ℕ → Type 0) (ls : List Load) (ps : Prefix) (i : ℕ) (d : Load) (e : Option Place) → i < length ls → i < length ps → is_some (get_or ps i e) ≡ true → All P (placed_periods ls ps) → P (get_or ls i d).period
+placed_all P [] ps i d e h k some all = absurd (omega (arith, h))
+placed_all P (l ∷ ls) [] i d e h k some all = absurd (omega (arith, k))
+placed_all P (l ∷ ls) (None ∷ ps) zero d e h k some all = absurd (true≢false (sym some))
+placed_all P (l ∷ ls) (Some q ∷ ps) zero d e h k some all = All-head P l.period (placed_periods ls ps) all
+placed_all P (l ∷ ls) (None ∷ ps) (suc i) d e h k some all = placed_all P ls ps i d e (omega (arith, h)) (omega (arith, k)) some all
+placed_all P (l ∷ ls) (Some q ∷ ps) (suc i) d e h k some all = placed_all P ls ps i d e (omega (arith, h)) (omega (arith, k)) some (All-tail P l.period (placed_periods ls ps) all)
+
+-- so each phase of such a period is tried
+pub phases_whole : (ls : List Load) (ps : Prefix) (i p : ℕ) (d : Load) (e : Option Place) → AreLoads ls → 1 ≤ p → i < length ls → i < length ps → is_some (get_or ps i e) ≡ true → (get_or ls i d).period ≡ p → strong_phases ls ps p ≡ p
+phases_whole ls ps i p d e all pos h k some same =
+    let m = lcm_of (placed_periods ls ps) in
+    let each : All (λ q. q ∣ m) (placed_periods ls ps) = (lcm_of-is (placed_periods ls ps) (placed-pos ls ps all)).multiple in
+    let whole : p ∣ m = subst (λ q. q ∣ m) same (placed_all (λ q. q ∣ m) ls ps i d e h k some each) in
+    gcd-only m p p pos (whole, dvd_refl p, λ n first second. second)
 
 -- the hyperperiod is a multiple of each
 placed-divide : (ls : List Load) (ps : Prefix) (h : ℕ) → All (λ p. p ∣ h) (periods_of ls) → All (λ p. p ∣ h) (placed_periods ls ps)

@@ -1,7 +1,7 @@
 //! The places that a unit can take by the strong rules: fewer than by slots alone, since a shift of time and equal units
 //! leave the others to these.
 
-ghost use Rattle.std.specs.Prelude.{◌≡◌, ℕ, ◌<◌, ◌≤◌, All, length, take, get_or};
+ghost use Rattle.std.specs.Prelude.{◌≡◌, ℕ, ◌<◌, ◌≤◌, IsTrue, All, length, take, get_or};
 ghost use Rattle.ec_hyper.specs.Lcm.{lcm_of};
 ghost use Rattle.ec_loads.specs.Held.{AreLoads};
 ghost use Rattle.ec_loads.specs.Line.{strong, line_of};
@@ -113,6 +113,23 @@ fn common_divisor(first: u32, second: u32) -> u32
     greater
 }
 
+/// Whether a unit of this period, in ticks, has a place among these; then each phase below the period is tried.
+fn is_period_placed(loads: &[Load], places: &[Option<Place>], period: u16) -> bool
+    requires each { length places.now ≡ length loads.now }
+    requires units { AreLoads loads.now }
+    requires period { 1 ≤ period }
+    ensures { IsTrue result → strong_phases loads.now places.now period ≡ period }
+{
+    for i in 0..loads.len() {
+        if loads[i].period == period {
+            if places[i].is_some() {
+                return true;
+            }
+        }
+    }
+    false
+}
+
 /// How many phases a unit of this period, in ticks, tries after these places: a shift of time leads from the others to
 /// these.
 fn phases_of(loads: &Loads, places: &[Option<Place>], period: u16) -> u16
@@ -120,6 +137,9 @@ fn phases_of(loads: &Loads, places: &[Option<Place>], period: u16) -> u16
     requires period { 1 ≤ period }
     ensures { result ≡ strong_phases loads.now.loads places.now period }
 {
+    if is_period_placed(loads.loads(), places, period) {
+        return period;
+    }
     common_divisor(ticks_so_far(loads, places), u32::from(period)) as u16
 }
 

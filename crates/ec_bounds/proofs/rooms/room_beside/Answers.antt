@@ -6,16 +6,16 @@ use Rattle.ec_loads.specs.Rooms.{is_open, room}
 use Rattle.std.proofs.lemmas.Bool.{cond-true, cond-false}
 use Rattle.ec_bounds.proofs.rooms.room_beside.Goals as goal
 
-pub returns-then-is_open : goal.returns-then-is_open
-returns-then-is_open c =
+pub returns-then-is_open_in : goal.returns-then-is_open_in
+returns-then-is_open_in c =
     let held = c.args.loads.now in
     let xs = items held.loads held.places in
     let all = room xs held.slots (lcm_of (periods_of held.loads)) c.args.value c.args.period c.args.phase in
-    c.room-all.ensures ∙ sym (cond-true (is_open xs c.args.period c.args.phase) all (all - c.args.bytes) (sym c.is_open.ensures ∙ c.if-is_open.true))
+    c.room-all.ensures ∙ sym (cond-true (is_open xs c.args.period c.args.phase) all (all - c.args.bytes) (sym c.is_open_in.ensures ∙ c.if-is_open_in.true))
 
 pub returns : goal.returns
 returns c =
     let held = c.args.loads.now in
     let xs = items held.loads held.places in
     let all = room xs held.slots (lcm_of (periods_of held.loads)) c.args.value c.args.period c.args.phase in
-    c.saturating_sub.ensures ∙ (λ i. c.room-all.ensures i - c.from.ensures i) ∙ sym (cond-false (is_open xs c.args.period c.args.phase) all (all - c.args.bytes) (sym c.is_open.ensures ∙ c.if-is_open.false))
+    c.saturating_sub.ensures ∙ (λ i. c.room-all.ensures i - c.from.ensures i) ∙ sym (cond-false (is_open xs c.args.period c.args.phase) all (all - c.args.bytes) (sym c.is_open_in.ensures ∙ c.if-is_open_in.false))

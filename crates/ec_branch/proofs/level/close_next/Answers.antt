@@ -50,7 +50,7 @@ returns-then-not-ask-clause-passed g c =
     let leaf = subst (IsExplored line floor (set ps u (Some p)) later old old) (sym shape_of-OpenLeaf) (open_explored line floor (set ps u (Some p)) later old refused.0) in
     let more = among_more line floor ps later at.0 from old old c.loop-place.level p c.next.new.self OpenLeaf c.push_reserved.new.self at.1 c.in-Some.ensures.steps leaf c.push_reserved.ensures.items c.push_reserved.ensures.capacity in (
       at.0 ++ p ∷ [],
-      subst (λ s. IsAmong line floor ps later (at.0 ++ p ∷ []) from s (record { unit = u; places = c.next.new.self; trees = c.push_reserved.new.self; room = c.loop-place.level.room })) (sym refused.1) more,
+      subst (λ s. IsAmong line floor ps later (at.0 ++ p ∷ []) from s (record { unit = u; places = c.next.new.self; trees = c.push_reserved.new.self; room = c.loop-place.level.room; above = c.loop-place.level.above })) (sym refused.1) more,
       inr (subst IsSpent (sym refused.1) refused.0),
     )
 
@@ -67,7 +67,7 @@ returns-in_default-raised_by-clause-passed g c =
       at.0,
       old,
       subst (λ f. IsAsked f old now) (ap (λ (f : Frame). f.floor) c.loop-place.invariant.frame) c.if-not-ask.ensures.asked,
-      subst (λ w. IsAmong line floor ps later at.0 from old (record { unit = level.unit; places = w; trees = level.trees; room = level.room })) c.in-Some.ensures.steps at.1,
+      subst (λ w. IsAmong line floor ps later at.0 from old (record { unit = level.unit; places = w; trees = level.trees; room = level.room; above = level.above })) c.in-Some.ensures.steps at.1,
     )
 
 pub loop-place-preserved : goal.loop-place-preserved
@@ -108,6 +108,6 @@ returns-clause-passed g c =
     let at = c.loop-place.invariant.among later done from h in
     let none = c.in_default.ensures.steps in (
       at.0,
-      subst (λ w. IsAmong line floor ps later at.0 from now (record { unit = level.unit; places = w; trees = level.trees; room = level.room })) (none.0 ∙ sym none.1) at.1,
+      subst (λ w. IsAmong line floor ps later at.0 from now (record { unit = level.unit; places = w; trees = level.trees; room = level.room; above = level.above })) (none.0 ∙ sym none.1) at.1,
       inl (ap length none.1),
     )

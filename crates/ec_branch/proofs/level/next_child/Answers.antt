@@ -45,7 +45,7 @@ returns-in-Some-clause-on g c =
     let old = state_of c.args.search.now (g.G.Guide.halted c.args.guide.now) (g.G.Guide.known c.args.guide.now) in
     let now = state_of c.close_next.new.search (g.G.Guide.halted c.close_next.new.guide) (g.G.Guide.known c.close_next.new.guide) in
     let level = c.close_next.new.level in
-    let whole : Level = record { unit = level.unit; places = c.in-Some.place ∷ level.places; trees = level.trees; room = level.room } in
+    let whole : Level = record { unit = level.unit; places = c.in-Some.place ∷ level.places; trees = level.trees; room = level.room; above = level.above } in
     let passed = c.in-Some.ensures.passed paused.later paused.done paused.from (paused_among (line_rules c.args.rules) task c.args.levels.now c.args.loads.now c.args.rest.now old c.args.level floor paused floor_is) in
     paused_next (line_rules c.args.rules) task c.args.levels.now c.push_reserved.new.self c.args.loads.now c.place.new.self c.args.rest.now c.placed.new.self passed.1 now whole c.in-Some.place level.places
     (among_paused (line_rules c.args.rules) task c.args.levels.now c.args.loads.now c.args.rest.now old passed.1 c.args.level whole floor passed.0 paused floor_is c.close_next.ensures.unit passed.3)

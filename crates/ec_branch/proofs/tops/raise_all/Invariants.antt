@@ -1,9 +1,9 @@
 use Rattle.std.proofs.Common.{◌≡◌, ◌<◌, length}
-use Rattle.ec_branch.proofs.classes.fill_tops.Given as goal
+use Rattle.ec_branch.proofs.tops.raise_all.Given as goal
 
 abbrev pub invariant-loop-tick : goal.invariant-loop-tick
 invariant-loop-tick l =
     record {
-      below : l.phase < l.period;
-      table : length l.tops ≡ 60;
+      below : l.at < l.period;
+      row : length l.row ≡ l.period;
     }

@@ -1,0 +1,212 @@
+//! What the classes of periods cost, for each count of units that are left. The class of a phase is the ticks in which
+//! what has its period and this phase travels; it is open where a unit has them.
+
+ghost use Rattle.std.specs.Prelude.{◌≡◌, ◌<◌, ◌≤◌, length};
+
+use crate::needs::{Need, Needs, period_in};
+use crate::waiting::{MOST_TICKS, period_of};
+use ec_loads::{GROUP_BYTES, Loads};
+use ec_units::Load;
+use std::alloc::{AllocError, Global};
+
+/// What a frame costs beside its groups, without padding, in bytes.
+const FRAME_BYTES: u16 = 40;
+
+/// A class: the greatest of 40 bytes and of what its ticks cost without padding, and what its group costs, nothing where
+/// it is open.
+#[derive(Clone, Copy, Debug)]
+pub(crate) struct Class {
+    pub top: u16,
+    pub head: u16,
+}
+
+/// A class with nothing in it.
+const EMPTY: Class = Class {
+    top: FRAME_BYTES,
+    head: GROUP_BYTES as u16,
+};
+
+/// The unit that got its place last, and its phase.
+#[derive(Clone, Copy, Debug)]
+pub(crate) struct Last {
+    pub load: Load,
+    pub phase: u16,
+}
+
+/// The classes of the periods that are needed, in a row for each count of units that are left. A row is made of the one
+/// above, where one unit more is left, and of the ticks of the unit that got its place between.
+#[derive(Drop)]
+pub(crate) struct Tops {
+    order: Vec<u8>,
+    needs: Needs,
+    classes: Vec<Class>,
+}
+
+/// What a tick costs without padding.
+fn raw_at(loads: &Loads, tick: u32) -> u16 {
+    loads.raw(tick).min(65_535) as u16
+}
+
+/// Raises the tops of the classes of a period to what the ticks of a unit cost.
+fn raise(row: &mut [Class], loads: &Loads, last: Last)
+    requires { 0 < length row.old }
+{
+    let ticks = loads.ticks();
+    let period = row.len();
+    let pace = period_of(last.load);
+    let step = usize::from(pace) % period;
+    let mut at = usize::from(last.phase) % period;
+    let mut tick = u32::from(last.phase);
+    while tick < ticks {
+        row[at].top = row[at].top.max(raw_at(loads, tick));
+        tick += u32::from(pace);
+        at += step;
+        if at >= period {
+            at -= period;
+        }
+    }
+}
+
+/// Raises the tops of the classes of a period to what all ticks cost.
+fn raise_all(row: &mut [Class], loads: &Loads)
+    requires { 0 < length row.old }
+{
+    let period = row.len();
+    let mut at = 0usize;
+    for tick in 0..loads.ticks() {
+        row[at].top = row[at].top.max(raw_at(loads, tick));
+        at += 1;
+        if at == period {
+            at = 0;
+        }
+    }
+}
+
+/// Opens a class of a period.
+fn open(row: &mut [Class], phase: u16) {
+    let phase = usize::from(phase);
+    if phase < row.len() {
+        row[phase].head = 0;
+    }
+}
+
+/// Opens the classes of a period that a unit has.
+fn open_all(row: &mut [Class], period: u16, loads: &Loads) {
+    let all = loads.loads();
+    let places = loads.places();
+    for i in 0..all.len() {
+        if all[i].period == period {
+            if let Some(place) = places[i] {
+                open(row, place.phase);
+            }
+        }
+    }
+}
+
+impl Tops {
+    /// Of no unit.
+    pub(crate) fn none(alloc: Global) -> Tops {
+        Tops {
+            order: Vec::new(alloc),
+            needs: Needs::none(alloc),
+            classes: Vec::new(alloc),
+        }
+    }
+
+    /// Of these units, which are left in this order; the rows aren't made yet.
+    pub(crate) fn of(alloc: Global, loads: &Loads, order: &[u8]) -> Result<Tops, AllocError> {
+        let needs = Needs::of(alloc, loads, order)?;
+        let count = order.len().saturating_add(1).saturating_mul(needs.width());
+        Ok(Tops {
+            order: Vec::from_slice(alloc, order)?,
+            needs,
+            classes: Vec::from_elem(alloc, EMPTY, count)?,
+        })
+    }
+
+    /// Whether it is of no unit.
+    pub(crate) fn is_none(&self) -> bool {
+        self.order.is_empty()
+    }
+
+    /// What is left.
+    pub(crate) fn needs(&self) -> &Needs {
+        &self.needs
+    }
+
+    /// The unit that got its place last, where so many are left; none where these are all.
+    pub(crate) fn last(&self, loads: &Loads, left: usize) -> Option<Last> {
+        let number = self.order.len().checked_sub(left)?.checked_sub(1)?;
+        let unit = usize::from(*self.order.as_slice().get(number)?);
+        let load = *loads.loads().get(unit)?;
+        let place = (*loads.places().get(unit)?)?;
+        Some(Last {
+            load,
+            phase: place.phase,
+        })
+    }
+
+    /// Where the classes of a need begin, where so many units are left.
+    fn start(&self, need: Need, left: usize) -> usize {
+        left.saturating_mul(self.needs.width())
+            .saturating_add(need.start)
+    }
+
+    /// The classes of a need where so many units are left, of which the row is made.
+    pub(crate) fn row(&self, need: Need, left: usize) -> &[Class]
+        ensures { length result.now ≤ 60 }
+    {
+        let start = self.start(need, left);
+        let end = start.saturating_add(usize::from(period_in(need)));
+        match self.classes.as_slice().get(start..end) {
+            Some(row) => row,
+            None => &[],
+        }
+    }
+
+    /// Makes the classes of a need where so many units are left.
+    pub(crate) fn make(&mut self, loads: &Loads, need: Need, left: usize, last: Option<Last>) {
+        match last {
+            Some(last) => self.descend(loads, need, left, last),
+            None => self.begin(loads, need, left),
+        }
+    }
+
+    /// Makes the classes of a need of what all ticks cost and of all places.
+    fn begin(&mut self, loads: &Loads, need: Need, left: usize) {
+        let start = self.start(need, left);
+        let end = start.saturating_add(usize::from(period_in(need)));
+        let Some(row) = self.classes.as_mut_slice().get_mut(start..end) else {
+            return;
+        };
+        if row.is_empty() {
+            return;
+        }
+        raise_all(row, loads);
+        open_all(row, need.period, loads);
+    }
+
+    /// Makes the classes of a need of those in the row above and of the ticks of the last unit.
+    fn descend(&mut self, loads: &Loads, need: Need, left: usize, last: Last) {
+        let above = self.start(need, left.saturating_add(1));
+        let start = self.start(need, left);
+        let count = usize::from(period_in(need));
+        let Some((below, rest)) = self.classes.as_mut_slice().split_at_mut_checked(above) else {
+            return;
+        };
+        let Some(row) = below.get_mut(start..start.saturating_add(count)) else {
+            return;
+        };
+        let Some(before) = rest.get(..count) else {
+            return;
+        };
+        if row.is_empty() || row.len() != before.len() {
+            return;
+        }
+        row.copy_from_slice(before);
+        raise(row, loads, last);
+        if last.load.period == need.period {
+            open(row, last.phase);
+        }
+    }
+}
