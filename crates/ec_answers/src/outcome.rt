@@ -41,14 +41,10 @@ fn level_of(loads: &mut Loads, units: &Units, outcome: &Outcome) -> Option<u64>
             tree,
             strong,
             ..
-        } => Some(level_in(
-            loads,
-            units,
-            rules_by(*strong),
-            order.as_slice(),
-            tree,
-            best,
-        )),
+        } => {
+            let rules = rules_by(*strong);
+            Some(level_in(loads, units, rules, order.as_slice(), tree, best))
+        }
     }
 }
 

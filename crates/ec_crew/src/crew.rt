@@ -61,7 +61,8 @@ fn closed<S: Search>(shared: Shared<S>, seats: Vec<Seat<'_, '_, S>>, ended: Ende
     }
 }
 
-/// Lets worker 0 seed, from what it begins with, and then each worker work in a thread of its own; why they ended, if one of them could be started.
+/// Lets worker 0 seed, from what it begins with, and then each worker work in a thread of its own, where a piece is free;
+/// why they ended, if one of them could be started.
 fn run_all<S: Search + Send + Sync, R: Threads + Wait + Sync, G: Gate + Sync>(
     rt: &R,
     alloc: Global,
@@ -84,6 +85,9 @@ fn run_all<S: Search + Send + Sync, R: Threads + Wait + Sync, G: Gate + Sync>(
         slots.len(),
     );
     let (first, end) = left_free(slots[0].lock(rt).seat.receipts(), opening.pieces as u64);
+    if first >= end {
+        return Some(seeded.unwrap_or(Ended::Done));
+    }
     deal(rt, slots, first, end);
     let others = match seeded {
         Some(_) => &slots[1..],

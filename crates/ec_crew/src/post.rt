@@ -100,7 +100,8 @@ impl<'u, 'o, 'b, S: Search> Post<'u, 'o, 'b, S> {
         }
     }
 
-    /// Asks for a piece by its number, for at most `most` nodes; none where it can't be handed out.
+    /// Asks for a piece by its number, for at most `most` nodes; none where it isn't free. Where no node is left to hand out
+    /// with it, it asks for the lowest free piece, so that no other ticket is tried in vain.
     fn take_piece<R: Wait>(
         &mut self,
         rt: &R,
@@ -114,7 +115,11 @@ impl<'u, 'o, 'b, S: Search> Post<'u, 'o, 'b, S> {
     {
         match shared.take_piece(rt, &mut self.seat, piece, most) {
             Ok(Taken::Piece(took)) => Ok(Some(Taken::Piece(took))),
-            Ok(Taken::Later) | Ok(Taken::Done) | Err(BookFault::NotFree) => Ok(None),
+            Ok(Taken::Later) | Ok(Taken::Done) => match self.take(rt, shared, most) {
+                Ok(taken) => Ok(Some(taken)),
+                Err(ended) => Err(ended),
+            },
+            Err(BookFault::NotFree) => Ok(None),
             Err(BookFault::OutOfMemory) => Err(Ended::Memory),
             Err(_) => Err(Ended::Refused),
         }

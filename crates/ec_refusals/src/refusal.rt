@@ -34,7 +34,7 @@ pub enum Refusal {
     Solve(SolveFault),
     /// Writing a certificate failed.
     Write,
-    /// The certificate is right and holds no plan: there is none, or the search of a certificate of version 3 found none.
+    /// The certificate is right and holds no plan: there is none, or the search of a certificate with a level found none.
     CertHasNoPlan,
     /// The plan isn't played to its end, or memory ran out over its layout or its frames.
     Play(PlayFault),

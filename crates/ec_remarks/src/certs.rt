@@ -109,22 +109,9 @@ pub(crate) fn tell_bytes(out: &mut Draft, inputs: &Inputs<'_>) {
     }
 }
 
-/// Whether a text begins as a certificate with which no search goes on.
-fn is_known(inputs: &Inputs<'_>) -> bool {
-    match inputs.cert {
-        Some(cert) => cert.starts_with(b"ecplan 4\n"),
-        None => false,
-    }
-}
-
-/// Tells that a text doesn't begin as a certificate, or that no search goes on with it.
+/// Tells that a text doesn't begin as a certificate.
 pub(crate) fn tell_version(out: &mut Draft, inputs: &Inputs<'_>) {
     add_cert(out, inputs);
-    if is_known(inputs) {
-        return out.add(
-            " is of version 4 and shows no more than a level: no search goes on with it yet.\n",
-        );
-    }
     out.add(
         " does not begin with a line ecplan 1, ecplan 2, ecplan 3 or ecplan 4, as each certificate does",
     );

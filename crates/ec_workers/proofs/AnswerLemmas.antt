@@ -32,7 +32,8 @@ use Rattle.ec_book.specs.Books.{IsBookOf}
 use Rattle.ec_book.specs.Finishing.{GrowsFrom, IsFinishedOf}
 use Rattle.ec_book.specs.declared.book.Finished.{Finished}
 use Rattle.ec_crew.specs.Crews.{IsCrewed}
-use Rattle.ec_workers.specs.Answers.{Asked, asked_beyond, GoesBeyond, IsCut, IsUnproved, IsOutcome, tree_in, value_in}
+use Rattle.std.specs.Prelude.{nat_lt, true, false}
+use Rattle.ec_workers.specs.Answers.{is_strong, Asked, asked_beyond, GoesBeyond, IsCut, IsUnproved, IsOutcome, tree_in, value_in}
 use Rattle.ec_outcome.specs.Searched.{searched_by}
 use Rattle.ec_workers.specs.Outcomes.{proof_version, partial_version, cert_for, IsFound, IsOptimal, IsWithoutPlan, Shows}
 use Rattle.ec_workers.proofs.ResumeLemmas.{crewed-nodes}
@@ -77,6 +78,14 @@ optimal refute law us strong order best tree lines c b plan found is said copied
       held = (b, refl, refl, refl);
       shows = shows refute us.units us.slots strong order (Some b) tree (few_of us) some;
     }))
+
+-- the certificate of a search says by its version whether that went by the strong rules
+by-version : (strong : Bool) → nat_lt 3 (proof_version strong) ≡ strong
+by-version false = refl
+by-version true = refl
+
+pub strong-of : (strong : Bool) (c : CertView) → c.version ≡ proof_version strong → is_strong c ≡ strong
+strong-of strong c is = ap (λ v. nat_lt 3 v) is ∙ by-version strong
 
 -- the plan fits into room for a place of each unit
 pub fits : (us : List SyncUnit) (n : ℕ) (best : Option Best) (b : Best) (room : ℕ) → IsBestPlan (loads_of us) n best → best ≡ Some b → length us ≤ room → length b.plan.places ≤ room

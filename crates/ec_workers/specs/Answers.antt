@@ -115,6 +115,12 @@ abbrev pub IsOrderBy : Bool → List Load → List ℕ → Type 0
 IsOrderBy false loads order = IsSearchOrder loads order
 IsOrderBy true loads order = IsStrongOrder loads order
 
+-- its certificate, or where it ended without a proof its tree, is by the strong rules just where this says so
+abbrev pub HasRules : Bool → Outcome → Type 0
+HasRules strong (outcome.Optimal plan b cert) = is_strong (cert_view cert) ≡ strong
+HasRules strong (outcome.NoPlan cert) = is_strong (cert_view cert) ≡ strong
+HasRules strong (outcome.Unproved best order tree is why) = is ≡ strong
+
 -- and the outcome's is that of such a search
 abbrev pub HasSearchOrder : Bool → List Load → Outcome → Type 0
 HasSearchOrder strong loads o = (order : List ℕ) × IsOrderBy strong loads order × HasOrder order o

@@ -9,7 +9,7 @@ ghost use Rattle.ec_cert.specs.Shapes.{cert_view, shape_of};
 ghost use Rattle.ec_book.specs.Books.{IsBookOf};
 ghost use Rattle.ec_crew.specs.Crews.{IsCrewed};
 ghost use Rattle.ec_crew.specs.declared.ended.Ended.TheVariants.{Refused, Memory as EndedMemory, Time as EndedTime};
-ghost use Rattle.ec_workers.specs.Answers.{asked_beyond, asked_for, GoesBeyond, HasCut, HasOrder, HasSearchOrder, IsOutcome, IsSolveFault, is_strong as strong_spec};
+ghost use Rattle.ec_workers.specs.Answers.{asked_beyond, asked_for, GoesBeyond, HasCut, HasOrder, HasRules, HasSearchOrder, IsOutcome, IsSolveFault, is_strong as strong_spec};
 ghost use Rattle.ec_outcome.specs.Searched.{searched_by};
 ghost use Rattle.ec_workers.specs.Outcomes.{IsPartialCert};
 ghost use Rattle.ec_workers.specs.Rooms.{IsRoomFor};
@@ -61,6 +61,7 @@ fn outcome_of(
     ensures outcome { (workers : ℕ) (given : Shape) (value : Option ℕ) → 1 < workers → IsCrewed units.now.units units.now.slots order (searched_by strong) given value nodes crewed.finished → IsOutcome units.now.units units.now.slots (asked_beyond strong workers nodes given) result }
     ensures beyond { (given : Shape) (value : Option ℕ) → IsCrewed units.now.units units.now.slots order (searched_by strong) given value nodes crewed.finished → GoesBeyond given value nodes result }
     ensures journal { crewed.ended ≡ Refused → HasCut Journal result }
+    ensures rules { HasRules strong result }
     ensures order { HasOrder order result }
 {
     let Crewed { finished, ended } = crewed;
@@ -114,6 +115,7 @@ fn search_on<R: Threads + Wait + Sync, G: Gate + Sync>(
     ensures beyond { IfOk result (GoesBeyond book.given book.given_value nodes) }
     ensures fault { IfErr result (IsSolveFault workers) }
     ensures order { IfOk result (HasOrder order.items) }
+    ensures rules { IfOk result (HasRules strong) }
 {
     let room = Room::new(alloc, units)?;
     let crewed = search_by_crew(
@@ -149,6 +151,7 @@ pub(crate) fn solve_by_crew<R: Threads + Wait + Sync, G: Gate + Sync>(
     ensures outcome { IfOk result (IsOutcome units.now.units units.now.slots (asked_for strong workers nodes)) }
     ensures beyond { IfOk result (GoesBeyond open_leaf None nodes) }
     ensures order { IfOk result (HasSearchOrder strong (loads_of units.now.units)) }
+    ensures rules { IfOk result (HasRules strong) }
     ensures fault { IfErr result (IsSolveFault workers) }
 {
     let order = order_by(alloc, units, strong)?;
@@ -176,6 +179,7 @@ pub(crate) fn resume_by_crew<R: Threads + Wait + Sync, G: Gate + Sync>(
     ensures beyond { IfOk result (GoesBeyond (shape_of cert.tree) (value_of cert.best) nodes) }
     ensures fault { IfErr result (IsSolveFault workers) }
     ensures order { IfOk result (HasOrder cert.order) }
+    ensures rules { IfOk result (HasRules (strong_spec (cert_view cert))) }
 {
     let order = Vec::from_slice(alloc, cert.order.as_slice())?;
     let strong = is_strong(&cert);

@@ -9,7 +9,7 @@ ghost use Rattle.ec_cert.specs.BestPlan.{value_of};
 ghost use Rattle.ec_cert.specs.Shapes.{cert_view, shape_of};
 ghost use Rattle.ec_book.specs.Books.{IsBookOf, IsSameSearch};
 ghost use Rattle.ec_crew.specs.declared.ended.Ended.TheVariants.{Time as EndedTime};
-ghost use Rattle.ec_workers.specs.Answers.{Asked, asked_beyond, asked_for, GoesBeyond, HasOrder, HasSearchOrder, IsOutcome, is_strong as strong_spec, tree_in, value_in};
+ghost use Rattle.ec_workers.specs.Answers.{Asked, asked_beyond, asked_for, GoesBeyond, HasOrder, HasRules, HasSearchOrder, IsOutcome, is_strong as strong_spec, tree_in, value_in};
 ghost use Rattle.ec_outcome.specs.Searched.{searched_by};
 ghost use Rattle.ec_workers.specs.Outcomes.{IsFound, IsPartialCert};
 ghost use Rattle.ec_workers.specs.Rooms.{IsRoomFor};
@@ -90,6 +90,7 @@ pub(crate) fn proved(
     ensures outcome { (asked : Asked) → IsOutcome units.now.units units.now.slots asked result }
     ensures tree { tree_in result ≡ shape_of tree }
     ensures value { value_in result ≡ value_of best }
+    ensures rules { HasRules strong result }
     ensures order { HasOrder order result }
 {
     faults_refute();
@@ -125,6 +126,7 @@ fn ended(
     requires nodes { book.nodes ≡ nodes }
     ensures outcome { IsOutcome units.now.units units.now.slots (asked_beyond strong 1 nodes book.given) result }
     ensures beyond { GoesBeyond book.given book.given_value nodes result }
+    ensures rules { HasRules strong result }
     ensures order { HasOrder order result }
 {
     let open = book.open_pieces();
@@ -162,6 +164,7 @@ pub(crate) fn solve_alone<R: Wait, G: Gate>(
     ensures outcome { IfOk result (IsOutcome units.now.units units.now.slots (asked_for strong 1 nodes)) }
     ensures beyond { IfOk result (GoesBeyond open_leaf None nodes) }
     ensures order { IfOk result (HasSearchOrder strong (loads_of units.now.units)) }
+    ensures rules { IfOk result (HasRules strong) }
     ensures fault { IfErr result (λ e. e ≡ OutOfMemory) }
 {
     let room = Room::new(alloc, units)?;
@@ -187,6 +190,7 @@ pub(crate) fn resume_alone<R: Wait, G: Gate>(
     ensures outcome { IfOk result (IsOutcome units.now.units units.now.slots (asked_beyond (strong_spec (cert_view cert)) 1 nodes (shape_of cert.tree))) }
     ensures beyond { IfOk result (GoesBeyond (shape_of cert.tree) (value_of cert.best) nodes) }
     ensures order { IfOk result (HasOrder cert.order) }
+    ensures rules { IfOk result (HasRules (strong_spec (cert_view cert))) }
     ensures fault { IfErr result (λ e. e ≡ OutOfMemory) }
 {
     let room = Room::new(alloc, units)?;

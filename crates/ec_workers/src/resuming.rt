@@ -3,7 +3,7 @@
 ghost use Rattle.std.specs.Prelude.{◌≡◌, ℕ, ◌≤◌, Some, IfOk, IfErr};
 ghost use Rattle.ec_cert.specs.BestPlan.{value_of};
 ghost use Rattle.ec_cert.specs.Shapes.{cert_view, shape_of};
-ghost use Rattle.ec_workers.specs.Answers.{asked_beyond, GoesBeyond, HasLevelFrom, HasOrder, IsOutcome, IsSolveFault, is_strong};
+ghost use Rattle.ec_workers.specs.Answers.{asked_beyond, GoesBeyond, HasLevelFrom, HasOrder, HasRules, IsOutcome, IsSolveFault, is_strong};
 ghost use Rattle.ec_workers.specs.Outcomes.{IsPartialCert};
 
 use crate::crewed::resume_by_crew;
@@ -46,6 +46,7 @@ pub fn solve_from<R: Threads + Wait + Sync, G: Gate + Sync>(
     ensures level { IfOk result (λ o. (l : ℕ) → cert.level ≡ Some l → HasLevelFrom units.now.units units.now.slots l o) }
     ensures fault { IfErr result (IsSolveFault workers) }
     ensures order { IfOk result (HasOrder cert.order) }
+    ensures rules { IfOk result (HasRules (is_strong (cert_view cert))) }
 {
     levels_bound();
     if workers == 1 || is_closed(&cert.tree) {

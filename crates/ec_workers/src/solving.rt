@@ -3,7 +3,7 @@
 ghost use Rattle.std.specs.Prelude.{◌≤◌, None, IfOk, IfErr};
 ghost use Rattle.ec_units.specs.Load.{loads_of};
 ghost use Rattle.ec_loads.specs.Shape.{open_leaf};
-ghost use Rattle.ec_workers.specs.Answers.{asked_for, GoesBeyond, HasSearchOrder, IsOutcome, IsSolveFault};
+ghost use Rattle.ec_workers.specs.Answers.{asked_for, GoesBeyond, HasRules, HasSearchOrder, IsOutcome, IsSolveFault};
 
 use crate::crewed::solve_by_crew;
 use crate::planning::solve_alone;
@@ -42,6 +42,7 @@ pub fn solve<R: Threads + Wait + Sync, G: Gate + Sync>(
     ensures outcome { IfOk result (IsOutcome units.now.units units.now.slots (asked_for strong workers nodes)) }
     ensures beyond { IfOk result (GoesBeyond open_leaf None nodes) }
     ensures order { IfOk result (HasSearchOrder strong (loads_of units.now.units)) }
+    ensures rules { IfOk result (HasRules strong) }
     ensures fault { IfErr result (IsSolveFault workers) }
 {
     if workers == 1 {

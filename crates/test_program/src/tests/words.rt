@@ -160,6 +160,8 @@ const LINES: &str = "cost : <cost - ->|\
     play - : <play - ->|\
     plan : <plan 1 1000000 - ->|\
     plan --workers 1 : <plan 1 1000000 - ->|\
+    plan --strong : <plan 1 1000000 strong - ->|\
+    plan --out p --strong --nodes 8 : <plan 1 8 strong - p>|\
     plan --workers 16 : <plan 16 1000000 - ->|\
     plan --nodes 1 : <plan 1 1 - ->|\
     plan --nodes=5 : <plan 1 5 - ->|\
