@@ -156,6 +156,7 @@ const LINES: &str = "cost : <cost - ->|\
     frames --report r --cert q --pcap=p : <capture q p>|\
     play : <play - ->|\
     play --cert line.cert : <play line.cert ->|\
+    play --pcap p : <play - ->|\
     play --cert=p q : <play p -> q -|\
     play - : <play - ->|\
     plan : <plan 1 1000000 - ->|\
@@ -238,7 +239,10 @@ const REFUSED: &str = " : requires a subcommand|\
     play p q : unexpected argument 'q'|\
     play --cert : a value is required for '--cert <PATH>'|\
     play --cert p --cert q : '--cert <PATH>' cannot be used multiple times|\
-    play --pcap p : unexpected argument '--pcap'|\
+    play --pcap p --pcap q : '--pcap <PATH>' cannot be used multiple times|\
+    frames --lose 1 : unexpected argument '--lose'|\
+    check --cert p --strong : unexpected argument '--strong'|\
+    plan --strong --strong : '--strong' cannot be used multiple times|\
     play --workers 2 : unexpected argument '--workers'|\
     frames --svg p : unexpected argument '--svg'|\
     cost p q : unexpected argument 'q'|\
