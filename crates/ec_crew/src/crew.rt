@@ -15,6 +15,7 @@ use crate::pieces::left_free;
 use crate::post::Post;
 use crate::seeding::{Opening, seed};
 use crate::threads::{deal, into_slots, joined, out_of_slots, work_all};
+use crossbeam_utils::sync::EventCount;
 use ec_book::{Book, Finished};
 use ec_seats::{CloseFault, Search, Seat, Shared};
 use ec_tickets::{Bound, Reader, Tickets};
@@ -177,7 +178,8 @@ fn search_on<S: Search + Send + Sync, R: Threads + Wait + Sync, G: Gate + Sync>(
     let Ok((shared, seats)) = Shared::<S>::new(alloc, blank, book, units, order, workers) else {
         return Err(CrewFault::OutOfMemory);
     };
-    let slots = into_slots(seats, &bound, readers, tickets, slots);
+    let bell = EventCount::new();
+    let slots = into_slots(seats, &bound, &bell, readers, tickets, slots);
     let Some(ended) = run_all(rt, alloc, &shared, slots.as_slice(), opening, gate, handles) else {
         return Err(CrewFault::Spawn);
     };

@@ -8,6 +8,7 @@ mod ended;
 mod first;
 mod gate;
 mod ground;
+mod pace;
 mod pieces;
 mod post;
 mod seeding;

@@ -11,6 +11,14 @@ pub(crate) fn opened(steps: &[Step]) -> (u64, u64) {
     }
 }
 
+/// The nodes that the last step spent, where it is a report; else none.
+pub(crate) fn spent(steps: &[Step]) -> u64 {
+    match steps.last() {
+        Some(Step::Reported { spent, .. }) => *spent,
+        _ => 0,
+    }
+}
+
 /// The value of the last step, in wire bytes, where that is a better plan; else none.
 pub(crate) fn published(steps: &[Step]) -> Option<u64> {
     match steps.last() {

@@ -14,6 +14,7 @@ ghost use Rattle.ec_crew.specs.declared.ended.Ended.TheVariants.{Done};
 
 use crate::ended::Ended;
 use crate::pieces::{opened, published};
+use crossbeam_utils::sync::EventCount;
 use ec_book::{BookFault, Taken};
 use ec_cert::Best;
 use ec_loads::Plan;
@@ -25,12 +26,13 @@ use std::sync::Wait;
 /// The greatest cost of a legal plan's busiest tick, in wire bytes: eight frames of the greatest length.
 const MOST_VALUE: u64 = 12_304;
 
-/// A seat that is for the search of its shared book, with what the worker knows beside the book: numbers of pieces, and
-/// the least value that was published.
+/// A seat that is for the search of its shared book, with what the worker knows beside the book: numbers of pieces, the least
+/// value that was published, and what wakes workers that sleep since nothing could be handed out to them.
 #[derive(Drop)]
 pub(crate) struct Post<'u, 'o, 'b, S: Search> {
     pub(crate) seat: Seat<'u, 'o, S>,
     pub(crate) bound: &'b Bound,
+    pub(crate) bell: &'b EventCount,
     pub(crate) reader: Reader,
     pub(crate) tickets: Tickets,
     pub ghost ours: { IsOf S.loads S.slots S.order seat },

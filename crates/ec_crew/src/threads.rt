@@ -9,6 +9,7 @@ use crate::ended::Ended;
 use crate::gate::Gate;
 use crate::post::Post;
 use crate::work::work;
+use crossbeam_utils::sync::EventCount;
 use ec_seats::{Search, Seat, Shared};
 use ec_tickets::{Bound, Reader, Tickets};
 use std::alloc::Global;
@@ -16,10 +17,12 @@ use std::sync::{Mutex, Wait};
 use std::thread;
 use std::thread::{JoinHandle, Threads};
 
-/// Puts each seat in a slot of its own, for which there is room, with a reader of the bound and tickets.
+/// Puts each seat in a slot of its own, for which there is room, with a reader of the bound, tickets and the
+/// bell that wakes workers.
 pub(crate) fn into_slots<'u, 'o, 'b, S: Search>(
     seats: Vec<Seat<'u, 'o, S>>,
     bound: &'b Bound,
+    bell: &'b EventCount,
     readers: Vec<Reader>,
     tickets: Vec<Tickets>,
     slots: Vec<Mutex<Post<'u, 'o, 'b, S>>>,
@@ -44,6 +47,7 @@ pub(crate) fn into_slots<'u, 'o, 'b, S: Search>(
         slots.push_reserved(Mutex::new(Post {
             seat,
             bound,
+            bell,
             reader,
             tickets,
         }));
