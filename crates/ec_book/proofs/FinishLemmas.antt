@@ -1,5 +1,6 @@
 -- What the tree of a finished book is.
-use Rattle.std.proofs.Common.{◌≡◌, ℕ, ◌+◌, ◌==◌, if◌then◌else◌, arith, ap, ◌∙◌, sym, refl, replicate, length, subst, List, [], ◌∷◌, Option}
+use Rattle.std.proofs.Common.{◌≡◌, ℕ, ◌+◌, ◌<◌, ◌==◌, ◌||◌, false, All, if◌then◌else◌, arith, ap, ◌∙◌, sym, refl, replicate, length, subst, List, [], ◌∷◌, Option}
+use Rattle.std.proofs.lemmas.Bool.{lt-leb}
 use Rattle.ec_units.specs.declared.slave.Place.{Place}
 use Rattle.ec_loads.specs.Line.{Line}
 use Rattle.ec_loads.specs.Shape.{Shape, open_leaf}
@@ -12,10 +13,14 @@ use Rattle.ec_book.specs.declared.report.Report.{Report}
 use Rattle.ec_book.specs.Numbered.{Numbered, gap, numbered, fill, plug, draw, plain}
 use Rattle.ec_book.specs.Steps.{live_count}
 use Rattle.ec_book.specs.Finishing.{GrowsFrom}
+use Rattle.ec_cert.specs.Parts.{has_leaf}
+use Rattle.ec_cert.specs.declared.part.Part.{Part}
 use Rattle.ec_book.specs.Open.{StandsAt}
+use Rattle.ec_book.specs.Parts.{is_of_part, IsReportOf, LeavesOthers}
 use Rattle.ec_book.specs.Grown.{grown, shape_at}
 use Rattle.ec_book.specs.Kept.{IsGrown}
 use Rattle.ec_book.proofs.DrawLemmas.{draw-same, draw-fill, shape_at-open, grown-below}
+use Rattle.ec_book.proofs.ShareLemmas.{unreported}
 use Rattle.ec_book.proofs.PlugLemmas.{fill-fill, fill-gap}
 use Rattle.ec_book.proofs.RowLemmas.{Below-numbered}
 use Rattle.ec_book.proofs.TreeLemmas.{numbered-plain, gaps-plain, size-plain, tree-closed}
@@ -27,6 +32,11 @@ grown-fill (r ∷ rs) t =
     let s = numbered r.first (shape_of r.tree) in
     grown-fill rs (plug r.piece s t)
     ∙ sym (fill-fill (λ m. grown (gap m) (r ∷ rs)) (λ m. grown (gap m) rs) (λ m. if m == r.piece then s else gap m) (λ m. grown-fill rs (if m == r.piece then s else gap m)) t)
+
+-- a leaf that isn't of the part is a piece that isn't
+other_piece : (part : Part) (first m : ℕ) → m < first → has_leaf part m ≡ false → is_of_part part first m ≡ false
+unfolding is_of_part
+other_piece part first m low other = ap (λ b. b || has_leaf part m) (lt-leb first m low) ∙ other
 
 module _ (given : Shape) (line : Line) (order : List ℕ) (pieces : List Piece) (prefixes : List (List Place)) (reports : List Report) (value : Option ℕ) (spent : ℕ)
     (h : IsGrown given line order pieces prefixes reports value spent) where
@@ -58,4 +68,14 @@ module _ (given : Shape) (line : Line) (order : List ℕ) (pieces : List Piece) 
         part,
         is ∙ ap plain (grown-fill reports (numbered 0 given))
             ∙ sym (draw-fill part (λ _. open_leaf) (λ m. grown (gap m) reports) (open_count given) (λ m _. refl) (numbered 0 given) (Below-numbered 0 given (open_count given) (omega arith))),
+      )
+
+  -- it goes on from the tree that was given at the leaves of the part alone
+  pub drawn-others : (part : Part) (shape : Shape) → shape ≡ plain tree → All (IsReportOf (is_of_part part (open_count given))) reports → LeavesOthers part given shape
+  unfolding drawn-extends
+  drawn-others part shape is own =
+      let extends = drawn-extends shape is in (
+        extends.0,
+        extends.1,
+        λ m low other. ap plain (unreported (is_of_part part (open_count given)) reports m own (other_piece part (open_count given) m low other)),
       )

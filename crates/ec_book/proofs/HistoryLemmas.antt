@@ -1,14 +1,15 @@
 -- A history goes on by one step.
-use Rattle.std.proofs.Common.{◌≡◌, ℕ, zero, suc, ◌+◌, ◌≤◌, List, [], ◌∷◌, ◌++◌, length, set, slice_get, replicate, Option, Some, None, refl, sym, ap, ◌∙◌, subst, arith, inl, inr, ◌⊎◌}
+use Rattle.std.proofs.Common.{◌≡◌, ℕ, zero, suc, ◌+◌, ◌≤◌, Bool, true, List, [], ◌∷◌, ◌++◌, length, set, slice_get, replicate, Option, Some, None, refl, sym, ap, ◌∙◌, subst, arith, inl, inr, ◌⊎◌}
 use Rattle.ec_loads.specs.Search.{IsAtMost}
-use Rattle.ec_book.specs.Views.{BookView}
+use Rattle.ec_book.specs.Views.{BookView, ours}
 use Rattle.ec_book.specs.Kept.{NoneFreeBelow}
 use Rattle.ec_book.specs.Faults.{HasNothing}
+use Rattle.ec_book.specs.Laws.{HasNoneLeft}
 use Rattle.ec_book.specs.declared.step.Step.{Step}
 use Rattle.ec_book.specs.declared.step.Step.TheVariants.{Took, Reported, Better, Back}
 use Rattle.ec_book.specs.declared.piece.Piece.{Piece}
 use Rattle.ec_book.specs.declared.piece.Piece.TheVariants.{Free, Taken, Ended}
-use Rattle.ec_book.specs.Steps.{PiecesState, PiecesStep, IsHistory, IsBelow, after, replay, granted, grant_of, taken_count, taken_one, live_count}
+use Rattle.ec_book.specs.Steps.{PiecesState, PiecesStep, IsHistory, IsBelow, after, replay, granted, grant_of, taken_count, taken_one, live}
 
 pub history-push : (n : ℕ) (s : PiecesState) (es : List Step) (e : Step) (t u : PiecesState) → IsHistory n s es t → PiecesStep n t e u → IsHistory n s (es ++ e ∷ []) u
 history-push n s [] e t u h step = (u, subst (λ w. PiecesStep n w e u) h step, refl)
@@ -87,13 +88,14 @@ granted-none (Free ∷ ps) h = let rest = granted-none ps (omega (arith, h)) in 
 granted-none (Ended ∷ ps) h = let rest = granted-none ps (omega (arith, h)) in omega (arith, rest)
 granted-none (Taken w g ∷ ps) h = absurd (omega (arith, h))
 
--- no piece is left where none is free and none is taken
-live-none : (ps : List Piece) → NoneFreeBelow ps (length ps) → taken_count ps ≡ 0 → live_count ps ≡ 0
-live-none [] free none = refl
-live-none (Free ∷ ps) free none = absurd (free 0 (omega arith) refl)
-live-none (Taken w g ∷ ps) free none = absurd (omega (arith, none))
-live-none (Ended ∷ ps) free none = let rest = live-none ps (λ m low e. free (suc m) (omega arith) e) (omega (arith, none)) in omega (arith, rest)
+-- none of these pieces is left where none of them is free and no piece is taken
+live-none : (ours : ℕ → Bool) (ps : List Piece) → NoneFreeBelow ours ps (length ps) → taken_count ps ≡ 0 → (m : ℕ) → ours m ≡ true → live ps m ≡ 0
+live-none ours [] free none m own = refl
+live-none ours (Free ∷ ps) free none zero own = absurd (free 0 (omega arith) own refl)
+live-none ours (Taken w g ∷ ps) free none zero own = absurd (omega (arith, none))
+live-none ours (Ended ∷ ps) free none zero own = refl
+live-none ours (p ∷ ps) free none (suc m) own = live-none (λ n. ours (suc n)) ps (λ n low yes e. free (suc n) (omega arith) yes e) (omega (arith, none)) m own
 
-pub done-spent : (b : BookView) → b.spent ≤ b.nodes → HasNothing b → taken_count b.pieces ≡ 0 → (live_count b.pieces ≡ 0) ⊎ (b.spent ≡ b.nodes)
-done-spent b most (inl free) none = inl (live-none b.pieces free none)
+pub done-spent : (b : BookView) → b.spent ≤ b.nodes → HasNothing b → taken_count b.pieces ≡ 0 → HasNoneLeft b ⊎ (b.spent ≡ b.nodes)
+done-spent b most (inl free) none = inl (live-none (ours b) b.pieces free none)
 done-spent b most (inr left) none = let nothing = granted-none b.pieces none in inr (omega (arith, most, left, nothing))

@@ -3,7 +3,7 @@
 -- for each of the last two, with an equation premise for every list; the answers only pass names. Room for `back` is
 -- `length log + taken ≤ vec_capacity log`: `take` reserves `taken + 2`, `better` `taken + 1`, and `report` and `back`,
 -- which end a taken piece, push with no reservation.
-use Rattle.std.proofs.Common.{◌≡◌, ◌≢◌, ℕ, zero, suc, ◌+◌, ◌-◌, ◌<◌, ◌≤◌, min, All, List, [], ◌∷◌, ◌++◌, length, set, drop, slice_get, replicate, Option, Some, None, refl, sym, ap, ◌∙◌, subst, arith, length-append}
+use Rattle.std.proofs.Common.{◌≡◌, ◌≢◌, ℕ, zero, suc, ◌+◌, ◌-◌, ◌<◌, ◌≤◌, min, Bool, All, List, [], ◌∷◌, ◌++◌, length, set, drop, slice_get, replicate, Option, Some, None, refl, sym, ap, ◌∙◌, subst, arith, length-append}
 use Rattle.std.proofs.lemmas.List.{length-replicate}
 use Rattle.std.proofs.lemmas.Option.{get_or_from_slice_get, slice_get_within}
 use Rattle.std.proofs.lemmas.List.Elements.{All-append}
@@ -34,8 +34,8 @@ length-push [] e = refl
 length-push (x ∷ es) e = let rest = length-push es e in omega (arith, rest)
 
 -- a piece that changes without becoming free
-none-free-set : (ps : List Piece) (i k : ℕ) (new : Piece) → new ≢ Free → NoneFreeBelow ps k → NoneFreeBelow (set ps i new) k
-none-free-set ps i k new other none m low e = none m low (get-set ps i m new other e)
+none-free-set : (ours : ℕ → Bool) (ps : List Piece) (i k : ℕ) (new : Piece) → new ≢ Free → NoneFreeBelow ours ps k → NoneFreeBelow ours (set ps i new) k
+none-free-set ours ps i k new other none m low own e = none m low own (get-set ps i m new other e)
   where
     same_piece : (a b : Piece) → Some a ≡ Some b → a ≡ b
     same_piece a b h = cc
@@ -48,8 +48,8 @@ none-free-set ps i k new other none m low e = none m low (get-set ps i m new oth
     get-set (p ∷ ps) (suc i) (suc m) new other h = get-set ps i m new other h
 
 -- a piece that becomes free
-none-free-back : (ps : List Piece) (i k : ℕ) (new : Piece) → k ≤ i → NoneFreeBelow ps k → NoneFreeBelow (set ps i new) k
-none-free-back ps i k new high none m low e = none m low (sym (get-other ps i m new (omega arith)) ∙ e)
+none-free-back : (ours : ℕ → Bool) (ps : List Piece) (i k : ℕ) (new : Piece) → k ≤ i → NoneFreeBelow ours ps k → NoneFreeBelow ours (set ps i new) k
+none-free-back ours ps i k new high none m low own e = none m low own (sym (get-other ps i m new (omega arith)) ∙ e)
   where
     get-other : (ps : List Piece) (i m : ℕ) (new : Piece) → m < i → slice_get (set ps i new) m ≡ slice_get ps m
     get-other [] i m new h = refl
@@ -58,8 +58,8 @@ none-free-back ps i k new high none m low e = none m low (sym (get-other ps i m 
     get-other (p ∷ ps) (suc i) (suc m) new h = get-other ps i m new (omega arith)
 
 -- pieces that are added at the end
-none-free-more : (ps qs : List Piece) (k : ℕ) → k ≤ length ps → NoneFreeBelow ps k → NoneFreeBelow (ps ++ qs) k
-none-free-more ps qs k inside none m low e = none m low (sym (get-front ps qs m (omega arith)) ∙ e)
+none-free-more : (ours : ℕ → Bool) (ps qs : List Piece) (k : ℕ) → k ≤ length ps → NoneFreeBelow ours ps k → NoneFreeBelow ours (ps ++ qs) k
+none-free-more ours ps qs k inside none m low own e = none m low own (sym (get-front ps qs m (omega arith)) ∙ e)
   where
     get-front : (ps qs : List Piece) (m : ℕ) → m < length ps → slice_get (ps ++ qs) m ≡ slice_get ps m
     get-front [] qs m h = absurd (omega arith)
@@ -75,12 +75,12 @@ ended-not-free e = cc
 pub reached_at : (line : Line) (order : List ℕ) (xs : List (List Place)) (p : ℕ) (q : List Place) → slice_get xs p ≡ Some q → All (IsReachedPrefix line order) xs → IsReachedPrefix line order q
 reached_at line order xs p q at all = subst (IsReachedPrefix line order) (get_or_from_slice_get xs p q q at) (all p q (slice_get_within xs p q at))
 
-module _ (from : PiecesState) (nodes : ℕ) (ps : List Piece) (value : Option ℕ) (spent held taken low : ℕ) (log : List Step) (room : ℕ) (h : IsCounted from nodes ps value spent held taken low log room) where
+module _ (ours : ℕ → Bool) (from : PiecesState) (nodes : ℕ) (ps : List Piece) (value : Option ℕ) (spent held taken low : ℕ) (log : List Step) (room : ℕ) (h : IsCounted ours from nodes ps value spent held taken low log room) where
   abbrev now : PiecesState
   now = record { pieces = ps; value = value; spent = spent }
 
   pub counted-took : (w p g more : ℕ) (new_log : List Step) → slice_get ps p ≡ Some Free → 1 ≤ g → g ≤ nodes - spent - held → new_log ≡ log ++ (Took w p g) ∷ [] → length log + (taken + 2) ≤ more
-      → IsCounted from nodes (set ps p (Taken w g)) value spent (held + g) (taken + 1) low new_log more
+      → IsCounted ours from nodes (set ps p (Taken w g)) value spent (held + g) (taken + 1) low new_log more
   counted-took w p g more new_log at some few log_is big =
       let part = granted-set ps p Free (Taken w g) at in
       let count = taken-set ps p Free (Taken w g) at in
@@ -92,15 +92,15 @@ module _ (from : PiecesState) (nodes : ℕ) (ps : List Piece) (value : Option �
         within = omega (arith, fits, few, some);
         taken_is = omega (arith, taken_is, count);
         room_is = (let size_is = length-push log (Took w p g) in omega (arith, size_is, big));
-        low_is = none-free-set ps p low (Taken w g) (taken-not-free w g) h.low_is;
+        low_is = none-free-set ours ps p low (Taken w g) (taken-not-free w g) h.low_is;
         low_in = omega (arith, size, low_in);
       })
 
-  pub counted-low : (new_low : ℕ) → NoneFreeBelow ps new_low → new_low ≤ length ps → IsCounted from nodes ps value spent held taken new_low log room
+  pub counted-low : (new_low : ℕ) → NoneFreeBelow ours ps new_low → new_low ≤ length ps → IsCounted ours from nodes ps value spent held taken new_low log room
   counted-low new_low none inside = record { history = h.history; held_is = h.held_is; within = h.within; taken_is = h.taken_is; room_is = h.room_is; low_is = none; low_in = inside }
 
   pub counted-back : (w p g : ℕ) (new_log : List Step) → slice_get ps p ≡ Some (Taken w g) → new_log ≡ log ++ (Back w p) ∷ []
-      → IsCounted from nodes (set ps p Free) value spent (held - g) (taken - 1) (min low p) new_log room
+      → IsCounted ours from nodes (set ps p Free) value spent (held - g) (taken - 1) (min low p) new_log room
   counted-back w p g new_log at log_is =
       let part = granted-set ps p (Taken w g) Free at in
       let count = taken-set ps p (Taken w g) Free at in
@@ -112,12 +112,12 @@ module _ (from : PiecesState) (nodes : ℕ) (ps : List Piece) (value : Option �
         within = omega (arith, fits);
         taken_is = omega (arith, taken_is, count);
         room_is = (let size_is = length-push log (Back w p) in omega (arith, size_is, room_is, count, taken_is));
-        low_is = none-free-back ps p (min low p) Free (omega arith) (λ m less. h.low_is m (omega (arith, less)));
+        low_is = none-free-back ours ps p (min low p) Free (omega arith) (λ m less. h.low_is m (omega (arith, less)));
         low_in = omega (arith, size, low_in);
       })
 
   pub counted-better : (w v more : ℕ) (new_log : List Step) → IsBelow v value → new_log ≡ log ++ (Better w v) ∷ [] → length log + (taken + 1) ≤ more
-      → IsCounted from nodes ps (Some v) spent held taken low new_log more
+      → IsCounted ours from nodes ps (Some v) spent held taken low new_log more
   counted-better w v more new_log below log_is big =
       rw log_is (record {
         history = history-push nodes from log (Better w v) now _ h.history (below, refl);
@@ -131,7 +131,7 @@ module _ (from : PiecesState) (nodes : ℕ) (ps : List Piece) (value : Option �
 
   pub counted-report : (w p g k first count : ℕ) (new_ps : List Piece) (new_log : List Step) → slice_get ps p ≡ Some (Taken w g) → 1 ≤ k → k ≤ g → first ≡ length ps
       → new_ps ≡ set ps p Ended ++ replicate count Free → new_log ≡ log ++ (Reported w p k first count) ∷ []
-      → IsCounted from nodes new_ps value (spent + k) (held - g) (taken - 1) low new_log room
+      → IsCounted ours from nodes new_ps value (spent + k) (held - g) (taken - 1) low new_log room
   counted-report w p g k first count new_ps new_log at some few first_is ps_are log_is =
       let part = granted-set ps p (Taken w g) Ended at in
       let free = granted-free (set ps p Ended) count in
@@ -147,7 +147,7 @@ module _ (from : PiecesState) (nodes : ℕ) (ps : List Piece) (value : Option �
         within = omega (arith, fits, few, held_is, part_le);
         taken_is = omega (arith, taken_is, fewer, taken_free);
         room_is = (let size_is = length-push log (Reported w p k first count) in omega (arith, size_is, room_is, fewer, taken_is));
-        low_is = none-free-more (set ps p Ended) (replicate count Free) low (omega (arith, size, low_in)) (none-free-set ps p low Ended ended-not-free h.low_is);
+        low_is = none-free-more ours (set ps p Ended) (replicate count Free) low (omega (arith, size, low_in)) (none-free-set ours ps p low Ended ended-not-free h.low_is);
         low_in = omega (arith, long, size, low_in);
       })
 

@@ -7,6 +7,7 @@ pub mod TreeLemmas
 pub mod DrawLemmas
 pub mod PartLemmas
 pub mod KeepLemmas
+pub mod ShareLemmas
 pub mod PlanLemmas
 pub mod FinishLemmas
 pub mod OpenLemmas

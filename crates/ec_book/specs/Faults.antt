@@ -1,5 +1,5 @@
 -- When a call on a book is refused, and what a piece is taken with.
-use Rattle.std.specs.Prelude.{◌≡◌, ◌≢◌, ◌⊎◌, ℕ, ◌+◌, ◌-◌, ◌<◌, ◌≤◌, min, List, Option, Some, length, slice_get}
+use Rattle.std.specs.Prelude.{◌≡◌, ◌≢◌, ◌⊎◌, ℕ, Bool, true, ◌+◌, ◌-◌, ◌<◌, ◌≤◌, min, List, Option, Some, length, slice_get}
 use Rattle.ec_units.specs.declared.slave.Place.{Place}
 use Rattle.ec_units.specs.declared.unit.Load.{Load}
 use Rattle.ec_loads.specs.Cost.{plan_items, IsBusiest}
@@ -19,24 +19,29 @@ use Rattle.ec_book.specs.declared.taken.Taken.TheVariants as handed
 use Rattle.ec_book.specs.declared.taken.Took.{Took as Given}
 use Rattle.ec_book.specs.Steps.{granted, taken_count, IsBelow}
 use Rattle.ec_cert.specs.BestPlan.{value_of}
-use Rattle.ec_book.specs.Views.{BookView, after_took}
+use Rattle.ec_book.specs.Views.{BookView, ours, after_took}
 use Rattle.ec_book.specs.Kept.{NoneFreeBelow}
 
--- the lowest free piece
-abbrev pub IsLowestFree : List Piece → ℕ → Type 0
-IsLowestFree pieces p = (slice_get pieces p ≡ Some Free) × NoneFreeBelow pieces p
+-- the lowest of these pieces that is free
+abbrev pub IsLowestFree : (ℕ → Bool) → List Piece → ℕ → Type 0
+IsLowestFree ours pieces p = (slice_get pieces p ≡ Some Free) × (ours p ≡ true) × NoneFreeBelow ours pieces p
+
+-- the piece is free, and it is of the part
+abbrev pub IsForTaking : BookView → ℕ → Type 0
+IsForTaking b piece = (slice_get b.pieces piece ≡ Some Free) × (ours b piece ≡ true)
 
 -- the nodes that are neither spent nor granted
 abbrev pub left_of : BookView → ℕ
 left_of b = b.nodes - (b.spent + granted b.pieces)
 
--- no piece can be handed out: none is free, or no node is left
+-- no piece can be handed out: none of the part is free, or no node is left
 abbrev pub HasNothing : BookView → Type 0
-HasNothing b = NoneFreeBelow b.pieces (length b.pieces) ⊎ (left_of b ≡ 0)
+HasNothing b = NoneFreeBelow (ours b) b.pieces (length b.pieces) ⊎ (left_of b ≡ 0)
 
--- a free piece is handed out: with its prefix, the value and the lesser of what was asked for and what is left
+-- a free piece of the part is handed out: with its prefix, the value and the lesser of what was asked for and what is left
 pub record IsGiven (old : BookView) (worker most : ℕ) (t : Given) (new : BookView) : Type 0 where
   pub free : slice_get old.pieces t.piece ≡ Some Free
+  pub own : ours old t.piece ≡ true
   pub place : slice_get old.prefixes t.piece ≡ Some t.prefix
   pub reached : IsReachedPrefix (line_by old.rules old.loads old.slots) old.order t.prefix
   pub value : t.value ≡ value_of old.best
@@ -44,22 +49,22 @@ pub record IsGiven (old : BookView) (worker most : ℕ) (t : Given) (new : BookV
   pub some : 1 ≤ t.grant
   pub book : new ≡ after_took old worker t.piece t.grant
 
--- what a worker who asks for so many nodes is answered: the lowest free piece; nothing yet, where a piece is taken; or that the search is done
+-- what a worker who asks for so many nodes is answered: the lowest free piece of the part; nothing yet, where a piece is taken; or that the search is done
 abbrev pub IsHandedOut : BookView → ℕ → ℕ → Handed → BookView → Type 0
-IsHandedOut old worker most (handed.Piece t) new = NoneFreeBelow old.pieces t.piece × IsGiven old worker most t new
+IsHandedOut old worker most (handed.Piece t) new = NoneFreeBelow (ours old) old.pieces t.piece × IsGiven old worker most t new
 IsHandedOut old worker most handed.Later new = HasNothing old × (0 < taken_count old.pieces) × (new ≡ old)
 IsHandedOut old worker most handed.Done new = HasNothing old × (taken_count old.pieces ≡ 0) × (new ≡ old)
 
--- what a worker who asks for one free piece is answered: that piece; or, where no node is left, nothing yet or that the search is done
+-- what a worker who asks for one free piece of the part is answered: that piece; or, where no node is left, nothing yet or that the search is done
 abbrev pub IsPieceHandedOut : BookView → ℕ → ℕ → ℕ → Handed → BookView → Type 0
 IsPieceHandedOut old worker piece most (handed.Piece t) new = (t.piece ≡ piece) × IsGiven old worker most t new
-IsPieceHandedOut old worker piece most handed.Later new = (slice_get old.pieces piece ≡ Some Free) × (left_of old ≡ 0) × (0 < taken_count old.pieces) × (new ≡ old)
-IsPieceHandedOut old worker piece most handed.Done new = (slice_get old.pieces piece ≡ Some Free) × (left_of old ≡ 0) × (taken_count old.pieces ≡ 0) × (new ≡ old)
+IsPieceHandedOut old worker piece most handed.Later new = IsForTaking old piece × (left_of old ≡ 0) × (0 < taken_count old.pieces) × (new ≡ old)
+IsPieceHandedOut old worker piece most handed.Done new = IsForTaking old piece × (left_of old ≡ 0) × (taken_count old.pieces ≡ 0) × (new ≡ old)
 
--- why one piece isn't handed out: it isn't free, else memory was refused
+-- why one piece isn't handed out: it isn't free or isn't of the part, else memory was refused
 abbrev pub IsPieceFault : BookView → ℕ → BookFault → Type 0
-IsPieceFault b piece fault.NotFree = slice_get b.pieces piece ≢ Some Free
-IsPieceFault b piece fault.OutOfMemory = slice_get b.pieces piece ≡ Some Free
+IsPieceFault b piece fault.NotFree = ¬ (IsForTaking b piece)
+IsPieceFault b piece fault.OutOfMemory = IsForTaking b piece
 IsPieceFault b piece _ = ⊥
 
 -- the piece isn't taken by anyone

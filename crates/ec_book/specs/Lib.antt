@@ -2,6 +2,7 @@ pub mod Steps
 pub mod Numbered
 pub mod Open
 pub mod Grown
+pub mod Parts
 pub mod Views
 pub mod Kept
 pub mod Faults

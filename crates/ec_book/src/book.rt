@@ -1,11 +1,12 @@
 //! The book.
 
-ghost use Rattle.std.specs.Prelude.{◌≡◌, ◌≢◌, ℕ, ◌==◌, IsTrue, MatchBool, ◌+◌, ◌<◌, ◌≤◌, ◌^◌, ◌++◌, ◌∷◌, [], IfOk, IfSome, IfErr, OnOk, OnErr, OnSome, IsSome, IfNone, ◌↔◌, MatchOption, None, Some, length, slice_get, replicate, drop, vec_capacity, vec_len};
+ghost use Rattle.std.specs.Prelude.{◌≡◌, ◌≢◌, ℕ, ◌==◌, true, IsTrue, MatchBool, ◌+◌, ◌<◌, ◌≤◌, ◌^◌, ◌++◌, ◌∷◌, [], IfOk, IfSome, IfErr, OnOk, OnErr, OnSome, IsSome, IfNone, ◌↔◌, MatchOption, None, Some, length, slice_get, replicate, drop, vec_capacity, vec_len};
 ghost use Rattle.ec_units.specs.Load.{loads_of};
 ghost use Rattle.ec_loads.specs.Held.{no_places};
 ghost use Rattle.ec_loads.specs.Line.{line_by};
 ghost use Rattle.ec_loads.specs.Shape.{open_leaf};
 ghost use Rattle.ec_loads.specs.Search.{IsPartialTree, open_count, node_count as node_count_of};
+ghost use Rattle.ec_cert.specs.Parts.{IsPart, whole as whole_spec};
 ghost use Rattle.ec_cert.specs.Shapes.{shape_of};
 ghost use Rattle.ec_symmetry.specs.Orders.{IsOrder, prefix_of};
 ghost use Rattle.ec_symmetry.specs.Ruled.{line_rules};
@@ -14,10 +15,11 @@ ghost use Rattle.ec_book.specs.Steps.{live_one, live_count, taken_count, IsHisto
 ghost use Rattle.ec_book.specs.Open.{open_places, AreOpened, IsAddedTo};
 ghost use Rattle.ec_cert.specs.BestPlan.{value_of, IsBestPlan};
 ghost use Rattle.ec_loads.specs.Legal.{IsIllegalBy};
-ghost use Rattle.ec_book.specs.Views.{book_view, state_of, opening, after_back, after_better, after_report};
+ghost use Rattle.ec_book.specs.Views.{book_view, ours as ours_of, state_of, opening, after_back, after_better, after_report};
 ghost use Rattle.ec_book.specs.Kept.{NoneFreeBelow};
-ghost use Rattle.ec_book.specs.Faults.{left_of, IsLowestFree, IsGiven, IsHandedOut, IsPieceHandedOut, IsPieceFault, IsHoldFault, IsBetterFault, IsOfferFault, IsPlanOf, IsReportFault, IsTakenBy, IsWelcome};
+ghost use Rattle.ec_book.specs.Faults.{left_of, IsForTaking, IsLowestFree, IsGiven, IsHandedOut, IsPieceHandedOut, IsPieceFault, IsHoldFault, IsBetterFault, IsOfferFault, IsPlanOf, IsReportFault, IsTakenBy, IsWelcome};
 ghost use Rattle.ec_book.specs.Steps.{IsBelow};
+ghost use Rattle.ec_book.specs.Parts.{is_of_part as is_of_part_spec};
 ghost use Rattle.ec_book.specs.Finishing.{IsFinishedOf};
 ghost use Rattle.ec_book.specs.declared.fault.BookFault.TheVariants.{OutOfMemory};
 ghost use Rattle.ec_book.specs.declared.taken.Taken.TheVariants.{Later, Done};
@@ -27,12 +29,13 @@ use crate::fault::BookFault;
 use crate::finish::{assembled, open_leaves};
 use crate::judge::{grant_of, judged};
 use crate::open::opened_by;
+use crate::ours::is_of_part;
 use crate::piece::Piece;
 use crate::plans::{not_below, plan_cost};
 use crate::report::Report;
 use crate::step::{Step, Steps};
 use crate::taken::{Taken, Took};
-use ec_cert::{Best, Cert, Subtree, Tree};
+use ec_cert::{Best, Cert, Part, Subtree, Tree};
 use ec_loads::{Illegal, Loads, Places, Plan};
 use ec_symmetry::Rules;
 use ec_units::{Load, Place, Units};
@@ -42,7 +45,8 @@ use std::marker::Model;
 /// The book of a search (own profile): its pieces by their numbers, the subtrees that were reported, the best plan
 /// so far, and a log of all that happened. At first the pieces are the open leaves of the tree that the search was
 /// given, in preorder from 0; a search that begins afresh was given an open leaf, so its piece 0 is the empty prefix.
-/// The open leaves of a reported subtree become pieces with the next numbers, in preorder.
+/// The open leaves of a reported subtree become pieces with the next numbers, in preorder. It hands out only pieces of
+/// its part: those open leaves of the given tree that the part has, and what comes of them.
 ///
 /// It keeps the allocator that it was made with. With each piece it makes room for the open leaf that this piece is where it
 /// doesn't end, so that the end of a search takes no memory.
@@ -64,6 +68,8 @@ pub struct Book {
     log: Vec<Step>,
     given: Tree,
     given_value: Option<u64>,
+    part: Part,
+    first: u64,
 }
 
 impl Model for Book {
@@ -80,9 +86,9 @@ impl Model for Book {
 
     ghost coded = { Prim.hlevel (codes, shape_code, rules_code) };
 
-    ghost view = { λ b. book_view b.loads.loads b.loads.slots b.order.items (line_rules b.rules) b.nodes b.pieces.items b.prefixes.items b.best b.spent b.log.items (shape_of b.given) b.given_value };
+    ghost view = { λ b. book_view b.loads.loads b.loads.slots b.order.items (line_rules b.rules) b.nodes b.pieces.items b.prefixes.items b.best b.spent b.log.items (shape_of b.given) b.given_value b.part };
 
-    ghost invariant = { λ b. IsKept b.loads b.order.items (line_rules b.rules) b.nodes b.pieces.items b.prefixes.items b.reports.items b.best b.spent b.held b.taken b.low b.log.items (shape_of b.given) b.given_value (vec_capacity b.log) b.leaves.items (vec_capacity b.leaves) };
+    ghost invariant = { λ b. IsKept b.loads b.order.items (line_rules b.rules) b.nodes b.pieces.items b.prefixes.items b.reports.items b.best b.spent b.held b.taken b.low b.log.items (shape_of b.given) b.given_value (vec_capacity b.log) b.leaves.items (vec_capacity b.leaves) b.part b.first };
 }
 
 /// A finished search: the best plan, if one is known, the tree that its reports make of the tree that it was given,
@@ -95,13 +101,23 @@ pub struct Finished {
     pub log: Steps,
 }
 
-/// The lowest free piece, where none below `low` is free.
-fn lowest_free(pieces: &[Piece], low: usize) -> Option<usize>
-    requires { NoneFreeBelow pieces.now low }
-    ensures { MatchOption result (NoneFreeBelow pieces.now (length pieces.now)) (IsLowestFree pieces.now) }
+/// Whether a piece with this number is free and of the part, where the first so many pieces are those of the given tree.
+fn is_for_taking(piece: Piece, part: Part, first: u64, number: u64) -> bool
+    requires { IsPart part }
+    ensures { IsTrue result ↔ ((piece ≡ Free) × (is_of_part_spec part first number ≡ true)) }
+{
+    piece == Piece::Free && is_of_part(part, first, number)
+}
+
+/// The lowest free piece of the part, where none below `low` is free and the first so many pieces are those of the given
+/// tree.
+fn lowest_free(pieces: &[Piece], part: Part, first: u64, low: usize) -> Option<usize>
+    requires part { IsPart part }
+    requires low { NoneFreeBelow (is_of_part_spec part first) pieces.now low }
+    ensures { MatchOption result (NoneFreeBelow (is_of_part_spec part first) pieces.now (length pieces.now)) (IsLowestFree (is_of_part_spec part first) pieces.now) }
 {
     for i in low..pieces.len() {
-        if pieces[i] == Piece::Free {
+        if is_for_taking(pieces[i], part, first, i as u64) {
             return Some(i);
         }
     }
@@ -189,7 +205,7 @@ fn add_free(pieces: &mut Vec<Piece>, count: usize)
 
 impl Book {
     /// A book for these units, this order of them and these rules, where at most so many nodes may be split or closed.
-    /// Piece 0, the empty prefix, is free.
+    /// Piece 0, the empty prefix, is free, and the part is the whole.
     pub fn new(
         alloc: Global,
         units: &Units,
@@ -198,7 +214,7 @@ impl Book {
         nodes: u64,
     ) -> Result<Book, AllocError>
         requires { IsOrder (length units.now.units) order.now }
-        ensures { IfOk result (λ b. b ≡ book_view (loads_of units.now.units) units.now.slots order.now (line_rules rules) nodes (Free ∷ []) ([] ∷ []) None 0 [] open_leaf None) }
+        ensures { IfOk result (λ b. b ≡ book_view (loads_of units.now.units) units.now.slots order.now (line_rules rules) nodes (Free ∷ []) ([] ∷ []) None 0 [] open_leaf None whole_spec) }
     {
         let order = Vec::from_slice(alloc, order)?;
         let mut pieces = Vec::new(alloc);
@@ -224,24 +240,28 @@ impl Book {
             log: Vec::new(alloc),
             given: Tree::OpenLeaf,
             given_value: None,
+            part: Part::whole(),
+            first: 1,
         })
     }
 
     /// A book that goes on, by these rules, with the tree of a certificate for these units, where at most so many nodes more
-    /// may be split or closed: its pieces are the open leaves of that tree, in preorder from 0, and its best plan is the
-    /// certificate's. Nothing of the certificate is copied.
+    /// may be split or closed: its pieces are the open leaves of that tree, in preorder from 0, of which it hands out those of
+    /// the part, and its best plan is the certificate's. Nothing of the certificate is copied.
     pub fn resume(
         alloc: Global,
         units: &Units,
         cert: Cert,
         rules: Rules,
+        part: Part,
         nodes: u64,
     ) -> Result<Book, AllocError>
+        requires part { IsPart part }
         requires order { IsOrder (length units.now.units) cert.order }
         requires best { IsBestPlan (loads_of units.now.units) units.now.slots cert.best }
         requires tree { IsPartialTree (line_by (line_rules rules) (loads_of units.now.units) units.now.slots) (value_of cert.best) (shape_of cert.tree) (no_places (loads_of units.now.units)) cert.order }
         ensures { IfOk result (λ b. b ≡ book_view (loads_of units.now.units) units.now.slots cert.order (line_rules rules) nodes (replicate (open_count (shape_of cert.tree)) Free)
-            (open_places (line_by (line_rules rules) (loads_of units.now.units) units.now.slots) cert.order (shape_of cert.tree) []) cert.best 0 [] (shape_of cert.tree) (value_of cert.best)) }
+            (open_places (line_by (line_rules rules) (loads_of units.now.units) units.now.slots) cert.order (shape_of cert.tree) []) cert.best 0 [] (shape_of cert.tree) (value_of cert.best) part) }
     {
         let Cert {
             order,
@@ -274,6 +294,8 @@ impl Book {
             log: Vec::new(alloc),
             given,
             given_value,
+            part,
+            first: count as u64,
         })
     }
 
@@ -295,19 +317,19 @@ impl Book {
         }
     }
 
-    /// The lowest free piece. Those below it aren't looked at again before one of them is given back.
+    /// The lowest free piece of the part. Those below it aren't looked at again before one of them is given back.
     fn lowest(&mut self) -> Option<usize>
         ensures same { self.new ≡ self.old }
-        ensures found { MatchOption result (NoneFreeBelow self.old.pieces (length self.old.pieces)) (IsLowestFree self.old.pieces) }
+        ensures found { MatchOption result (NoneFreeBelow (ours_of self.old) self.old.pieces (length self.old.pieces)) (IsLowestFree (ours_of self.old) self.old.pieces) }
     {
-        let found = lowest_free(self.pieces.as_slice(), self.low);
+        let found = lowest_free(self.pieces.as_slice(), self.part, self.first, self.low);
         self.low = found.unwrap_or(self.pieces.len());
         found
     }
 
-    /// Hands out a free piece, where a node is left.
+    /// Hands out a free piece of the part, where a node is left.
     fn hand_out(&mut self, at: usize, worker: usize, most: u32) -> Result<Took, BookFault>
-        requires free { slice_get self.old.pieces at ≡ Some Free }
+        requires free { IsForTaking self.old at }
         requires left { 0 < left_of self.old }
         requires some { 1 ≤ most }
         ensures ok { IfOk result (λ t. (t.piece ≡ at) × IsGiven self.old worker most t self.new) }
@@ -341,7 +363,7 @@ impl Book {
         })
     }
 
-    /// Hands out the lowest free piece, for at most `most` nodes.
+    /// Hands out the lowest free piece of the part, for at most `most` nodes.
     pub fn take(&mut self, worker: usize, most: u32) -> Result<Taken, BookFault>
         requires { 1 ≤ most }
         ensures ok { IfOk result (λ t. IsHandedOut self.old worker most t self.new) }
@@ -359,15 +381,15 @@ impl Book {
         }
     }
 
-    /// Whether there is such a piece and it is free.
+    /// Whether there is such a piece, it is free, and it is of the part.
     pub fn is_free(&self, piece: u64) -> bool
-        ensures { IsTrue result ↔ (slice_get self.now.pieces piece ≡ Some Free) }
+        ensures { IsTrue result ↔ IsForTaking self.now piece }
     {
         let at = piece as usize;
-        at < self.pieces.len() && self.pieces[at] == Piece::Free
+        at < self.pieces.len() && is_for_taking(self.pieces[at], self.part, self.first, piece)
     }
 
-    /// Hands out a piece by its number, where it is free, for at most `most` nodes.
+    /// Hands out a piece by its number, where it is free and of the part, for at most `most` nodes.
     pub fn take_piece(&mut self, worker: usize, piece: u64, most: u32) -> Result<Taken, BookFault>
         requires { 1 ≤ most }
         ensures ok { IfOk result (λ t. IsPieceHandedOut self.old worker piece most t self.new) }
@@ -585,6 +607,14 @@ impl Book {
         ensures { line_rules result ≡ self.now.rules }
     {
         self.rules
+    }
+
+    /// The part of the given tree's open leaves that it goes on with.
+    pub fn part(&self) -> Part
+        ensures value { result ≡ self.now.part }
+        ensures part { IsPart result }
+    {
+        self.part
     }
 
     /// The log: every step so far.

@@ -20,6 +20,6 @@ pub enum BookFault {
     Illegal(Illegal),
     /// The subtree's prefix isn't that of the piece.
     Stranger,
-    /// The piece isn't free, or there is no such piece.
+    /// The piece isn't free, is of another part, or there is no such piece.
     NotFree,
 }

@@ -12,7 +12,7 @@ pub fn histories_replay()
     ensures { HistoriesReplay }
 {}
 
-/// Where a worker is told that the search is done, no piece is left or all nodes are spent.
+/// Where a worker is told that the search is done, no piece of the part is left or all nodes are spent.
 pub fn done_is_spent()
     ensures { DoneIsSpent }
 {}

@@ -1,5 +1,6 @@
 pub mod BestPlan
 pub mod LeafKinds
+pub mod Parts
 pub mod Shapes
 pub mod Versions
 pub mod WellFormed

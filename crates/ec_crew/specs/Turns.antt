@@ -5,6 +5,7 @@ use Rattle.ec_loads.specs.Line.{Rules, line_by}
 use Rattle.ec_loads.specs.Search.{IsAtMost}
 use Rattle.ec_loads.specs.Shape.{Shape}
 use Rattle.ec_symmetry.specs.Orders.{IsReachedPrefix}
+use Rattle.ec_cert.specs.declared.part.Part.{Part}
 use Rattle.ec_cert.specs.BestPlan.{value_of}
 use Rattle.ec_book.specs.declared.step.Step.{Step}
 use Rattle.ec_book.specs.declared.taken.Taken.{Taken as Handed}
@@ -27,6 +28,6 @@ LeavesPiece steps piece (became.Again v) = Unit {0}
 LeavesPiece steps piece (became.Stopped e) = e ≢ ended.Refused → holds steps piece ≡ false
 
 -- where a piece is to be explored again, it is at the value of some book of the search, and that is above the value at which the leaves hold
-abbrev pub FindsValue : List Load → ℕ → List ℕ → Rules → Shape → Option ℕ → ℕ → Option ℕ → Turn → Type 0
-FindsValue loads n order rules given value nodes threshold (became.Again v) = HasBook loads n order rules given value nodes (λ b. (v ≡ value_of b.best) × (¬ (IsAtMost v threshold)))
-FindsValue loads n order rules given value nodes threshold _ = Unit {0}
+abbrev pub FindsValue : List Load → ℕ → List ℕ → Rules → Shape → Option ℕ → ℕ → Part → Option ℕ → Turn → Type 0
+FindsValue loads n order rules given value nodes part threshold (became.Again v) = HasBook loads n order rules given value nodes part (λ b. (v ≡ value_of b.best) × (¬ (IsAtMost v threshold)))
+FindsValue loads n order rules given value nodes part threshold _ = Unit {0}

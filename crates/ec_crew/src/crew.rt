@@ -2,6 +2,7 @@
 
 ghost use Rattle.std.specs.Prelude.{◌≡◌, ◌≢◌, ◌≤◌, IfOk, [], length, vec_len, vec_capacity, All};
 ghost use Rattle.ec_symmetry.specs.Orders.{IsOrder};
+ghost use Rattle.ec_cert.specs.Parts.{IsPart};
 ghost use Rattle.ec_book.specs.Books.{IsBookOf, BeganWith};
 ghost use Rattle.ec_seats.specs.Seats.{AreOf, IsOf};
 ghost use Rattle.ec_seats.specs.Closing.{IsJournal};
@@ -48,7 +49,7 @@ pub enum CrewFault {
 fn closed<S: Search>(shared: Shared<S>, seats: Vec<Seat<'_, '_, S>>, ended: Ended) -> Crewed
     requires count { vec_len seats ≡ S.parts }
     requires ours { All (λ s. IsOf S.loads S.slots S.order s) seats.items }
-    ensures closed { IsClosedFor S.loads S.slots S.order S.rules S.given S.given_value S.nodes result.finished }
+    ensures closed { IsClosedFor S.loads S.slots S.order S.rules S.given S.given_value S.nodes S.part result.finished }
     ensures journal { result.ended ≢ Refused → (result.ended ≡ ended) × IsJournal seats.entry.items result.finished.log }
 {
     match shared.close(seats) {
@@ -74,9 +75,12 @@ fn run_all<S: Search + Send + Sync, R: Threads + Wait + Sync, G: Gate + Sync>(
     handles: Vec<JoinHandle<Ended>>,
 ) -> Option<Ended>
     requires some { 1 ≤ length slots.now }
+    requires part { IsPart opening.part }
     requires empty { vec_len handles ≡ 0 }
     requires room { length slots.now ≤ vec_capacity handles }
 {
+    let part = opening.part;
+    let pieces = opening.pieces as u64;
     let seeded = seed(
         rt,
         alloc,
@@ -85,11 +89,11 @@ fn run_all<S: Search + Send + Sync, R: Threads + Wait + Sync, G: Gate + Sync>(
         opening,
         slots.len(),
     );
-    let (first, end) = left_free(slots[0].lock(rt).seat.receipts(), opening.pieces as u64);
+    let (first, end) = left_free(slots[0].lock(rt).seat.receipts(), part, pieces);
     if first >= end {
         return Some(seeded.unwrap_or(Ended::Done));
     }
-    deal(rt, slots, first, end);
+    deal(rt, slots, part, pieces, first, end);
     let others = match seeded {
         Some(_) => &slots[1..],
         None => slots,
@@ -153,13 +157,14 @@ fn search_on<S: Search + Send + Sync, R: Threads + Wait + Sync, G: Gate + Sync>(
     requires order { IsOrder (length units.now.units) order.now }
     requires search { AreOf S.loads S.slots S.order units.now.units units.now.slots order.now }
     requires book { IsBookOf units.now.units units.now.slots order.now S.rules book }
-    requires began { BeganWith S.given S.given_value S.nodes book }
+    requires began { BeganWith S.given S.given_value S.nodes S.part book }
     requires unused { book.log ≡ [] }
-    ensures { IfOk result (λ c. IsClosedFor S.loads S.slots S.order S.rules S.given S.given_value S.nodes c.finished) }
+    ensures { IfOk result (λ c. IsClosedFor S.loads S.slots S.order S.rules S.given S.given_value S.nodes S.part c.finished) }
 {
     let opening = Opening {
         value: book.value(),
         pieces: book.open_pieces(),
+        part: book.part(),
         first,
     };
     let Ok(
@@ -189,7 +194,7 @@ fn search_on<S: Search + Send + Sync, R: Threads + Wait + Sync, G: Gate + Sync>(
 /// Searches on a book on which nothing has happened, with 1 to 16 workers, each in a thread of its own. They begin at the
 /// value of the book, if it has one. Worker 0 first offers the plan that a search by the book's rules opens with, where
 /// `first` says so, and splits and closes
-/// single nodes until as many pieces are free as there are workers; the free pieces are then dealt to the workers in
+/// single nodes until as many pieces of the book's part are free as there are workers; the free pieces of that part are then dealt to the workers in
 /// turn. `gate` is told before each later node, and asked whether the time is over before each later piece. What the workers did comes back in the finished book, in whatever order
 /// they did it; a book that goes on with a tree was given that tree.
 pub fn search_by_crew<R: Threads + Wait + Sync, G: Gate + Sync>(
@@ -206,7 +211,7 @@ pub fn search_by_crew<R: Threads + Wait + Sync, G: Gate + Sync>(
     requires order { IsOrder (length units.now.units) order.now }
     requires book { IsBookOf units.now.units units.now.slots order.now book.rules book }
     requires unused { book.log ≡ [] }
-    ensures { IfOk result (λ c. IsCrewed units.now.units units.now.slots order.now book.rules book.given book.given_value book.nodes c.finished) }
+    ensures { IfOk result (λ c. IsCrewed units.now.units units.now.slots order.now book.rules book.given book.given_value book.nodes book.part c.finished) }
 {
     let blank = Blank::new(workers as u64);
     search_on::<Brand, R, G>(rt, alloc, blank, book, units, order, workers, first, gate)

@@ -196,7 +196,7 @@ impl<'u, 'o, 'b, S: Search> Post<'u, 'o, 'b, S> {
         requires plan { IsPlanOf S.loads S.slots best.plan.places best.busiest }
         ensures value { IfOk result (λ v. v ≤ best.busiest) }
         ensures known { IfOk result (λ v. ((v ≡ best.busiest) × (self.new.seat ≡ noted self.old.seat (Better self.old.seat.worker v)))
-            ⊎ (HasSeatBook self.old.seat S.rules S.given S.given_value S.nodes (λ b. value_of b.best ≡ Some v) × (self.new.seat ≡ self.old.seat))) }
+            ⊎ (HasSeatBook self.old.seat S.rules S.given S.given_value S.nodes S.part (λ b. value_of b.best ≡ Some v) × (self.new.seat ≡ self.old.seat))) }
         ensures ended { IfErr result (λ e. e ≢ Done) }
     {
         let busiest = best.busiest;

@@ -1,15 +1,17 @@
 //! What worker 0 does before the workers start.
 
 ghost use Rattle.std.specs.Prelude.{◌≡◌, ◌≢◌, ◌≤◌};
+ghost use Rattle.ec_cert.specs.Parts.{IsPart};
 
 use crate::ended::Ended;
 use crate::first::opening_plan;
 use crate::gate::Quiet;
 use crate::ground::{Ground, ground_of};
-use crate::pieces::opened;
+use crate::pieces::{opened, shared_out};
 use crate::post::Post;
 use crate::work::worked_off;
 use ec_book::Taken;
+use ec_cert::Part;
 use ec_seats::{Search, Shared};
 use std::alloc::Global;
 use std::sync::Wait;
@@ -21,6 +23,8 @@ pub(crate) struct Opening {
     pub(crate) value: Option<u64>,
     /// How many pieces are free in the book.
     pub(crate) pieces: usize,
+    /// The part of them that the search goes on with.
+    pub(crate) part: Part,
     /// Whether the plan that a search opens with is offered.
     pub(crate) first: bool,
 }
@@ -40,8 +44,8 @@ fn offered_first<S: Search, R: Wait>(
     post.offer(rt, shared, plan)
 }
 
-/// Splits or closes one node after another, each of the lowest free piece, on a book with so many free pieces, until as
-/// many are free as there are workers, or nothing can be handed out; why the worker ends, if it does. Nobody is told of
+/// Splits or closes one node after another, each of the lowest free piece, on a book with so many free pieces of the part,
+/// until as many are free as there are workers, or nothing can be handed out; why the worker ends, if it does. Nobody is told of
 /// these nodes.
 fn split_up<S: Search, R: Wait>(
     rt: &R,
@@ -82,7 +86,9 @@ pub(crate) fn seed<S: Search, R: Wait>(
     post: &mut Post<'_, '_, '_, S>,
     opening: Opening,
     workers: usize,
-) -> Option<Ended> {
+) -> Option<Ended>
+    requires { IsPart opening.part }
+{
     if let Some(value) = opening.value {
         post.lower(value);
     }
@@ -94,13 +100,6 @@ pub(crate) fn seed<S: Search, R: Wait>(
     let Ok(mut ground) = ground_of(alloc, post) else {
         return Some(Ended::Memory);
     };
-    split_up(
-        rt,
-        alloc,
-        shared,
-        post,
-        &mut ground,
-        opening.pieces,
-        workers,
-    )
+    let free = shared_out(opening.part, opening.pieces as u64);
+    split_up(rt, alloc, shared, post, &mut ground, free as usize, workers)
 }

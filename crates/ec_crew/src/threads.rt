@@ -1,6 +1,7 @@
 //! The threads of the workers.
 
 ghost use Rattle.std.specs.Prelude.{◌≡◌, ◌⊎◌, ◌+◌, ◌≤◌, ◌↔◌, All, vec_len, vec_capacity, length};
+ghost use Rattle.ec_cert.specs.Parts.{IsPart};
 ghost use Rattle.ec_seats.specs.Seats.{IsOf};
 ghost use Rattle.ec_tickets.specs.Lowest.{IsNewReader};
 ghost use Rattle.ec_crew.specs.declared.ended.Ended.TheVariants.{Done, Refused};
@@ -10,6 +11,8 @@ use crate::gate::Gate;
 use crate::post::Post;
 use crate::work::work;
 use crossbeam_utils::sync::EventCount;
+use ec_book::is_of_part;
+use ec_cert::Part;
 use ec_seats::{Search, Seat, Shared};
 use ec_tickets::{Bound, Reader, Tickets};
 use std::alloc::Global;
@@ -73,19 +76,25 @@ pub(crate) fn out_of_slots<'u, 'o, S: Search>(
     seats
 }
 
-/// Makes tickets of these pieces, from the first one up to, not including, `end`, in turn for the worker of each slot.
+/// Makes tickets of these pieces, from the first one up to, not including, `end`, in turn for the worker of each slot; of the
+/// first `pieces` of the book only those of the part.
 pub(crate) fn deal<S: Search, R: Wait>(
     rt: &R,
     slots: &[Mutex<Post<'_, '_, '_, S>>],
+    part: Part,
+    pieces: u64,
     first: u64,
     end: u64,
 )
-    requires { 1 ≤ length slots.now }
+    requires some { 1 ≤ length slots.now }
+    requires part { IsPart part }
 {
     let mut next = 0;
     for piece in first..end {
-        slots[next].lock(rt).push(piece);
-        next = if next + 1 < slots.len() { next + 1 } else { 0 };
+        if is_of_part(part, pieces, piece) {
+            slots[next].lock(rt).push(piece);
+            next = if next + 1 < slots.len() { next + 1 } else { 0 };
+        }
     }
 }
 

@@ -65,7 +65,7 @@ fn reported<S: Search, R: Wait>(
     requires tree { IsPartialTree (line_by S.rules S.loads S.slots) sub.threshold (shape_of sub.tree) (prefix_of S.loads S.order took.now.prefix) (drop (length took.now.prefix) S.order) }
     requires some { 0 < node_count (shape_of sub.tree) }
     ensures leaves { LeavesPiece post.new.seat.receipts took.now.piece result }
-    ensures again { FindsValue S.loads S.slots S.order S.rules S.given S.given_value S.nodes sub.threshold result }
+    ensures again { FindsValue S.loads S.slots S.order S.rules S.given S.given_value S.nodes S.part sub.threshold result }
 {
     match shared.report(rt, &mut post.seat, took.piece, took.prefix.as_slice(), sub) {
         Ok(()) => match stop {

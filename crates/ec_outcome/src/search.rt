@@ -15,6 +15,8 @@ pub enum Cut {
     Memory,
     /// The time for the search was over, and a leaf is still open.
     Time,
+    /// The leaves that are open are left to other parts.
+    Parts,
 }
 
 /// What comes of a search. Costs are in wire bytes.

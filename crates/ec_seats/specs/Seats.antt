@@ -8,6 +8,7 @@ use Rattle.ec_loads.specs.Line.{Rules, line_by}
 use Rattle.ec_loads.specs.Legal.{IsIllegalBy}
 use Rattle.ec_loads.specs.Search.{node_count}
 use Rattle.ec_loads.specs.Shape.{Shape}
+use Rattle.ec_cert.specs.declared.part.Part.{Part}
 use Rattle.ec_cert.specs.BestPlan.{value_of, IsBestPlan}
 use Rattle.ec_symmetry.specs.Orders.{IsOrder}
 use Rattle.ec_book.specs.declared.step.Step.{Step}
@@ -56,19 +57,19 @@ pub record IsFor (loads : List Load) (n : ℕ) (order : List ℕ) (rules : Rules
   pub order_is : b.order ≡ order
   pub rules_is : b.rules ≡ rules
 
--- some book for these, whose search was given this tree, this value and so many nodes, has it, with a legal history and with a best plan, if any, that is legal and costs what is
+-- some book for these, whose search was given this tree, this value, so many nodes and this part, has it, with a legal history and with a best plan, if any, that is legal and costs what is
 -- stated
-pub record HasBook (loads : List Load) (n : ℕ) (order : List ℕ) (rules : Rules) (given : Shape) (value : Option ℕ) (nodes : ℕ) (fact : BookView → Type 0) : Type 0 where
+pub record HasBook (loads : List Load) (n : ℕ) (order : List ℕ) (rules : Rules) (given : Shape) (value : Option ℕ) (nodes : ℕ) (part : Part) (fact : BookView → Type 0) : Type 0 where
   pub book : BookView
   pub for : IsFor loads n order rules book
-  pub began : BeganWith given value nodes book
+  pub began : BeganWith given value nodes part book
   pub history : IsHistory book.nodes (opening book) book.log (state_of book)
   pub best : IsBestPlan book.loads book.slots book.best
   pub has : fact book
 
 -- the same of the seat's units and order, and these rules
-abbrev pub HasSeatBook : SeatView → Rules → Shape → Option ℕ → ℕ → (BookView → Type 0) → Type 0
-HasSeatBook s rules given value nodes fact = HasBook (loads_of s.units) s.slots s.order rules given value nodes fact
+abbrev pub HasSeatBook : SeatView → Rules → Shape → Option ℕ → ℕ → Part → (BookView → Type 0) → Type 0
+HasSeatBook s rules given value nodes part fact = HasBook (loads_of s.units) s.slots s.order rules given value nodes part fact
 
 -- the seat with one more step
 abbrev pub noted : SeatView → Step → SeatView
@@ -91,9 +92,9 @@ abbrev pub IsSeatFault : Type 0 → (BookFault → Type 0) → BookFault → Typ
 IsSeatFault ours why e = (ours × why e) ⊎ ((¬ ours) × (e ≡ fault.Stranger))
 
 -- why a plan is refused from a seat: it isn't legal; else, of some book, it isn't better, or memory was refused
-abbrev pub IsSeatPlanFault : SeatView → Rules → Shape → Option ℕ → ℕ → List Place → BookFault → Type 0
-IsSeatPlanFault s rules given value nodes plan (fault.Illegal i) = IsIllegalBy (loads_of s.units) s.slots plan i
-IsSeatPlanFault s rules given value nodes plan e = (v : ℕ) × IsPlanOf (loads_of s.units) s.slots plan v × HasSeatBook s rules given value nodes (λ b. IsOfferFault (value_of b.best) v e)
+abbrev pub IsSeatPlanFault : SeatView → Rules → Shape → Option ℕ → ℕ → Part → List Place → BookFault → Type 0
+IsSeatPlanFault s rules given value nodes part plan (fault.Illegal i) = IsIllegalBy (loads_of s.units) s.slots plan i
+IsSeatPlanFault s rules given value nodes part plan e = (v : ℕ) × IsPlanOf (loads_of s.units) s.slots plan v × HasSeatBook s rules given value nodes part (λ b. IsOfferFault (value_of b.best) v e)
 
 -- why a piece isn't given back: it isn't the worker's by the book; or it is, and the worker doesn't hold it by its own steps
 abbrev pub IsBackFault : Bool → BookView → ℕ → ℕ → BookFault → Type 0

@@ -61,8 +61,8 @@ fn counted<S: Search>(locked: Locked<S>, seats: Vec<Seat<'_, '_, S>>) -> Book
 fn ended<S: Search>(locked: Locked<S>, seats: Vec<Seat<'_, '_, S>>) -> Result<Finished, CloseFault>
     requires count { vec_len seats ≡ S.parts }
     requires ours { All (λ s. IsOf S.loads S.slots S.order s) seats.items }
-    ensures ok { IfOk result (λ f. IsClosed S.loads S.slots S.order S.rules S.given S.given_value S.nodes seats.entry.items f × IsJournal seats.entry.items f.log) }
-    ensures err { IfErr result (IsCloseFault S.loads S.slots S.order S.rules S.given S.given_value S.nodes seats.entry.items) }
+    ensures ok { IfOk result (λ f. IsClosed S.loads S.slots S.order S.rules S.given S.given_value S.nodes S.part seats.entry.items f × IsJournal seats.entry.items f.log) }
+    ensures err { IfErr result (IsCloseFault S.loads S.slots S.order S.rules S.given S.given_value S.nodes S.part seats.entry.items) }
 {
     let is_right = is_journal(seats.as_slice(), locked.book.log());
     let Ok(finished) = counted(locked, seats).finish() else {
@@ -80,8 +80,8 @@ impl<S: Search> Shared<S> {
     /// proportion to the whole, and no memory.
     pub fn close(self, seats: Vec<Seat<'_, '_, S>>) -> Result<Finished, CloseFault>
         requires { vec_len seats ≡ S.parts }
-        ensures ok { IfOk result (λ f. IsClosed S.loads S.slots S.order S.rules S.given S.given_value S.nodes seats.entry.items f × IsJournal seats.entry.items f.log) }
-        ensures err { IfErr result (IsCloseFault S.loads S.slots S.order S.rules S.given S.given_value S.nodes seats.entry.items) }
+        ensures ok { IfOk result (λ f. IsClosed S.loads S.slots S.order S.rules S.given S.given_value S.nodes S.part seats.entry.items f × IsJournal seats.entry.items f.log) }
+        ensures err { IfErr result (IsCloseFault S.loads S.slots S.order S.rules S.given S.given_value S.nodes S.part seats.entry.items) }
     {
         let Shared {
             lock,

@@ -40,6 +40,7 @@ pub(crate) struct Locked<S: Search> {
     pub ghost given_is: { book.given ≡ S.given } by { Coded-set shape_code book.given S.given },
     pub ghost value_is: { book.given_value ≡ S.given_value } by { Prim.hlevel props },
     pub ghost nodes_is: { book.nodes ≡ S.nodes },
+    pub ghost part_is: { book.part ≡ S.part } by { Prim.hlevel props },
     pub ghost no_part: { spare.parts ≡ 0 },
     pub ghost no_amount: { spare.amount ≡ 0 },
 }
@@ -64,7 +65,7 @@ fn offer_fault(value: Option<u64>, busiest: u64) -> BookFault
 
 /// That the book is one for the search.
 fn know<S: Search>(locked: &Locked<S>)
-    ensures { HasBook S.loads S.slots S.order S.rules S.given S.given_value S.nodes (λ b. b ≡ locked.now.book) }
+    ensures { HasBook S.loads S.slots S.order S.rules S.given S.given_value S.nodes S.part (λ b. b ≡ locked.now.book) }
 {
     let _ = locked.book.log();
     let _ = locked.book.value();
@@ -76,7 +77,7 @@ impl<S: Search> Locked<S> {
         requires { 1 ≤ most }
         ensures book { IfOk result (λ t. IsHandedOut self.old.book worker most t self.new.book) }
         ensures left { OnErr result (self.new.book ≡ self.old.book) }
-        ensures some { IfOk result (λ t. HasBook S.loads S.slots S.order S.rules S.given S.given_value S.nodes (λ b. (n : BookView) × IsHandedOut b worker most t n)) }
+        ensures some { IfOk result (λ t. HasBook S.loads S.slots S.order S.rules S.given S.given_value S.nodes S.part (λ b. (n : BookView) × IsHandedOut b worker most t n)) }
         ensures err { IfErr result (λ e. e ≡ OutOfMemory) }
     {
         know(self);
@@ -98,8 +99,8 @@ impl<S: Search> Locked<S> {
         ensures book { IfOk result (λ t. IsPieceHandedOut self.old.book worker piece most t self.new.book) }
         ensures left { OnErr result (self.new.book ≡ self.old.book) }
         ensures room { OnOk result (room ≡ true) }
-        ensures some { IfOk result (λ t. HasBook S.loads S.slots S.order S.rules S.given S.given_value S.nodes (λ b. (n : BookView) × IsPieceHandedOut b worker piece most t n)) }
-        ensures err { IfErr result (λ e. HasBook S.loads S.slots S.order S.rules S.given S.given_value S.nodes (λ b. IsPieceFault b piece e)) }
+        ensures some { IfOk result (λ t. HasBook S.loads S.slots S.order S.rules S.given S.given_value S.nodes S.part (λ b. (n : BookView) × IsPieceHandedOut b worker piece most t n)) }
+        ensures err { IfErr result (λ e. HasBook S.loads S.slots S.order S.rules S.given S.given_value S.nodes S.part (λ b. IsPieceFault b piece e)) }
     {
         know(self);
         if !room {
@@ -125,8 +126,8 @@ impl<S: Search> Locked<S> {
         ensures book { OnOk result (self.new.book ≡ after_better self.old.book worker best) }
         ensures left { OnErr result (self.new.book ≡ self.old.book) }
         ensures room { OnOk result (room ≡ true) }
-        ensures below { OnOk result (HasBook S.loads S.slots S.order S.rules S.given S.given_value S.nodes (λ b. IsBelow best.busiest (value_of b.best))) }
-        ensures err { IfErr result (λ e. (e.1 ≡ best) × HasBook S.loads S.slots S.order S.rules S.given S.given_value S.nodes (λ b. IsOfferFault (value_of b.best) best.busiest e.0)) }
+        ensures below { OnOk result (HasBook S.loads S.slots S.order S.rules S.given S.given_value S.nodes S.part (λ b. IsBelow best.busiest (value_of b.best))) }
+        ensures err { IfErr result (λ e. (e.1 ≡ best) × HasBook S.loads S.slots S.order S.rules S.given S.given_value S.nodes S.part (λ b. IsOfferFault (value_of b.best) best.busiest e.0)) }
     {
         know(self);
         if !room {
@@ -143,8 +144,8 @@ impl<S: Search> Locked<S> {
         ensures book { OnOk result (self.new.book ≡ after_back self.old.book worker piece) }
         ensures left { OnErr result (self.new.book ≡ self.old.book) }
         ensures holds { OnOk result (holds ≡ true) }
-        ensures held { OnOk result (HasBook S.loads S.slots S.order S.rules S.given S.given_value S.nodes (λ b. (g : ℕ) × IsTakenBy b.pieces worker piece g)) }
-        ensures err { IfErr result (λ e. HasBook S.loads S.slots S.order S.rules S.given S.given_value S.nodes (λ b. IsBackFault holds b worker piece e)) }
+        ensures held { OnOk result (HasBook S.loads S.slots S.order S.rules S.given S.given_value S.nodes S.part (λ b. (g : ℕ) × IsTakenBy b.pieces worker piece g)) }
+        ensures err { IfErr result (λ e. HasBook S.loads S.slots S.order S.rules S.given S.given_value S.nodes S.part (λ b. IsBackFault holds b worker piece e)) }
     {
         know(self);
         if !holds {
@@ -176,11 +177,11 @@ impl<S: Search> Locked<S> {
         ensures left { OnErr result (self.new.book ≡ self.old.book) }
         ensures known { OnOk result (IsSome counted.opened) }
         ensures step { IfOk result (λ e. (first : ℕ) × (e ≡ Reported worker piece (node_count_of (shape_of counted.sub.tree)) first (length (open_places (line_by S.rules S.loads S.slots) S.order (shape_of counted.sub.tree) prefix.now)))) }
-        ensures welcome { OnOk result (HasBook S.loads S.slots S.order S.rules S.given S.given_value S.nodes (λ b. (g : ℕ) × IsWelcome b.pieces b.prefixes (value_of b.best) worker piece prefix.now counted.sub.threshold (node_count_of (shape_of counted.sub.tree)) g)) }
+        ensures welcome { OnOk result (HasBook S.loads S.slots S.order S.rules S.given S.given_value S.nodes S.part (λ b. (g : ℕ) × IsWelcome b.pieces b.prefixes (value_of b.best) worker piece prefix.now counted.sub.threshold (node_count_of (shape_of counted.sub.tree)) g)) }
         ensures amount { OnOk result (share.new.amount ≡ share.old.amount + node_count_of (shape_of counted.sub.tree)) }
         ensures kept { OnErr result (share.new.amount ≡ share.old.amount) }
         ensures parts { share.new.parts ≡ share.old.parts }
-        ensures some { HasBook S.loads S.slots S.order S.rules S.given S.given_value S.nodes (λ b. b ≡ self.old.book) }
+        ensures some { HasBook S.loads S.slots S.order S.rules S.given S.given_value S.nodes S.part (λ b. b ≡ self.old.book) }
         ensures err { IfErr result (λ e. (e.1.sub ≡ counted.sub) × IsReportFault self.old.book.pieces self.old.book.prefixes (value_of self.old.book.best) worker piece prefix.now counted.sub.threshold (node_count_of (shape_of counted.sub.tree)) e.0) }
     {
         know(self);

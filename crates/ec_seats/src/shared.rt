@@ -65,7 +65,7 @@ impl<S: Search> Shared<S> {
         requires order { IsOrder (length units.now.units) order.now }
         requires search { AreOf S.loads S.slots S.order units.now.units units.now.slots order.now }
         requires book { IsBookOf units.now.units units.now.slots order.now S.rules book }
-        requires began { BeganWith S.given S.given_value S.nodes book }
+        requires began { BeganWith S.given S.given_value S.nodes S.part book }
         requires unused { book.log ≡ [] }
         ensures count { IfOk result (λ r. vec_len r.1 ≡ seats) }
         ensures seats { IfOk result (λ r. r.1.items ≡ first_seats units.now.units units.now.slots order.now seats) }
@@ -129,7 +129,7 @@ impl<S: Search> Shared<S> {
         )
     }
 
-    /// Hands out the lowest free piece, for at most `most` nodes.
+    /// Hands out the lowest free piece of the book's part, for at most `most` nodes.
     pub fn take<R: Wait>(
         &self,
         rt: &R,
@@ -138,7 +138,7 @@ impl<S: Search> Shared<S> {
     ) -> Result<Taken, BookFault>
         requires { 1 ≤ most }
         ensures ours { OnOk result (IsOf S.loads S.slots S.order seat.old) }
-        ensures took { IfOk result (λ t. HasSeatBook seat.old S.rules S.given S.given_value S.nodes (λ b. (n : BookView) × IsHandedOut b seat.old.worker most t n)) }
+        ensures took { IfOk result (λ t. HasSeatBook seat.old S.rules S.given S.given_value S.nodes S.part (λ b. (n : BookView) × IsHandedOut b seat.old.worker most t n)) }
         ensures made { IfOk result (λ t. seat.new ≡ after_taken seat.old t) }
         ensures err { IfErr result (λ e. IsSeatFault (IsOf S.loads S.slots S.order seat.old) (λ f. f ≡ OutOfMemory) e × (seat.new ≡ seat.old)) }
     {
@@ -158,7 +158,7 @@ impl<S: Search> Shared<S> {
         }
     }
 
-    /// Hands out a piece by its number, where it is free, for at most `most` nodes.
+    /// Hands out a piece by its number, where it is free and of the book's part, for at most `most` nodes.
     pub fn take_piece<R: Wait>(
         &self,
         rt: &R,
@@ -168,9 +168,9 @@ impl<S: Search> Shared<S> {
     ) -> Result<Taken, BookFault>
         requires { 1 ≤ most }
         ensures ours { OnOk result (IsOf S.loads S.slots S.order seat.old) }
-        ensures took { IfOk result (λ t. HasSeatBook seat.old S.rules S.given S.given_value S.nodes (λ b. (n : BookView) × IsPieceHandedOut b seat.old.worker piece most t n)) }
+        ensures took { IfOk result (λ t. HasSeatBook seat.old S.rules S.given S.given_value S.nodes S.part (λ b. (n : BookView) × IsPieceHandedOut b seat.old.worker piece most t n)) }
         ensures made { IfOk result (λ t. seat.new ≡ after_taken seat.old t) }
-        ensures err { IfErr result (λ e. IsSeatFault (IsOf S.loads S.slots S.order seat.old) (λ f. HasSeatBook seat.old S.rules S.given S.given_value S.nodes (λ b. IsPieceFault b piece f)) e × (seat.new ≡ seat.old)) }
+        ensures err { IfErr result (λ e. IsSeatFault (IsOf S.loads S.slots S.order seat.old) (λ f. HasSeatBook seat.old S.rules S.given S.given_value S.nodes S.part (λ b. IsPieceFault b piece f)) e × (seat.new ≡ seat.old)) }
     {
         if !self.is_for(seat) {
             return Err(BookFault::Stranger);
@@ -198,8 +198,8 @@ impl<S: Search> Shared<S> {
     ) -> Result<(), (BookFault, Plan)>
         ensures ours { OnOk result (IsOf S.loads S.slots S.order seat.old) }
         ensures made { OnOk result ((v : ℕ) × IsPlanOf (loads_of seat.old.units) seat.old.slots plan.places v
-            × HasSeatBook seat.old S.rules S.given S.given_value S.nodes (λ b. IsBelow v (value_of b.best)) × (seat.new ≡ noted seat.old (Better seat.old.worker v))) }
-        ensures err { IfErr result (λ e. IsSeatFault (IsOf S.loads S.slots S.order seat.old) (IsSeatPlanFault seat.old S.rules S.given S.given_value S.nodes plan.places) e.0 × (e.1 ≡ plan) × (seat.new ≡ seat.old)) }
+            × HasSeatBook seat.old S.rules S.given S.given_value S.nodes S.part (λ b. IsBelow v (value_of b.best)) × (seat.new ≡ noted seat.old (Better seat.old.worker v))) }
+        ensures err { IfErr result (λ e. IsSeatFault (IsOf S.loads S.slots S.order seat.old) (IsSeatPlanFault seat.old S.rules S.given S.given_value S.nodes S.part plan.places) e.0 × (e.1 ≡ plan) × (seat.new ≡ seat.old)) }
     {
         if !self.is_for(seat) {
             return Err((BookFault::Stranger, plan));
@@ -224,9 +224,9 @@ impl<S: Search> Shared<S> {
     ) -> Result<(), (BookFault, Best)>
         requires plan { IsPlanOf (loads_of seat.old.units) seat.old.slots best.plan.places best.busiest }
         ensures ours { OnOk result (IsOf S.loads S.slots S.order seat.old) }
-        ensures below { OnOk result (HasSeatBook seat.old S.rules S.given S.given_value S.nodes (λ b. IsBelow best.busiest (value_of b.best))) }
+        ensures below { OnOk result (HasSeatBook seat.old S.rules S.given S.given_value S.nodes S.part (λ b. IsBelow best.busiest (value_of b.best))) }
         ensures made { OnOk result (seat.new ≡ noted seat.old (Better seat.old.worker best.busiest)) }
-        ensures err { IfErr result (λ e. IsSeatFault (IsOf S.loads S.slots S.order seat.old) (λ f. HasSeatBook seat.old S.rules S.given S.given_value S.nodes (λ b. IsOfferFault (value_of b.best) best.busiest f)) e.0 × (e.1 ≡ best) × (seat.new ≡ seat.old)) }
+        ensures err { IfErr result (λ e. IsSeatFault (IsOf S.loads S.slots S.order seat.old) (λ f. HasSeatBook seat.old S.rules S.given S.given_value S.nodes S.part (λ b. IsOfferFault (value_of b.best) best.busiest f)) e.0 × (e.1 ≡ best) × (seat.new ≡ seat.old)) }
     {
         if !self.is_for(seat) {
             return Err((BookFault::Stranger, best));
@@ -252,9 +252,9 @@ impl<S: Search> Shared<S> {
         piece: u64,
     ) -> Result<(), BookFault>
         ensures ours { OnOk result (IsOf S.loads S.slots S.order seat.old) }
-        ensures held { OnOk result (HasSeatBook seat.old S.rules S.given S.given_value S.nodes (λ b. (g : ℕ) × IsTakenBy b.pieces seat.old.worker piece g)) }
+        ensures held { OnOk result (HasSeatBook seat.old S.rules S.given S.given_value S.nodes S.part (λ b. (g : ℕ) × IsTakenBy b.pieces seat.old.worker piece g)) }
         ensures made { OnOk result (seat.new ≡ noted seat.old (Back seat.old.worker piece)) }
-        ensures err { IfErr result (λ e. IsSeatFault (IsOf S.loads S.slots S.order seat.old) (λ f. HasSeatBook seat.old S.rules S.given S.given_value S.nodes (λ b. IsBackFault (holds seat.old.receipts piece) b seat.old.worker piece f)) e × (seat.new ≡ seat.old)) }
+        ensures err { IfErr result (λ e. IsSeatFault (IsOf S.loads S.slots S.order seat.old) (λ f. HasSeatBook seat.old S.rules S.given S.given_value S.nodes S.part (λ b. IsBackFault (holds seat.old.receipts piece) b seat.old.worker piece f)) e × (seat.new ≡ seat.old)) }
     {
         if !self.is_for(seat) {
             return Err(BookFault::Stranger);
@@ -305,9 +305,9 @@ impl<S: Search> Shared<S> {
         requires tree { IsPartialTree (line_by S.rules (loads_of seat.old.units) seat.old.slots) sub.threshold (shape_of sub.tree) (prefix_of (loads_of seat.old.units) seat.old.order prefix.now) (drop (length prefix.now) seat.old.order) }
         requires some { 0 < node_count_of (shape_of sub.tree) }
         ensures ours { OnOk result (IsOf S.loads S.slots S.order seat.old) }
-        ensures welcome { OnOk result (HasSeatBook seat.old S.rules S.given S.given_value S.nodes (λ b. (g : ℕ) × IsWelcome b.pieces b.prefixes (value_of b.best) seat.old.worker piece prefix.now sub.threshold (node_count_of (shape_of sub.tree)) g)) }
+        ensures welcome { OnOk result (HasSeatBook seat.old S.rules S.given S.given_value S.nodes S.part (λ b. (g : ℕ) × IsWelcome b.pieces b.prefixes (value_of b.best) seat.old.worker piece prefix.now sub.threshold (node_count_of (shape_of sub.tree)) g)) }
         ensures made { OnOk result (IsReported seat.old S.rules piece prefix.now (shape_of sub.tree) seat.new) }
-        ensures err { IfErr result (λ e. IsSeatFault (IsOf S.loads S.slots S.order seat.old) (λ f. HasSeatBook seat.old S.rules S.given S.given_value S.nodes (λ b. IsReportFault b.pieces b.prefixes (value_of b.best) seat.old.worker piece prefix.now sub.threshold (node_count_of (shape_of sub.tree)) f)) e.0 × (e.1 ≡ sub) × (seat.new ≡ seat.old)) }
+        ensures err { IfErr result (λ e. IsSeatFault (IsOf S.loads S.slots S.order seat.old) (λ f. HasSeatBook seat.old S.rules S.given S.given_value S.nodes S.part (λ b. IsReportFault b.pieces b.prefixes (value_of b.best) seat.old.worker piece prefix.now sub.threshold (node_count_of (shape_of sub.tree)) f)) e.0 × (e.1 ≡ sub) × (seat.new ≡ seat.old)) }
     {
         if !self.is_for(seat) {
             return Err((BookFault::Stranger, sub));

@@ -14,6 +14,7 @@ use Rattle.ec_loads.specs.Shape.{Shape}
 use Rattle.ec_loads.specs.Search.{BoundsAll, HasNoPlan, IsPartialTree, IsAtMost, node_count, open_count}
 use Rattle.ec_cert.specs.declared.lists.UnitLine.{UnitLine}
 use Rattle.ec_cert.specs.declared.cert.Best.{Best}
+use Rattle.ec_cert.specs.declared.part.Part.{Part}
 use Rattle.ec_cert.specs.BestPlan.{value_of, IsBestPlan}
 use Rattle.ec_cert.specs.Shapes.{CertView, shape_of}
 use Rattle.ec_tree.specs.Trees.{TreesBound}
@@ -30,6 +31,7 @@ use Rattle.ec_outcome.specs.declared.search.SolveFault.{SolveFault}
 use Rattle.ec_book.specs.Views.{BookView}
 use Rattle.ec_book.specs.Books.{IsBookOf}
 use Rattle.ec_book.specs.Finishing.{GrowsFrom, IsFinishedOf}
+use Rattle.ec_book.specs.Parts.{LeavesOthers}
 use Rattle.ec_book.specs.declared.book.Finished.{Finished}
 use Rattle.ec_crew.specs.Crews.{IsCrewed}
 use Rattle.std.specs.Prelude.{nat_lt, true, false}
@@ -93,30 +95,32 @@ fits us n best b room h is most =
     let some : IsBestPlan (loads_of us) n (Some b) = subst (IsBestPlan (loads_of us) n) is h in
     omega (arith, some.0.whole, length-map us load_of, most)
 
-cut-among : (strong : Bool) (workers nodes : ℕ) (given t : Shape) (why : Cut) → IsCut (asked_beyond strong 1 nodes given) t why → IsCut (asked_beyond strong workers nodes given) t why
-cut-among strong workers nodes given t cut.Journal h = absurd (omega (arith, h))
-cut-among strong workers nodes given t cut.Budget h = h
-cut-among strong workers nodes given t cut.Memory h = h
-cut-among strong workers nodes given t cut.Time h = h
+cut-among : (strong : Bool) (workers nodes : ℕ) (given : Shape) (parts : ℕ) (t : Shape) (why : Cut) → IsCut (asked_beyond strong 1 nodes given parts) t why → IsCut (asked_beyond strong workers nodes given parts) t why
+cut-among strong workers nodes given parts t cut.Journal h = absurd (omega (arith, h))
+cut-among strong workers nodes given parts t cut.Budget h = h
+cut-among strong workers nodes given parts t cut.Memory h = h
+cut-among strong workers nodes given parts t cut.Time h = h
+cut-among strong workers nodes given parts t cut.Parts h = h
 
 -- what one worker answers is an answer of as many as were asked for
-pub among : (us : List SyncUnit) (n : ℕ) (strong : Bool) (workers nodes : ℕ) (given : Shape) (o : Outcome) → IsOutcome us n (asked_beyond strong 1 nodes given) o → IsOutcome us n (asked_beyond strong workers nodes given) o
-among us n strong workers nodes given (outcome.Optimal plan b cert) h = h
-among us n strong workers nodes given (outcome.NoPlan cert) h = h
-among us n strong workers nodes given (outcome.Unproved best order tree by why) h =
-    record { rules_is = h.rules_is; order_is = h.order_is; best_is = h.best_is; tree_is = h.tree_is; cut_is = cut-among strong workers nodes given (shape_of tree) why h.cut_is }
+pub among : (us : List SyncUnit) (n : ℕ) (strong : Bool) (workers nodes : ℕ) (given : Shape) (parts : ℕ) (o : Outcome) → IsOutcome us n (asked_beyond strong 1 nodes given parts) o → IsOutcome us n (asked_beyond strong workers nodes given parts) o
+among us n strong workers nodes given parts (outcome.Optimal plan b cert) h = h
+among us n strong workers nodes given parts (outcome.NoPlan cert) h = h
+among us n strong workers nodes given parts (outcome.Unproved best order tree by why) h =
+    record { rules_is = h.rules_is; order_is = h.order_is; best_is = h.best_is; tree_is = h.tree_is; cut_is = cut-among strong workers nodes given parts (shape_of tree) why h.cut_is }
 
-pub all_among : (us : List SyncUnit) (n : ℕ) (strong : Bool) (workers nodes : ℕ) (given : Shape) (r : Result Outcome SolveFault) → IfOk r (IsOutcome us n (asked_beyond strong 1 nodes given)) → IfOk r (IsOutcome us n (asked_beyond strong workers nodes given))
-all_among us n strong workers nodes given (Ok o) h = among us n strong workers nodes given o h
-all_among us n strong workers nodes given (Err e) h = tt
+pub all_among : (us : List SyncUnit) (n : ℕ) (strong : Bool) (workers nodes : ℕ) (given : Shape) (parts : ℕ) (r : Result Outcome SolveFault) → IfOk r (IsOutcome us n (asked_beyond strong 1 nodes given parts)) → IfOk r (IsOutcome us n (asked_beyond strong workers nodes given parts))
+all_among us n strong workers nodes given parts (Ok o) h = among us n strong workers nodes given parts o h
+all_among us n strong workers nodes given parts (Err e) h = tt
 
 -- why a search of which a leaf is open was cut, by the nodes that it spent
-pub cut-of : (strong : Bool) (workers nodes spent : ℕ) (given tree : Shape) (why : Cut) → (why ≡ cut.Budget → spent ≡ nodes) → (why ≡ cut.Memory → spent ≢ nodes) → (why ≡ cut.Time → spent ≢ nodes) → (why ≡ cut.Journal → 1 < workers)
-    → node_count tree ≡ node_count given + spent → 0 < open_count tree → IsCut (asked_beyond strong workers nodes given) tree why
-cut-of strong workers nodes spent given tree cut.Journal budget memory time journal is some = journal refl
-cut-of strong workers nodes spent given tree cut.Budget budget memory time journal is some = let all = budget refl in (omega (arith, is, all), some)
-cut-of strong workers nodes spent given tree cut.Memory budget memory time journal is some = (λ all. memory refl (omega (arith, is, all)), some)
-cut-of strong workers nodes spent given tree cut.Time budget memory time journal is some = (λ all. time refl (omega (arith, is, all)), some)
+pub cut-of : (strong : Bool) (workers nodes spent : ℕ) (given tree : Shape) (parts : ℕ) (why : Cut) → (why ≡ cut.Budget → spent ≡ nodes) → (why ≡ cut.Memory → spent ≢ nodes) → (why ≡ cut.Time → spent ≢ nodes) → (why ≡ cut.Parts → (1 < parts) × (spent ≢ nodes))
+    → (why ≡ cut.Journal → 1 < workers) → node_count tree ≡ node_count given + spent → 0 < open_count tree → IsCut (asked_beyond strong workers nodes given parts) tree why
+cut-of strong workers nodes spent given tree parts cut.Journal budget memory time shared journal is some = journal refl
+cut-of strong workers nodes spent given tree parts cut.Budget budget memory time shared journal is some = let all = budget refl in (omega (arith, is, all), some)
+cut-of strong workers nodes spent given tree parts cut.Memory budget memory time shared journal is some = (λ all. memory refl (omega (arith, is, all)), some)
+cut-of strong workers nodes spent given tree parts cut.Time budget memory time shared journal is some = (λ all. time refl (omega (arith, is, all)), some)
+cut-of strong workers nodes spent given tree parts cut.Parts budget memory time shared journal is some = let other = shared refl in (other.0, λ all. other.1 (omega (arith, is, all)), some)
 
 -- what a finished book gives of which a leaf is open
 pub unproved-of : (us : List SyncUnit) (n : ℕ) (asked : Asked) (order : List ℕ) (b : BookView) (f : Finished) (why : Cut) → IsOrder (length us) order → IsBookOf us n order (searched_by asked.strong) b → IsFinishedOf b f → IsCut asked (shape_of f.tree) why
@@ -145,16 +149,24 @@ beyond b f nodes o is nodes_is tree value =
       within = subst (λ t. node_count t ≤ node_count b.given + nodes) (sym tree) (let all = is.nodes in let spent = is.spent in let most = is.within in omega (arith, all, spent, most, nodes_is));
     }
 
+-- and leaves the open leaves of the other parts open
+pub others-of : (b : BookView) (f : Finished) (o : Outcome) → IsFinishedOf b f → tree_in o ≡ shape_of f.tree → LeavesOthers b.part b.given (tree_in o)
+others-of b f o is tree = subst (LeavesOthers b.part b.given) (sym tree) is.others
+
 -- the same of what several workers made
-pub crew-beyond : (us : List SyncUnit) (n : ℕ) (order : List ℕ) (rules : Rules) (given : Shape) (value : Option ℕ) (nodes : ℕ) (f : Finished) (o : Outcome) → IsCrewed us n order rules given value nodes f → tree_in o ≡ shape_of f.tree → value_in o ≡ value_of f.best → GoesBeyond given value nodes o
-crew-beyond us n order rules given value nodes f o (b, of, began, is) tree value_is =
+pub crew-others : (us : List SyncUnit) (n : ℕ) (order : List ℕ) (rules : Rules) (given : Shape) (value : Option ℕ) (nodes : ℕ) (part : Part) (f : Finished) (o : Outcome) → IsCrewed us n order rules given value nodes part f → tree_in o ≡ shape_of f.tree → LeavesOthers part given (tree_in o)
+crew-others us n order rules given value nodes part f o (b, of, began, is) tree =
+    subst (λ g. LeavesOthers part g (tree_in o)) began.given_is (subst (λ p. LeavesOthers p b.given (tree_in o)) began.part_is (others-of b f o is tree))
+
+pub crew-beyond : (us : List SyncUnit) (n : ℕ) (order : List ℕ) (rules : Rules) (given : Shape) (value : Option ℕ) (nodes : ℕ) (part : Part) (f : Finished) (o : Outcome) → IsCrewed us n order rules given value nodes part f → tree_in o ≡ shape_of f.tree → value_in o ≡ value_of f.best → GoesBeyond given value nodes o
+crew-beyond us n order rules given value nodes part f o (b, of, began, is) tree value_is =
     subst (λ g. GoesBeyond g value nodes o) began.given_is
     (subst (λ v. GoesBeyond b.given v nodes o) began.value_is (beyond b f nodes o is began.nodes_is tree value_is))
 
-pub crew-unproved : (us : List SyncUnit) (n : ℕ) (strong : Bool) (workers nodes : ℕ) (order : List ℕ) (given : Shape) (value : Option ℕ) (f : Finished) (why : Cut) → IsOrder (length us) order → IsCrewed us n order (searched_by strong) given value nodes f
-    → (node_count (shape_of f.tree) ≡ node_count given + f.spent → IsCut (asked_beyond strong workers nodes given) (shape_of f.tree) why) → IsUnproved us n (asked_beyond strong workers nodes given) f.best order (shape_of f.tree) strong why
-crew-unproved us n strong workers nodes order given value f why order_is h cut_is =
-    unproved-of us n (asked_beyond strong workers nodes given) order h.0 f why order_is h.1 h.3 (cut_is (crewed-nodes us n order (searched_by strong) given value nodes f h))
+pub crew-unproved : (us : List SyncUnit) (n : ℕ) (strong : Bool) (workers nodes : ℕ) (order : List ℕ) (given : Shape) (value : Option ℕ) (part : Part) (f : Finished) (why : Cut) → IsOrder (length us) order → IsCrewed us n order (searched_by strong) given value nodes part f
+    → (node_count (shape_of f.tree) ≡ node_count given + f.spent → IsCut (asked_beyond strong workers nodes given part.count) (shape_of f.tree) why) → IsUnproved us n (asked_beyond strong workers nodes given part.count) f.best order (shape_of f.tree) strong why
+crew-unproved us n strong workers nodes order given value part f why order_is h cut_is =
+    unproved-of us n (asked_beyond strong workers nodes given part.count) order h.0 f why order_is h.1 h.3 (cut_is (crewed-nodes us n order (searched_by strong) given value nodes part f h))
 
 -- the certificate of a search that ended without a proof, whose lines are those of the units
 pub unfinished : FaultsRefute → (us : Units) (strong : Bool) (order : List ℕ) (best : Option Best) (tree : Shape) (level : ℕ) (lines : List UnitLine) → IsOrder (length us.units) order → IsBestPlan (loads_of us.units) us.slots best

@@ -1,7 +1,7 @@
 -- A certificate that a search can go on with is of version 3 or 4, and its tree is a partial one; what is made of it has its nodes.
 use Rattle.std.proofs.Common.{◌≡◌, ℕ, ◌+◌, ◌<◌, ◌≤◌, nat_lt, if◌then◌else◌, Bool, true, false, refl, ◌∙◌, All, List, length, Option, Some, None, Result, Ok, Err, IfOk, subst, sym, ap, arith}
 use Rattle.std.proofs.lemmas.List.{length-map}
-use Rattle.std.proofs.lemmas.Bool.{lt-ltb, ltb-true}
+use Rattle.std.proofs.lemmas.Bool.{lt-ltb}
 use Rattle.ec_units.specs.declared.slave.Place.{Place}
 use Rattle.ec_units.specs.declared.unit.Load.{Load}
 use Rattle.ec_units.specs.declared.unit.Unit.{Unit as SyncUnit}
@@ -17,6 +17,7 @@ use Rattle.ec_bounds.proofs.LeftLemmas.{some_same}
 use Rattle.ec_symmetry.specs.Orders.{IsOrder}
 use Rattle.ec_tree.specs.Trees.{LevelsBound}
 use Rattle.ec_cert.specs.declared.cert.Best.{Best}
+use Rattle.ec_cert.specs.declared.part.Part.{Part}
 use Rattle.ec_cert.specs.BestPlan.{value_of, IsBestPlan}
 use Rattle.ec_cert.specs.Shapes.{CertView, shape_of}
 use Rattle.ec_cert.specs.Versions.{rules_of}
@@ -71,8 +72,8 @@ bounded law us n c l p is =
     (subst (λ k. IsOrder k c.order) (sym (length-map us load_of)) p.certified.head.order) (shows_level us n c (at_level us n c l p is))
 
 -- what several workers made of a tree has its nodes and those that they split and closed
-pub crewed-nodes : (us : List SyncUnit) (n : ℕ) (order : List ℕ) (rules : Rules) (given : Shape) (value : Option ℕ) (nodes : ℕ) (f : Finished) → IsCrewed us n order rules given value nodes f → node_count (shape_of f.tree) ≡ node_count given + f.spent
-crewed-nodes us n order rules given value nodes f (b, of, began, is) =
+pub crewed-nodes : (us : List SyncUnit) (n : ℕ) (order : List ℕ) (rules : Rules) (given : Shape) (value : Option ℕ) (nodes : ℕ) (part : Part) (f : Finished) → IsCrewed us n order rules given value nodes part f → node_count (shape_of f.tree) ≡ node_count given + f.spent
+crewed-nodes us n order rules given value nodes part f (b, of, began, is) =
     let all = is.nodes in
     let spent = is.spent in
     let given_is : node_count b.given ≡ node_count given = ap node_count began.given_is in

@@ -71,10 +71,10 @@ demand-set (l ∷ ls) (Some q ∷ ps) zero p h lt free_at = absurd (some_none fr
 demand-set (l ∷ ls) (None ∷ ps) (suc u) p h lt free_at = shift (l.bytes * (h / l.period)) (demand ls ps h) (demand ls (set ps u (Some p)) h) ((get_or ls u nobody).bytes * (h / (get_or ls u nobody).period)) (demand-set ls ps u p h (omega (arith, lt)) free_at)
 demand-set (l ∷ ls) (Some q ∷ ps) (suc u) p h lt free_at = demand-set ls ps u p h (omega (arith, lt)) free_at
 
-abbrev AreIn : ℕ → List Load → Prefix → Type 0
+abbrev pub AreIn : ℕ → List Load → Prefix → Type 0
 AreIn n ls ps = All (λ x. x.slot < n) (items ls ps)
 
-slots-set : (n : ℕ) (ls : List Load) (ps : Prefix) (u : ℕ) (p : Place) → slice_get ps u ≡ Some None → p.slot < n → AreIn n ls ps → AreIn n ls (set ps u (Some p))
+pub slots-set : (n : ℕ) (ls : List Load) (ps : Prefix) (u : ℕ) (p : Place) → slice_get ps u ≡ Some None → p.slot < n → AreIn n ls ps → AreIn n ls (set ps u (Some p))
 slots-set n [] ps u p h low all = All-nil (λ (x : Item). x.slot < n)
 slots-set n (l ∷ ls) [] u p h low all = absurd (none_place h)
 slots-set n (l ∷ ls) (None ∷ ps) zero p h low all = All-cons (λ (x : Item). x.slot < n) (item l p) (items ls ps) low all
@@ -174,10 +174,10 @@ abbrev AnyLeaf : Prefix → List ℕ → Type 0
 AnyLeaf _ _ = Unit {0}
 
 -- the places are children
-abbrev AreChildren : Line → ℕ → List Place → Type 0
+abbrev pub AreChildren : Line → ℕ → List Place → Type 0
 AreChildren line u places = (q : Place) → In q places → (q.phase < (get_or line.loads u nobody).period) × (q.slot < line.slots)
 
-children-are : (line : Line) (ps : Prefix) (u : ℕ) → AreChildren line u (children line ps u)
+pub children-are : (line : Line) (ps : Prefix) (u : ℕ) → AreChildren line u (children line ps u)
 children-are line ps u q m = let is = children-In line ps u q m in (is.0, is.2)
 
 module _ (line : Line) (level : Option ℕ) (within : AreLoads line.loads) where
@@ -186,7 +186,7 @@ module _ (line : Line) (level : Option ℕ) (within : AreLoads line.loads) where
 
   -- below a prefix at which the level holds
   mutual
-    level-below : (w : Option ℕ) (t : Shape) (ps : Prefix) (order : List ℕ) → IsReady ps order → AreIn line.slots line.loads ps → All (λ u. u < length line.loads) order → LevelHolds line level ps → TreeWith AnyLeaf line w t ps order → TreeWith Holds line w t ps order
+    pub level-below : (w : Option ℕ) (t : Shape) (ps : Prefix) (order : List ℕ) → IsReady ps order → AreIn line.slots line.loads ps → All (λ u. u < length line.loads) order → LevelHolds line level ps → TreeWith AnyLeaf line w t ps order → TreeWith Holds line w t ps order
     level-below w (split ts) ps [] ready all few holds h = absurd h
     level-below w (split ts) ps (u ∷ order) ready all few holds h = levels-below w ts ps u order (children line ps u) (children-are line ps u) ready all few holds h
     level-below w (leaf l) ps order ready all few holds h = h

@@ -168,7 +168,7 @@ formed us n strong order best tree few found =
     formed-by us n (proof_version strong) order best None tree few range.0 range.1 found.order_is found.best_is range.2 (λ within below deep.
     tree-levels (λ _ _. ⊥) (kinds_in (proof_version strong) None) (proof-weights strong) (λ _ _ no. absurd no) (line_by (searched_by strong) (loads_of us) n) (proof-rooms strong) (value_of best) tree (no_places (loads_of us)) order 48 within few.least_slots few.most_slots below (left-first (searched_by strong) us n order found.order_is) deep found.short found.tree_is)
 
-checked : FaultsRefute → (us : List SyncUnit) (n : ℕ) (c : CertView) → IsCertified us n c → (r : Result Verdict CheckFault) → IsAnswer us n c r → (r ≡ Ok (verdict_of c.best c.level)) ⊎ (r ≡ Err fault.OutOfMemory)
+pub checked : FaultsRefute → (us : List SyncUnit) (n : ℕ) (c : CertView) → IsCertified us n c → (r : Result Verdict CheckFault) → IsAnswer us n c r → (r ≡ Ok (verdict_of c.best c.level)) ⊎ (r ≡ Err fault.OutOfMemory)
 checked refute us n c right (Ok w) a = inl (ap Ok a.1)
 checked refute us n c right (Err fault.OutOfMemory) a = inr refl
 checked refute us n c right (Err fault.OtherUnits) a = absurd (refute us n c fault.OtherUnits (λ e. absurd cc) a right)

@@ -24,12 +24,14 @@ use Rattle.ec_outcome.specs.declared.search.Outcome.TheVariants as outcome
 use Rattle.ec_outcome.specs.Searched.{searched_by}
 use Rattle.ec_workers.specs.Outcomes.{IsOptimal, IsWithoutPlan}
 
--- what a search was asked for: whether it goes by the strong rules, how many workers, how many nodes may be split and closed, and the tree that it goes on with
+-- what a search was asked for: whether it goes by the strong rules, how many workers, how many nodes may be split and closed, the tree that it goes on with, and
+-- into how many parts its open leaves are shared out, of which it goes on with one
 pub record Asked : Type 0 where
   pub strong : Bool
   pub workers : ℕ
   pub nodes : ℕ
   pub given : Shape
+  pub parts : ℕ
 
 -- a certificate is of the strong rules from version 4 on
 abbrev pub is_strong : CertView → Bool
@@ -37,23 +39,24 @@ is_strong c = nat_lt 3 c.version
 
 -- of a search that begins afresh
 abbrev pub asked_for : Bool → ℕ → ℕ → Asked
-asked_for strong workers nodes = record { strong = strong; workers = workers; nodes = nodes; given = open_leaf }
+asked_for strong workers nodes = record { strong = strong; workers = workers; nodes = nodes; given = open_leaf; parts = 1 }
 
--- of one that goes on with a tree
-abbrev pub asked_beyond : Bool → ℕ → ℕ → Shape → Asked
-asked_beyond strong workers nodes given = record { strong = strong; workers = workers; nodes = nodes; given = given }
+-- of one that goes on with a tree, and with one of so many parts of its open leaves
+abbrev pub asked_beyond : Bool → ℕ → ℕ → Shape → ℕ → Asked
+asked_beyond strong workers nodes given parts = record { strong = strong; workers = workers; nodes = nodes; given = given; parts = parts }
 
 -- all nodes that were allowed are spent
 abbrev pub IsSpent : Asked → Shape → Type 0
 IsSpent asked tree = node_count tree ≡ node_count asked.given + asked.nodes
 
 -- why a search ended without a proof: the notes of several workers disagree, which those of one never do; else a leaf is open, and all nodes are spent, else memory
--- was refused, else the time was over
+-- was refused, else the time was over, else there are other parts, to which the open leaves are left
 abbrev pub IsCut : Asked → Shape → Cut → Type 0
 IsCut asked tree cut.Journal = 1 < asked.workers
 IsCut asked tree cut.Budget = IsSpent asked tree × (0 < open_count tree)
 IsCut asked tree cut.Memory = (¬ (IsSpent asked tree)) × (0 < open_count tree)
 IsCut asked tree cut.Time = (¬ (IsSpent asked tree)) × (0 < open_count tree)
+IsCut asked tree cut.Parts = (1 < asked.parts) × (¬ (IsSpent asked tree)) × (0 < open_count tree)
 
 -- the best plan, if any, is legal and costs what is stated, and the tree is a partial one at that value, by the rules that were asked for
 pub record IsUnproved (units : List SyncUnit) (n : ℕ) (asked : Asked) (best : Option Best) (order : List ℕ) (tree : Shape) (strong : Bool) (why : Cut) : Type 0 where

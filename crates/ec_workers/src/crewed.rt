@@ -5,21 +5,23 @@ ghost use Rattle.ec_units.specs.Load.{loads_of};
 ghost use Rattle.ec_loads.specs.Shape.{Shape, open_leaf};
 ghost use Rattle.ec_symmetry.specs.Orders.{IsOrder};
 ghost use Rattle.ec_cert.specs.BestPlan.{value_of};
+ghost use Rattle.ec_cert.specs.Parts.{IsPart};
 ghost use Rattle.ec_cert.specs.Shapes.{cert_view, shape_of};
 ghost use Rattle.ec_book.specs.Books.{IsBookOf};
+ghost use Rattle.ec_book.specs.Parts.{LeavesOthers};
 ghost use Rattle.ec_crew.specs.Crews.{IsCrewed};
-ghost use Rattle.ec_crew.specs.declared.ended.Ended.TheVariants.{Refused, Memory as EndedMemory, Time as EndedTime};
-ghost use Rattle.ec_workers.specs.Answers.{asked_beyond, asked_for, GoesBeyond, HasCut, HasOrder, HasRules, HasSearchOrder, IsOutcome, IsSolveFault, is_strong as strong_spec};
+ghost use Rattle.ec_crew.specs.declared.ended.Ended.TheVariants.{Refused, Done as EndedDone, Memory as EndedMemory, Time as EndedTime};
+ghost use Rattle.ec_workers.specs.Answers.{asked_beyond, asked_for, GoesBeyond, HasCut, HasOrder, HasRules, HasSearchOrder, IsOutcome, IsSolveFault, is_strong as strong_spec, tree_in};
 ghost use Rattle.ec_outcome.specs.Searched.{searched_by};
 ghost use Rattle.ec_workers.specs.Outcomes.{IsPartialCert};
 ghost use Rattle.ec_workers.specs.Rooms.{IsRoomFor};
-ghost use Rattle.ec_outcome.specs.declared.search.Cut.TheVariants.{Budget, Journal, Memory, Time};
+ghost use Rattle.ec_outcome.specs.declared.search.Cut.TheVariants.{Budget, Journal, Memory, Parts, Time};
 
 use crate::begin::{is_strong, order_by, rules_by};
 use crate::planning::proved;
 use crate::room::Room;
 use ec_book::{Book, Finished};
-use ec_cert::{Cert, Order, is_closed};
+use ec_cert::{Cert, Order, Part, is_closed};
 use ec_crew::{CrewFault, Crewed, Ended, Gate, search_by_crew};
 use ec_outcome::{Cut, Outcome, SolveFault};
 use ec_units::Units;
@@ -28,11 +30,13 @@ use std::sync::Wait;
 use std::thread::Threads;
 
 /// Why several workers, to none of whom the book refused anything but memory, left a leaf open: all nodes are spent,
-/// else memory was refused, else the time was over, else what they wrote down doesn't agree.
-fn cut_of_crew(spent: u64, nodes: u32, ended: Ended) -> Cut
+/// else memory was refused, else the time was over, else their part of several was done, else what they wrote down doesn't
+/// agree.
+fn cut_of_crew(spent: u64, nodes: u32, part: Part, ended: Ended) -> Cut
     ensures budget { result ≡ Budget → spent ≡ nodes }
     ensures memory { result ≡ Memory → (spent ≢ nodes) × (ended ≡ EndedMemory) }
     ensures time { result ≡ Time → (spent ≢ nodes) × (ended ≡ EndedTime) }
+    ensures parts { result ≡ Parts → (1 < part.count) × (spent ≢ nodes) × (ended ≡ EndedDone) }
     ensures journal { result ≡ Journal → (spent ≢ nodes) × (ended ≢ EndedMemory) × (ended ≢ EndedTime) }
 {
     if spent == u64::from(nodes) {
@@ -41,6 +45,8 @@ fn cut_of_crew(spent: u64, nodes: u32, ended: Ended) -> Cut
         Cut::Memory
     } else if ended == Ended::Time {
         Cut::Time
+    } else if ended == Ended::Done && part.count > 1 {
+        Cut::Parts
     } else {
         Cut::Journal
     }
@@ -52,14 +58,16 @@ fn outcome_of(
     room: Room,
     order: Order,
     crewed: Crewed,
+    part: Part,
     nodes: u32,
     strong: bool,
 ) -> Outcome
     requires room { IsRoomFor units.now.units room.lines room.places }
     requires order { IsOrder (length units.now.units) order }
-    requires crewed { (given : Shape) × (value : Option ℕ) × IsCrewed units.now.units units.now.slots order (searched_by strong) given value nodes crewed.finished }
-    ensures outcome { (workers : ℕ) (given : Shape) (value : Option ℕ) → 1 < workers → IsCrewed units.now.units units.now.slots order (searched_by strong) given value nodes crewed.finished → IsOutcome units.now.units units.now.slots (asked_beyond strong workers nodes given) result }
-    ensures beyond { (given : Shape) (value : Option ℕ) → IsCrewed units.now.units units.now.slots order (searched_by strong) given value nodes crewed.finished → GoesBeyond given value nodes result }
+    requires crewed { (given : Shape) × (value : Option ℕ) × IsCrewed units.now.units units.now.slots order (searched_by strong) given value nodes part crewed.finished }
+    ensures outcome { (workers : ℕ) (given : Shape) (value : Option ℕ) → 1 < workers → IsCrewed units.now.units units.now.slots order (searched_by strong) given value nodes part crewed.finished → IsOutcome units.now.units units.now.slots (asked_beyond strong workers nodes given part.count) result }
+    ensures beyond { (given : Shape) (value : Option ℕ) → IsCrewed units.now.units units.now.slots order (searched_by strong) given value nodes part crewed.finished → GoesBeyond given value nodes result }
+    ensures others { (given : Shape) (value : Option ℕ) → IsCrewed units.now.units units.now.slots order (searched_by strong) given value nodes part crewed.finished → LeavesOthers part given (tree_in result) }
     ensures journal { crewed.ended ≡ Refused → HasCut Journal result }
     ensures rules { HasRules strong result }
     ensures order { HasOrder order result }
@@ -88,7 +96,7 @@ fn outcome_of(
         order,
         tree,
         strong,
-        cut: cut_of_crew(spent, nodes, ended),
+        cut: cut_of_crew(spent, nodes, part, ended),
     }
 }
 
@@ -111,13 +119,15 @@ fn search_on<R: Threads + Wait + Sync, G: Gate + Sync>(
     requires book { IsBookOf units.now.units units.now.slots order.items (searched_by strong) book }
     requires unused { book.log ≡ [] }
     requires nodes { book.nodes ≡ nodes }
-    ensures outcome { IfOk result (IsOutcome units.now.units units.now.slots (asked_beyond strong workers nodes book.given)) }
+    ensures outcome { IfOk result (IsOutcome units.now.units units.now.slots (asked_beyond strong workers nodes book.given book.part.count)) }
     ensures beyond { IfOk result (GoesBeyond book.given book.given_value nodes) }
+    ensures others { IfOk result (λ o. LeavesOthers book.part book.given (tree_in o)) }
     ensures fault { IfErr result (IsSolveFault workers) }
     ensures order { IfOk result (HasOrder order.items) }
     ensures rules { IfOk result (HasRules strong) }
 {
     let room = Room::new(alloc, units)?;
+    let part = book.part();
     let crewed = search_by_crew(
         rt,
         alloc,
@@ -130,7 +140,7 @@ fn search_on<R: Threads + Wait + Sync, G: Gate + Sync>(
     );
     let order = Order::new(order);
     match crewed {
-        Ok(crewed) => Ok(outcome_of(units, room, order, crewed, nodes, strong)),
+        Ok(crewed) => Ok(outcome_of(units, room, order, crewed, part, nodes, strong)),
         Err(CrewFault::OutOfMemory) => Err(SolveFault::OutOfMemory),
         Err(CrewFault::Spawn) => Err(SolveFault::Spawn),
     }
@@ -162,28 +172,31 @@ pub(crate) fn solve_by_crew<R: Threads + Wait + Sync, G: Gate + Sync>(
     )
 }
 
-/// Goes on with a certificate's tree, with 2 to 16 workers, as `solve_by_crew` searches.
+/// Goes on with a part of a certificate's tree, with 2 to 16 workers, as `solve_by_crew` searches.
 pub(crate) fn resume_by_crew<R: Threads + Wait + Sync, G: Gate + Sync>(
     rt: &R,
     alloc: Global,
     units: &Units,
     cert: Cert,
+    part: Part,
     workers: usize,
     nodes: u32,
     gate: &G,
 ) -> Result<Outcome, SolveFault>
     requires workers { (2 ≤ workers) × (workers ≤ 16) }
     requires nodes { (1 ≤ nodes) × (nodes ≤ 10000000) }
+    requires part { IsPart part }
     requires cert { IsPartialCert units.now.units units.now.slots (cert_view cert) }
-    ensures outcome { IfOk result (IsOutcome units.now.units units.now.slots (asked_beyond (strong_spec (cert_view cert)) workers nodes (shape_of cert.tree))) }
+    ensures outcome { IfOk result (IsOutcome units.now.units units.now.slots (asked_beyond (strong_spec (cert_view cert)) workers nodes (shape_of cert.tree) part.count)) }
     ensures beyond { IfOk result (GoesBeyond (shape_of cert.tree) (value_of cert.best) nodes) }
+    ensures others { IfOk result (λ o. LeavesOthers part (shape_of cert.tree) (tree_in o)) }
     ensures fault { IfErr result (IsSolveFault workers) }
     ensures order { IfOk result (HasOrder cert.order) }
     ensures rules { IfOk result (HasRules (strong_spec (cert_view cert))) }
 {
     let order = Vec::from_slice(alloc, cert.order.as_slice())?;
     let strong = is_strong(&cert);
-    let book = Book::resume(alloc, units, cert, rules_by(strong), u64::from(nodes))?;
+    let book = Book::resume(alloc, units, cert, rules_by(strong), part, u64::from(nodes))?;
     search_on(
         rt, alloc, units, order, book, workers, nodes, strong, false, gate,
     )

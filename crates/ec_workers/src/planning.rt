@@ -1,19 +1,21 @@
 //! The planner.
 
-ghost use Rattle.std.specs.Prelude.{◌≡◌, ◌≢◌, ◌≤◌, None, IfOk, IfErr, length};
+ghost use Rattle.std.specs.Prelude.{◌≡◌, ◌≢◌, ◌<◌, ◌≤◌, None, IfOk, IfErr, length};
 ghost use Rattle.ec_units.specs.Load.{loads_of};
 ghost use Rattle.ec_loads.specs.Search.{open_count};
 ghost use Rattle.ec_loads.specs.Shape.{open_leaf};
 ghost use Rattle.ec_symmetry.specs.Orders.{IsOrder};
 ghost use Rattle.ec_cert.specs.BestPlan.{value_of};
+ghost use Rattle.ec_cert.specs.Parts.{IsPart};
 ghost use Rattle.ec_cert.specs.Shapes.{cert_view, shape_of};
 ghost use Rattle.ec_book.specs.Books.{IsBookOf, IsSameSearch};
-ghost use Rattle.ec_crew.specs.declared.ended.Ended.TheVariants.{Time as EndedTime};
+ghost use Rattle.ec_book.specs.Parts.{LeavesOthers};
+ghost use Rattle.ec_crew.specs.declared.ended.Ended.TheVariants.{Done as EndedDone, Time as EndedTime};
 ghost use Rattle.ec_workers.specs.Answers.{Asked, asked_beyond, asked_for, GoesBeyond, HasOrder, HasRules, HasSearchOrder, IsOutcome, is_strong as strong_spec, tree_in, value_in};
 ghost use Rattle.ec_outcome.specs.Searched.{searched_by};
 ghost use Rattle.ec_workers.specs.Outcomes.{IsFound, IsPartialCert};
 ghost use Rattle.ec_workers.specs.Rooms.{IsRoomFor};
-ghost use Rattle.ec_outcome.specs.declared.search.Cut.TheVariants.{Budget, Journal, Memory, Time};
+ghost use Rattle.ec_outcome.specs.declared.search.Cut.TheVariants.{Budget, Journal, Memory, Parts, Time};
 ghost use Rattle.ec_outcome.specs.declared.search.SolveFault.TheVariants.{OutOfMemory};
 
 use crate::alone::work;
@@ -22,7 +24,7 @@ use crate::certify::certificate;
 use crate::room::{Room, copied};
 use crate::turn::offer;
 use ec_book::{Book, Finished};
-use ec_cert::{Best, Cert, Order, Tree};
+use ec_cert::{Best, Cert, Order, Part, Tree};
 use ec_checker::faults_refute;
 use ec_crew::{Ended, Gate, opening_plan};
 use ec_outcome::{Cut, Outcome, SolveFault};
@@ -60,17 +62,21 @@ fn searched<R: Wait, G: Gate>(
     work(rt, alloc, units, order, book, gate)
 }
 
-/// Why a search that left a leaf open ended: all nodes are spent, else the time was over, else memory was refused.
-fn cut_of(spent: u64, nodes: u32, why: Ended) -> Cut
+/// Why a search that left a leaf open ended: all nodes are spent, else the time was over, else its part of several was
+/// done, else memory was refused.
+fn cut_of(spent: u64, nodes: u32, part: Part, why: Ended) -> Cut
     ensures budget { result ≡ Budget → spent ≡ nodes }
     ensures memory { result ≡ Memory → (spent ≢ nodes) × (why ≢ EndedTime) }
     ensures time { result ≡ Time → (spent ≢ nodes) × (why ≡ EndedTime) }
+    ensures parts { result ≡ Parts → (1 < part.count) × (spent ≢ nodes) × (why ≡ EndedDone) }
     ensures agrees { result ≢ Journal }
 {
     if spent == u64::from(nodes) {
         Cut::Budget
     } else if why == Ended::Time {
         Cut::Time
+    } else if why == Ended::Done && part.count > 1 {
+        Cut::Parts
     } else {
         Cut::Memory
     }
@@ -124,12 +130,14 @@ fn ended(
     requires order { IsOrder (length units.now.units) order }
     requires book { IsBookOf units.now.units units.now.slots order (searched_by strong) book }
     requires nodes { book.nodes ≡ nodes }
-    ensures outcome { IsOutcome units.now.units units.now.slots (asked_beyond strong 1 nodes book.given) result }
+    ensures outcome { IsOutcome units.now.units units.now.slots (asked_beyond strong 1 nodes book.given book.part.count) result }
     ensures beyond { GoesBeyond book.given book.given_value nodes result }
+    ensures others { LeavesOthers book.part book.given (tree_in result) }
     ensures rules { HasRules strong result }
     ensures order { HasOrder order result }
 {
     let open = book.open_pieces();
+    let part = book.part();
     let Ok(finished) = book.finish() else {
         unreachable!()
     };
@@ -147,7 +155,7 @@ fn ended(
         order,
         tree,
         strong,
-        cut: cut_of(spent, nodes, why),
+        cut: cut_of(spent, nodes, part, why),
     }
 }
 
@@ -176,19 +184,22 @@ pub(crate) fn solve_alone<R: Wait, G: Gate>(
     Ok(ended(units, room, order, book, nodes, strong, why))
 }
 
-/// Goes on with a certificate's tree, with one worker, as `solve_alone` searches.
+/// Goes on with a part of a certificate's tree, with one worker, as `solve_alone` searches.
 pub(crate) fn resume_alone<R: Wait, G: Gate>(
     rt: &R,
     alloc: Global,
     units: &Units,
     cert: Cert,
+    part: Part,
     nodes: u32,
     gate: &G,
 ) -> Result<Outcome, SolveFault>
     requires nodes { (1 ≤ nodes) × (nodes ≤ 10000000) }
+    requires part { IsPart part }
     requires cert { IsPartialCert units.now.units units.now.slots (cert_view cert) }
-    ensures outcome { IfOk result (IsOutcome units.now.units units.now.slots (asked_beyond (strong_spec (cert_view cert)) 1 nodes (shape_of cert.tree))) }
+    ensures outcome { IfOk result (IsOutcome units.now.units units.now.slots (asked_beyond (strong_spec (cert_view cert)) 1 nodes (shape_of cert.tree) part.count)) }
     ensures beyond { IfOk result (GoesBeyond (shape_of cert.tree) (value_of cert.best) nodes) }
+    ensures others { IfOk result (λ o. LeavesOthers part (shape_of cert.tree) (tree_in o)) }
     ensures order { IfOk result (HasOrder cert.order) }
     ensures rules { IfOk result (HasRules (strong_spec (cert_view cert))) }
     ensures fault { IfErr result (λ e. e ≡ OutOfMemory) }
@@ -196,7 +207,7 @@ pub(crate) fn resume_alone<R: Wait, G: Gate>(
     let room = Room::new(alloc, units)?;
     let order = Vec::from_slice(alloc, cert.order.as_slice())?;
     let strong = is_strong(&cert);
-    let mut book = Book::resume(alloc, units, cert, rules_by(strong), u64::from(nodes))?;
+    let mut book = Book::resume(alloc, units, cert, rules_by(strong), part, u64::from(nodes))?;
     let why = work(rt, alloc, units, order.as_slice(), &mut book, gate);
     let order = Order::new(order);
     Ok(ended(units, room, order, book, nodes, strong, why))

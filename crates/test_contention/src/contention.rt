@@ -91,7 +91,7 @@ fn crowd_on<S: Search + Send + Sync, R: Threads + Wait + Sync>(
     requires order { IsOrder (length units.now.units) order.now }
     requires search { AreOf S.loads S.slots S.order units.now.units units.now.slots order.now }
     requires book { IsBookOf units.now.units units.now.slots order.now S.rules book }
-    requires began { BeganWith S.given S.given_value S.nodes book }
+    requires began { BeganWith S.given S.given_value S.nodes S.part book }
     requires unused { book.log ≡ [] }
 {
     let Ok((shared, seats)) = Shared::<S>::new(alloc, blank, book, units, order, 16) else {

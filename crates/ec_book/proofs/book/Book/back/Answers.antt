@@ -8,6 +8,8 @@ use Rattle.ec_book.specs.Steps.{start}
 use Rattle.ec_book.specs.Views.{book_view}
 use Rattle.ec_book.proofs.HistoryLemmas.{granted-le, taken-le}
 use Rattle.ec_book.proofs.PieceLemmas.{within}
+use Rattle.ec_book.specs.Parts.{is_of_part}
+use Rattle.ec_book.proofs.ShareLemmas.{parted-back}
 use Rattle.ec_book.proofs.KeepLemmas.{counted-back, grown-set}
 use Rattle.ec_book.proofs.book.Book.back.Goals as goal
 
@@ -50,16 +52,17 @@ invariant_of-self c =
     rw (c.from.ensures, c.min-self-inside.ensures, c.push_reserved.ensures.capacity) (record {
       for = inv.for;
       counted =
-          counted-back (start (shape_of b.given) b.given_value) b.nodes b.pieces.items (value_of b.best) b.spent b.held b.taken b.low b.log.items _ inv.counted c.args.worker c.args.piece c.in-Ok.grant
+          counted-back (is_of_part b.part b.first) (start (shape_of b.given) b.given_value) b.nodes b.pieces.items (value_of b.best) b.spent b.held b.taken b.low b.log.items _ inv.counted c.args.worker c.args.piece c.in-Ok.grant
           c.push_reserved.new.self.items at c.push_reserved.ensures.items;
       grown = grown-set (shape_of b.given) (line_by (line_rules b.rules) b.loads.loads b.loads.slots) b.order.items b.pieces.items b.prefixes.items b.reports.items (value_of b.best) b.spent inv.grown c.args.piece (Taken c.args.worker c.in-Ok.grant) Free at refl;
       spare = inv.spare;
+      shared = record { part_is = inv.shared.part_is; first_is = inv.shared.first_is; parted = parted-back (is_of_part b.part b.first) b.pieces.items b.reports.items inv.shared.parted c.args.piece };
     })
 
 pub returns-clause-ok : goal.returns-clause-ok
 returns-clause-ok c =
     let b = c.self.inside in
-    rw (← c.self.view_is) (λ j. book_view b.loads.loads b.loads.slots b.order.items (line_rules b.rules) b.nodes (set b.pieces.items c.args.piece Free) b.prefixes.items b.best b.spent (c.push_reserved.ensures.items j) (shape_of b.given) b.given_value)
+    rw (← c.self.view_is) (λ j. book_view b.loads.loads b.loads.slots b.order.items (line_rules b.rules) b.nodes (set b.pieces.items c.args.piece Free) b.prefixes.items b.best b.spent (c.push_reserved.ensures.items j) (shape_of b.given) b.given_value b.part)
 
 pub returns-clause-held : goal.returns-clause-held
 returns-clause-held c =

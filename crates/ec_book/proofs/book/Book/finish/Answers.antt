@@ -1,13 +1,14 @@
-use Rattle.std.proofs.Common.{◌≡◌, refl, arith}
+use Rattle.std.proofs.Common.{◌≡◌, refl, arith, subst, All}
 use Rattle.ec_loads.specs.Line.{line_by}
 use Rattle.ec_cert.specs.Shapes.{shape_of}
 use Rattle.ec_cert.specs.BestPlan.{value_of}
 use Rattle.ec_symmetry.specs.Ruled.{line_rules}
 use Rattle.ec_book.specs.Numbered.{numbered, plain}
 use Rattle.ec_book.specs.Grown.{grown}
+use Rattle.ec_book.specs.Parts.{is_of_part, IsReportOf}
 use Rattle.ec_book.specs.Steps.{start}
 use Rattle.ec_book.proofs.HistoryLemmas.{history-replays, history-falls}
-use Rattle.ec_book.proofs.FinishLemmas.{drawn, drawn-partial, drawn-nodes, drawn-open, drawn-closed, drawn-extends}
+use Rattle.ec_book.proofs.FinishLemmas.{drawn, drawn-partial, drawn-nodes, drawn-open, drawn-closed, drawn-extends, drawn-others}
 use Rattle.ec_book.proofs.book.Book.finish.Goals as goal
 
 pub open_leaves-built-requires-clause-none : goal.open_leaves-built-requires-clause-none
@@ -43,6 +44,7 @@ returns-clause-ok c =
       history = rw c.new.ensures past;
       replayed = rw c.new.ensures (history-replays b.nodes (start given b.given_value) b.log.items (record { pieces = pieces; value = value; spent = b.spent }) past);
       extends = drawn-extends given line order pieces prefixes reports value b.spent made shape is;
+      others = drawn-others given line order pieces prefixes reports value b.spent made b.part shape is (subst (λ n. All (IsReportOf (is_of_part b.part n)) reports) c.self.invariant.shared.first_is c.self.invariant.shared.parted.reported);
       falls = history-falls b.nodes (start given b.given_value) b.log.items (record { pieces = pieces; value = value; spent = b.spent }) past;
       within = omega (arith, c.self.invariant.counted.within);
     })

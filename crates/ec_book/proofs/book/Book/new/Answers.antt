@@ -1,4 +1,4 @@
-use Rattle.std.proofs.Common.{◌++◌, ◌∷◌, [], None, ap, ◌∙◌, arith, length}
+use Rattle.std.proofs.Common.{refl, ◌++◌, ◌∷◌, [], None, ap, ◌∙◌, arith, length}
 use Rattle.ec_loads.specs.Shape.{open_leaf}
 use Rattle.ec_symmetry.specs.Ruled.{line_rules}
 use Rattle.ec_book.specs.declared.piece.Piece.TheVariants.{Free}
@@ -15,5 +15,5 @@ invariant_of-result c =
     let empty = c.in_ok-push-2.ensures.items ∙ (λ j. c.new-prefixes.ensures.items j ++ (c.new-2.ensures ∙ c.new.ensures.items) j ∷ []) in
     rw (c.in_ok-order.ensures.items, shape_of-OpenLeaf) (
     kept-given us n order (line_rules c.args.rules) None open_leaf c.args.nodes c.requires tt (tt, tt)
-    c.in_ok-loads.loads c.push.new.self.items c.push-2.new.self.items c.new-4.result.items c.new-5.result.items _ _ _
-    c.in_ok-loads.ensures one empty c.new-4.ensures.items c.new-5.ensures.items c.in_ok-leaves.ensures.items (omega (arith, ap length empty, c.in_ok-leaves.ensures.capacity)))
+    c.in_ok-loads.loads c.push.new.self.items c.push-2.new.self.items c.new-4.result.items c.new-5.result.items _ _ _ _ _
+    c.in_ok-loads.ensures one empty c.new-4.ensures.items c.new-5.ensures.items c.in_ok-leaves.ensures.items (omega (arith, ap length empty, c.in_ok-leaves.ensures.capacity)) c.whole.ensures.part refl)

@@ -13,6 +13,8 @@ use Rattle.ec_book.specs.Views.{book_view}
 use Rattle.ec_book.specs.Faults.{IsWelcome, IsReportFault}
 use Rattle.ec_book.proofs.HistoryLemmas.{granted-le, taken-le}
 use Rattle.ec_book.proofs.PieceLemmas.{within}
+use Rattle.ec_book.specs.Parts.{is_of_part}
+use Rattle.ec_book.proofs.ShareLemmas.{parted-report}
 use Rattle.ec_book.proofs.KeepLemmas.{counted-report, grown-report}
 use Rattle.ec_book.proofs.OpenLemmas.{added}
 use Rattle.ec_book.proofs.book.Book.report_counted.Goals as goal
@@ -34,7 +36,7 @@ returns-in-Err-add_opened-clause-err c =
     let sub = c.args.counted.sub in
     let welcome : IsWelcome b.pieces.items b.prefixes.items (value_of b.best) c.args.worker c.args.piece c.args.prefix.now sub.threshold (node_count (shape_of sub.tree)) c.in-Ok.grant =
     rw (c.as_slice-pieces.ensures.value, c.as_slice-prefixes.ensures.value, c.value_in-value.ensures) at c.in-Ok.ensures.ok in
-    rw (← c.self.view_is) ((c.in-Ok.grant, welcome), refl, λ j. book_view b.loads.loads b.loads.slots b.order.items (line_rules b.rules) b.nodes (c.in-Err-add_opened.ensures.same.0 j) (c.in-Err-add_opened.ensures.kept j) b.best b.spent b.log.items (shape_of b.given) b.given_value)
+    rw (← c.self.view_is) ((c.in-Ok.grant, welcome), refl, λ j. book_view b.loads.loads b.loads.slots b.order.items (line_rules b.rules) b.nodes (c.in-Err-add_opened.ensures.same.0 j) (c.in-Err-add_opened.ensures.kept j) b.best b.spent b.log.items (shape_of b.given) b.given_value b.part)
 
 pub push_reserved-requires : goal.push_reserved-requires
 push_reserved-requires c =
@@ -114,7 +116,7 @@ invariant_of-self-2 c =
     rw (c.from.ensures, c.push_reserved.ensures.capacity) (record {
       for = inv.for;
       counted =
-          counted-report (start (shape_of b.given) b.given_value) b.nodes b.pieces.items (value_of b.best) b.spent b.held b.taken b.low b.log.items _ inv.counted c.args.worker p g k first count
+          counted-report (is_of_part b.part b.first) (start (shape_of b.given) b.given_value) b.nodes b.pieces.items (value_of b.best) b.spent b.held b.taken b.low b.log.items _ inv.counted c.args.worker p g k first count
           c.add_free.new.pieces.items c.push_reserved.new.self.items welcome.held some few first_is pieces_are c.push_reserved.ensures.items;
       grown =
           grown-report (shape_of b.given) line order b.pieces.items b.prefixes.items b.reports.items (value_of b.best) b.spent inv.grown p c.args.worker g k count q sub.threshold sub.tree
@@ -122,6 +124,13 @@ invariant_of-self-2 c =
       spare = record {
         none = c.add_opened.ensures.leaves ∙ inv.spare.none;
         each = omega (arith, c.in-Ok-add_opened.ensures.leaf, ap length more.1, length-append b.prefixes.items (open_places line order shape q), more.0, inv.grown.each, c.add_opened.new.pieces.ok.0, ap length c.add_opened.ensures.same.0);
+      };
+      shared = record {
+        part_is = inv.shared.part_is;
+        first_is = inv.shared.first_is;
+        parted =
+            parted-report (is_of_part b.part b.first) b.pieces.items b.reports.items inv.shared.parted p c.args.worker g count c.add_free.new.pieces.items c.push_reserved-2.new.self.items
+            (record { piece = p; first = length b.pieces.items; tree = sub.tree }) welcome.held refl pieces_are reports_are;
       };
     })
 
@@ -148,4 +157,4 @@ returns-clause-ok c =
     c.add_free.ensures ∙ (λ j. set (c.add_opened.ensures.same.0 j) p Ended ++ replicate count Free) in
     let log_is : c.push_reserved.new.self.items ≡ b.log.items ++ (Reported c.args.worker p (node_count (shape_of sub.tree)) (length b.pieces.items) (length (open_places line order (shape_of sub.tree) c.args.prefix.now))) ∷ [] =
     c.push_reserved.ensures.items ∙ (λ j. b.log.items ++ (Reported c.args.worker p (c.in-Ok.ensures.nodes j) (first_is j) (more.0 j)) ∷ []) in
-    rw (← c.self.view_is) (λ j. book_view b.loads.loads b.loads.slots order (line_rules b.rules) b.nodes ((pieces_are ∙ ap (λ n. set b.pieces.items p Ended ++ replicate n Free) more.0) j) (more.1 j) b.best (b.spent + c.in-Ok.ensures.nodes j) (log_is j) (shape_of b.given) b.given_value)
+    rw (← c.self.view_is) (λ j. book_view b.loads.loads b.loads.slots order (line_rules b.rules) b.nodes ((pieces_are ∙ ap (λ n. set b.pieces.items p Ended ++ replicate n Free) more.0) j) (more.1 j) b.best (b.spent + c.in-Ok.ensures.nodes j) (log_is j) (shape_of b.given) b.given_value b.part)

@@ -8,7 +8,7 @@ use Rattle.ec_symmetry.specs.Ruled.{line_rules}
 use Rattle.ec_book.specs.declared.piece.Piece.TheVariants.{Free}
 use Rattle.ec_book.specs.Open.{open_places}
 use Rattle.ec_book.specs.Views.{book_view}
-use Rattle.ec_book.proofs.GivenLemmas.{order-given, pieces-are, kept-given}
+use Rattle.ec_book.proofs.GivenLemmas.{count-given, order-given, pieces-are, kept-given}
 use Rattle.ec_book.proofs.book.Book.resume.Goals as goal
 
 pub opened_by-requires-clause-order : goal.opened_by-requires-clause-order
@@ -30,10 +30,12 @@ invariant_of-result c =
     let free = pieces-are (shape_of cert.tree) line cert.order (value_of cert.best) c.requires.tree _ _ c.in_ok-prefixes.prefixes.items _ c.add_free.ensures c.in_ok-pieces.ensures.items opened in
     let pieces_is : c.add_free.new.pieces.items ≡ replicate (open_count (shape_of cert.tree)) Free =
     free (omega (arith, c.len-count.ensures, c.in_ok-prefixes.prefixes.ok.0)) in
+    let count_is : c.len-count.result ≡ length c.in_ok-prefixes.prefixes.items = omega (arith, c.len-count.ensures, c.in_ok-prefixes.prefixes.ok.0) in
+    let first_is : c.len-count.result ≡ open_count (shape_of cert.tree) = count_is ∙ ap length opened ∙ count-given (shape_of cert.tree) line cert.order (value_of cert.best) c.requires.tree in
     rw (order_is, c.value_in-given_value.ensures) (
     kept-given us n cert.order (line_rules c.args.rules) cert.best (shape_of cert.tree) c.args.nodes c.requires.order c.requires.best c.requires.tree
-    c.in_ok-loads.loads c.add_free.new.pieces.items c.in_ok-prefixes.prefixes.items c.new-2.result.items c.new-3.result.items _ _ _
-    c.in_ok-loads.ensures pieces_is opened c.new-2.ensures.items c.new-3.ensures.items c.in_ok-leaves.ensures.items (omega (arith, c.in_ok-leaves.ensures.capacity, c.len-count.ensures, c.in_ok-prefixes.prefixes.ok.0)))
+    c.in_ok-loads.loads c.add_free.new.pieces.items c.in_ok-prefixes.prefixes.items c.new-2.result.items c.new-3.result.items _ _ _ _ _
+    c.in_ok-loads.ensures pieces_is opened c.new-2.ensures.items c.new-3.ensures.items c.in_ok-leaves.ensures.items (omega (arith, c.in_ok-leaves.ensures.capacity, c.len-count.ensures, c.in_ok-prefixes.prefixes.ok.0)) c.requires.part first_is)
 
 pub returns : goal.returns
 returns c =
@@ -47,4 +49,4 @@ returns c =
     let free = pieces-are (shape_of cert.tree) line cert.order (value_of cert.best) c.requires.tree _ _ c.in_ok-prefixes.prefixes.items _ c.add_free.ensures c.in_ok-pieces.ensures.items opened in
     let pieces_is : c.add_free.new.pieces.items ≡ replicate (open_count (shape_of cert.tree)) Free =
     free (omega (arith, c.len-count.ensures, c.in_ok-prefixes.prefixes.ok.0)) in
-    λ j. book_view (c.in_ok-loads.ensures j).loads (c.in_ok-loads.ensures j).slots (order_is j) (line_rules c.args.rules) c.args.nodes (pieces_is j) (opened j) cert.best 0 (c.new-3.ensures.items j) (shape_of cert.tree) (c.value_in-given_value.ensures j)
+    λ j. book_view (c.in_ok-loads.ensures j).loads (c.in_ok-loads.ensures j).slots (order_is j) (line_rules c.args.rules) c.args.nodes (pieces_is j) (opened j) cert.best 0 (c.new-3.ensures.items j) (shape_of cert.tree) (c.value_in-given_value.ensures j) c.args.part

@@ -19,11 +19,11 @@ returns-in-Err-clause-err g c =
     let s = c.seat.inside in
     let ours = rw (← c.seat.view_is) at (c.is_for.ensures.0 c.if-not-is_for.false) in
     let why =
-    subst (λ (w : Bool). HasBook g.S.Search.loads g.S.Search.slots g.S.Search.order g.S.Search.rules g.S.Search.given g.S.Search.given_value g.S.Search.nodes (λ b. IsBackFault w b s.worker c.args.piece c.in-Err.fault)) c.holds-holds.ensures.value c.in-Err.ensures.err in
+    subst (λ (w : Bool). HasBook g.S.Search.loads g.S.Search.slots g.S.Search.order g.S.Search.rules g.S.Search.given g.S.Search.given_value g.S.Search.nodes g.S.Search.part (λ b. IsBackFault w b s.worker c.args.piece c.in-Err.fault)) c.holds-holds.ensures.value c.in-Err.ensures.err in
     rw (← c.seat.view_is) (
       inl (
         ours,
-        of_seat g.S.Search.loads g.S.Search.slots g.S.Search.order g.S.Search.rules g.S.Search.given g.S.Search.given_value g.S.Search.nodes (seat_view s.units.now.units s.units.now.slots s.order.now s.worker s.receipts.steps.items s.share.amount)
+        of_seat g.S.Search.loads g.S.Search.slots g.S.Search.order g.S.Search.rules g.S.Search.given g.S.Search.given_value g.S.Search.nodes g.S.Search.part (seat_view s.units.now.units s.units.now.slots s.order.now s.worker s.receipts.steps.items s.share.amount)
             (λ b. IsBackFault (holds s.receipts.steps.items c.args.piece) b s.worker c.args.piece c.in-Err.fault) ours why,
       ),
       refl,

@@ -14,11 +14,11 @@ returns-in-Err-clause-err g c =
     let ours = rw (← c.seat.view_is) at (c.is_for.ensures.0 c.if-not-is_for.false) in
     let same = c.counted-counted.ensures.sub in
     let fault : BookView → Type 0 = λ b. IsReportFault b.pieces b.prefixes (value_of b.best) s.worker c.args.piece c.args.prefix.now c.args.sub.threshold (node_count (shape_of c.args.sub.tree)) c.in-Err.fault in
-    let why = of_book g.S.Search.loads g.S.Search.slots g.S.Search.order g.S.Search.rules g.S.Search.given g.S.Search.given_value g.S.Search.nodes _ fault c.in-Err.ensures.some (rw same at c.in-Err.ensures.err.1) in
+    let why = of_book g.S.Search.loads g.S.Search.slots g.S.Search.order g.S.Search.rules g.S.Search.given g.S.Search.given_value g.S.Search.nodes g.S.Search.part _ fault c.in-Err.ensures.some (rw same at c.in-Err.ensures.err.1) in
     rw (← c.seat.view_is) (
       inl (
         ours,
-        of_seat g.S.Search.loads g.S.Search.slots g.S.Search.order g.S.Search.rules g.S.Search.given g.S.Search.given_value g.S.Search.nodes (seat_view s.units.now.units s.units.now.slots s.order.now s.worker s.receipts.steps.items s.share.amount)
+        of_seat g.S.Search.loads g.S.Search.slots g.S.Search.order g.S.Search.rules g.S.Search.given g.S.Search.given_value g.S.Search.nodes g.S.Search.part (seat_view s.units.now.units s.units.now.slots s.order.now s.worker s.receipts.steps.items s.share.amount)
             fault ours why,
       ),
       c.into_sub.ensures ∙ c.in-Err.ensures.err.0 ∙ same,
