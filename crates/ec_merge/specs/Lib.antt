@@ -1,0 +1,3 @@
+pub mod Certs
+pub mod Laws
+pub mod Merged
