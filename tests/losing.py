@@ -396,7 +396,26 @@ def unwritable(outputs):
                    partial(try_unwritable, output, path, reason, where.endswith("older one")))
 
 
+def try_older_that_says_more(longer, shorter, trial):
+    """Where the certificate of a longer search stands, that of a shorter one lies beside it."""
+    shorter.put(trial)
+    trial.put("c", longer.whole)
+    before = trial.seen()
+    done = trial.run(*shorter.line("c"))
+    trial.ends(done, 4, REFUSED_WRITE)
+    trial.tells(done, *shorter.text.split("\n")[:1], "c.part", "the same units")
+    trial.left(before, {"c.part": shorter.whole})
+
+
+def of_longer_searches(outputs):
+    """Certificates of the same units that say more."""
+    cert, resumed, *_ = outputs
+    for longer in (cert, resumed):
+        yield f"plan --nodes 45 --out c, over {longer.name} of the same units that says more", partial(
+            try_older_that_says_more, longer, cert.rival)
+
+
 def at_rest(outputs):
     """All of these ways."""
-    for kind in (beside, read_and_written, linked, modes, one_path, refused, kept, unwritable):
+    for kind in (beside, read_and_written, linked, modes, one_path, refused, kept, unwritable, of_longer_searches):
         yield from kind(outputs)

@@ -2,7 +2,6 @@
 
 A certificate is worse where `check` refuses it, where the value of its plan is greater, or where its level is less. No
 certificate is left only where none stood before. A resumed search is told beside the certificate that it was given, too.
-A plan knows nothing of the certificate over which it writes: that its own says less is counted, and allowed.
 """
 import collections
 import os
@@ -130,7 +129,7 @@ def left_of(job, judge, left, whole):
     if judge.of(left) is None:
         return "a wrong one", False
     if any(before is not None and judge.is_less(left, before) for before in (job.stands, job.given)):
-        return "one that says less", job.given is None
+        return "one that says less", False
     return ("whole" if left == whole else "another one"), True
 
 

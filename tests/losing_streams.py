@@ -305,9 +305,11 @@ def try_overtaken(library, output, path, trial):
     for number, before in each_call(calls, "s"):
         child = trial.start(*output.line(path), env=calls.env(number, "s"))
         is_stopped = has_stopped(child)
+        is_first = trial.get(path) == output.whole != rival.whole
         other = trial.run(*rival.line(path))
-        trial.holds(other.code == rival.code, f"at call {number}: the other run ended with status {other.code}")
-        trial.holds(trial.get(path) == rival.whole, f"at call {number}: the other run's file isn't whole")
+        rival.ends_or_stays_beside(trial, other, path)
+        stands = output.whole if is_first else rival.whole
+        trial.holds(trial.get(path) == stands, f"at call {number}: at its path stands what says less, or a part")
         if is_stopped:
             child.send_signal(signal.SIGCONT)
         done = trial.end(child)

@@ -261,7 +261,8 @@ def told_before(searches):
 
 
 def try_two(output, rival, trial):
-    """Two runs with one path, started at one time: each ends as alone, and the file is that of one of them."""
+    """Two runs with one path, started at one time: each ends as alone, and the file is that of one of them. A certificate that
+    says less lies beside the other one."""
     output.put(trial)
     ends = {it.whole: (it.code, it.text) for it in (output, rival)}
     for number in range(ROUNDS):
@@ -269,8 +270,9 @@ def try_two(output, rival, trial):
         before = trial.seen()
         children = [(it, trial.start(*it.line("of-run"))) for it in ((output, rival) if number % 2 else (rival, output))]
         for it, child in children:
-            trial.ends(trial.end(child), it.code, it.text)
+            done = trial.end(child)
             trial.holds(trial.get("of-run") in ends, "at the end of a run its path hasn't the whole file of either")
+            it.ends_or_stays_beside(trial, done, "of-run")
         left = trial.get("of-run")
         trial.left(before, {"of-run": left if left in ends else output.whole})
         if trial.wrong:

@@ -5,6 +5,7 @@ what isn't as it has to be. A way that notes anything has lost something. What c
 """
 import collections
 import os
+import re
 import resource
 import shutil
 import signal
@@ -238,6 +239,18 @@ class Output:
         self.ticks = int((processor_seconds() - before) * os.sysconf("SC_CLK_TCK"))
         os.remove(trial.at("made"))
         return self
+
+    def ends_or_stays_beside(self, trial, done, path):
+        """Holds that a run ended as alone; or, where a certificate that says more stood at its path, beside that, whole. The
+        names under which it lies then are free again."""
+        name = re.search(rf'lies at "({re.escape(path)}\.part\d*)"', done.said)
+        if done.code != 4 or name is None or trial.get(path) == self.whole:
+            trial.ends(done, self.code, self.text)
+            return
+        trial.ends(done, 4, REFUSED_WRITE)
+        trial.tells(done, "the same units", self.text.split("\n")[0])
+        trial.holds(trial.get(name[1]) == self.whole, f"at {name[1]} isn't the whole file")
+        os.remove(trial.at(name[1]))
 
     def ends_unwritten(self, trial, done):
         """Holds that a run ended as one whose file can't be written."""

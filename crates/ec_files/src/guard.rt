@@ -47,6 +47,8 @@ pub enum KeepReason {
     HoldsElse,
     /// What it holds can't be read.
     Unreadable,
+    /// It holds a certificate of the same units that says more.
+    SaysMore,
 }
 
 impl KeepReason {
@@ -58,6 +60,9 @@ impl KeepReason {
                 "It holds something else: give another path, or take the file away first"
             }
             KeepReason::Unreadable => "What it holds cannot be read: give another path",
+            KeepReason::SaysMore => {
+                "It holds a certificate of the same units with a better plan or a higher level: go on from that one"
+            }
         }
     }
 }

@@ -6,12 +6,12 @@ ghost use Rattle.std.specs.Io.{WritesAtMost};
 ghost use Rattle.std.specs.Io.KnownBytes.{WriteAppends};
 
 use crate::fault::FileFault;
-use crate::guard::Content;
-use crate::place::Place;
+use crate::guard::{Content, KeepReason};
+use crate::place::{Place, are_one};
 use crate::settling::{Settling, settle};
 use std::alloc::{AllocError, Global};
 use std::fmt::Write as _;
-use std::io::{ErrorKind, Write};
+use std::io::{ErrorKind, Read, Write};
 use std::os::unix::fs::OpenOptionsExt;
 use std::rt::Files;
 use std::{fs, io};
@@ -185,6 +185,39 @@ impl<'a, F: Files> Late<'a, F> {
             }
             _ => Ok(()),
         }
+    }
+
+    /// The bytes of the file that stands at the path, up to so many; none where no file stands there.
+    ///
+    /// # Errors
+    ///
+    /// Why they can't be read.
+    pub fn standing(&self, most: u64) -> io::Result<Option<Vec<u8>>> {
+        let Place::Beside { path } = &self.place else {
+            return Ok(None);
+        };
+        let file = match fs::open(self.files, path.as_str()) {
+            Ok(file) => file,
+            Err(error) if error.kind() == ErrorKind::NotFound => return Ok(None),
+            Err(error) => return Err(error),
+        };
+        let mut bytes = Vec::new(self.alloc);
+        file.take(most).read_to_end(&mut bytes)?;
+        Ok(Some(bytes))
+    }
+
+    /// Whether another path leads to the file that stands at the path.
+    pub fn is_at(&self, other: &str) -> bool {
+        match &self.place {
+            Place::Beside { path } => are_one(self.files, self.alloc, path.as_str(), other),
+            Place::Straight { .. } | Place::Nowhere { .. } => false,
+        }
+    }
+
+    /// Leaves the whole file beside its path, where what stands there is kept for this reason.
+    pub fn leave(self, why: KeepReason) -> FileFault {
+        let Late { name, .. } = self;
+        FileFault::Kept { at: name, why }
     }
 
     /// Takes away what was written of the file, and says why it isn't whole.

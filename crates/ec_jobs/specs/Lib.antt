@@ -1,2 +1,3 @@
+pub mod Older
 pub mod Runs
 pub mod Sound

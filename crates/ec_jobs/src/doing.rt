@@ -12,13 +12,14 @@ ghost use Rattle.ec_jobs.specs.Sound.{LineIsTrue};
 use crate::answering::{answer_alone, answer_both};
 use crate::delivering::{deliver, write_file};
 use crate::job::{Status, refuse};
-use ec_answers::Told;
+use crate::older::reason_to_stay;
+use ec_answers::{File, Told};
 use ec_command::{Job, Line};
-use ec_files::{Content, FileFault, Late};
+use ec_files::{Content, FileFault, KeepReason, Late, are_one};
 use ec_refusals::Refusal;
 use ec_tree::{levels_bound, trees_bound};
 use ec_unit_text::UnitFault;
-use ec_wire::{Io, WriteFault};
+use ec_wire::Io;
 use ec_workers::Gate;
 use std::alloc::{AllocError, Global};
 use std::fs;
@@ -93,8 +94,35 @@ fn content_of(line: &Line) -> Content {
     }
 }
 
+/// Why what stands at the path of a line makes no room for the file of what is told. The certificate that the line goes on
+/// with does, since nothing that goes on with it says less.
+fn reason_to_leave<F: Files>(
+    files: &F,
+    alloc: Global,
+    line: &Line,
+    path: &String,
+    file: &File,
+) -> Option<KeepReason> {
+    let File::Cert(cert) = file else {
+        return None;
+    };
+    if let Some(from) = line.cert() {
+        if are_one(files, alloc, from.as_str(), path.as_str()) {
+            return None;
+        }
+    }
+    reason_to_stay(files, alloc, path.as_str(), cert)
+}
+
 /// Writes the file of what is told, if there is one, and lets it take its place. Why it isn't there.
-fn write_late<F: Files>(told: &Result<Told, Refusal>, mut late: Late<'_, F>) -> Option<FileFault>
+fn write_late<F: Files>(
+    files: &F,
+    alloc: Global,
+    line: &Line,
+    path: &String,
+    told: &Result<Told, Refusal>,
+    mut late: Late<'_, F>,
+) -> Option<FileFault>
     requires { IsWritable told.now }
 {
     let Ok(told) = told else {
@@ -103,9 +131,12 @@ fn write_late<F: Files>(told: &Result<Told, Refusal>, mut late: Late<'_, F>) -> 
     let mut out = Io::new(&mut late);
     let written = write_file(&told.file, &mut out);
     drop(out);
-    match written {
-        Ok(()) => late.settle().err(),
-        Err(WriteFault) => Some(late.give_up()),
+    let Ok(()) = written else {
+        return Some(late.give_up());
+    };
+    match reason_to_leave(files, alloc, line, path, &told.file) {
+        Some(why) => Some(late.leave(why)),
+        None => late.settle().err(),
     }
 }
 
@@ -168,7 +199,7 @@ fn report_line<R: Read, W: Write, F: Files, T: Threads + Wait + Sync, G: Gate + 
     match Late::new(files, alloc, path.as_str(), content_of(line)) {
         Ok(late) => {
             let told = tell_line(wait, files, alloc, line, units, gate);
-            let fault = write_late(&told, late);
+            let fault = write_late(files, alloc, line, path, &told, late);
             deliver_report(told, fault, text)
         }
         Err(AllocError) => {

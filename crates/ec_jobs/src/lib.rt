@@ -6,6 +6,7 @@ mod delivering;
 mod doing;
 mod job;
 mod law;
+mod older;
 mod plain;
 mod plain_steps;
 mod running;

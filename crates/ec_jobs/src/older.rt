@@ -1,0 +1,108 @@
+//! An older certificate where a newer one is to be written.
+
+ghost use Rattle.std.specs.Prelude.{◌≡◌, ◌↔◌, IsTrue};
+ghost use Rattle.ec_loads.specs.Search.{IsAtMost};
+ghost use Rattle.ec_cert.specs.BestPlan.{value_of};
+ghost use Rattle.ec_cert.specs.Shapes.{cert_view};
+ghost use Rattle.ec_jobs.specs.Older.{ShowsMore, SaysMore};
+
+use ec_cert::{Best, Cert, UnitLine};
+use ec_cert_text::{CertFault, MOST_BYTES, read_cert};
+use ec_files::KeepReason;
+use std::alloc::{AllocError, Global};
+use std::io::{ErrorKind, Read};
+use std::rt::Files;
+use std::{fs, io};
+
+/// Whether two lines say the same of a unit.
+fn is_same(one: &UnitLine, other: &UnitLine) -> bool
+    ensures { IsTrue result ↔ (one.now ≡ other.now) }
+{
+    one.name.as_str() == other.name.as_str()
+        && one.bytes == other.bytes
+        && one.period == other.period
+}
+
+/// Whether two lists say the same of the units.
+fn are_same(these: &[UnitLine], those: &[UnitLine]) -> bool
+    ensures { IsTrue result ↔ (these.now ≡ those.now) }
+{
+    if these.len() != those.len() {
+        return false;
+    }
+    for i in 0..these.len() {
+        if !is_same(&these[i], &those[i]) {
+            return false;
+        }
+    }
+    true
+}
+
+/// Whether a plan costs less than another one, or is there alone.
+fn costs_less(older: &Option<Best>, newer: &Option<Best>) -> bool
+    ensures { IsTrue result ↔ (¬ (IsAtMost (value_of newer.now) (value_of older.now))) }
+{
+    match (older, newer) {
+        (None, _) => false,
+        (Some(_), None) => true,
+        (Some(older), Some(newer)) => older.busiest < newer.busiest,
+    }
+}
+
+/// Whether the level of an older certificate, none of a proof, is above that of a newer one.
+fn shows_more(older: Option<u64>, newer: u64) -> bool
+    ensures { IsTrue result ↔ ShowsMore older newer }
+{
+    match older {
+        None => true,
+        Some(level) => newer < level,
+    }
+}
+
+/// Whether an older certificate says more for the same units than a newer one, which is no proof: it shows a higher level,
+/// or has a plan that costs less.
+fn says_more(older: &Cert, newer: &Cert) -> bool
+    ensures { IsTrue result ↔ SaysMore (cert_view older.now) (cert_view newer.now) }
+{
+    let Some(level) = newer.level else {
+        return false;
+    };
+    older.slots == newer.slots
+        && are_same(older.units.as_slice(), newer.units.as_slice())
+        && (shows_more(older.level, level) || costs_less(&older.best, &newer.best))
+}
+
+/// The certificate at a path; none where there is no file that is one.
+fn older_at<F: Files>(files: &F, alloc: Global, path: &str) -> io::Result<Option<Cert>> {
+    match fs::metadata(files, path) {
+        Ok(found) if found.is_file() => {}
+        _ => return Ok(None),
+    }
+    let mut text = Vec::new(alloc);
+    fs::open(files, path)?
+        .take(MOST_BYTES as u64)
+        .read_to_end(&mut text)?;
+    match read_cert(alloc, &text) {
+        Ok(cert) => Ok(Some(cert)),
+        Err(CertFault::OutOfMemory) => Err(io::Error::from(ErrorKind::OutOfMemory)),
+        Err(_) => Ok(None),
+    }
+}
+
+/// Why a certificate that stands at a path doesn't make room for a newer one: it says more for the same units, or it can't be
+/// read. None where nothing of it is lost (own profile).
+pub(crate) fn reason_to_stay<F: Files>(
+    files: &F,
+    alloc: Global,
+    path: &str,
+    newer: &Cert,
+) -> Option<KeepReason> {
+    if newer.level.is_none() {
+        return None;
+    }
+    match older_at(files, alloc, path) {
+        Ok(Some(older)) if says_more(&older, newer) => Some(KeepReason::SaysMore),
+        Ok(_) => None,
+        Err(_) => Some(KeepReason::Unreadable),
+    }
+}
