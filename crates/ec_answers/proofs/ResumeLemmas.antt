@@ -1,7 +1,7 @@
 -- From what comes of going on with a certificate to what is answered.
 -- What a resume finds of a certificate that is a proof is that certificate's own outcome, so nothing after it asks how
 -- it came about.
-use Rattle.std.proofs.Common.{◌≡◌, ℕ, List, Option, Some, None, Result, Ok, Err, refl, sym, ap, subst, ◌∙◌, inl, inr}
+use Rattle.std.proofs.Common.{◌≡◌, ℕ, ◌+◌, List, Option, Some, None, Result, Ok, Err, refl, sym, ap, subst, ◌∙◌, inl, inr}
 use Rattle.std.specs.Prelude.{◌⊎◌, IfSome, IfOk, IfErr}
 use Rattle.ec_units.specs.declared.slave.Place.{Place}
 use Rattle.ec_units.specs.declared.unit.Unit.{Unit as SyncUnit}
@@ -9,8 +9,11 @@ use Rattle.ec_units.specs.declared.units.Units.{Units}
 use Rattle.ec_units.specs.Load.{loads_of}
 use Rattle.ec_unit_text.specs.Reading.{reading}
 use Rattle.ec_units.specs.Views.{units_view}
-use Rattle.ec_loads.specs.Shape.{Shape}
+use Rattle.ec_loads.specs.Shape.{Shape, Shapes, split, leaf, open_leaf, no_shapes, more}
+use Rattle.ec_loads.specs.Search.{open_count}
+use Rattle.ec_book.specs.Numbered.{numbered, all_numbered, draw, draws}
 use Rattle.ec_cert.specs.declared.cert.Best.{Best}
+use Rattle.ec_cert.specs.declared.part.Part.{Part}
 use Rattle.ec_cert.specs.BestPlan.{IsBestPlan, value_of}
 use Rattle.ec_cert.specs.Shapes.{CertView, shape_of}
 use Rattle.ec_cert.specs.WellFormed.{IsWellFormed}
@@ -26,8 +29,9 @@ use Rattle.ec_checker.specs.Laws.{FaultsRefute}
 use Rattle.ec_checker.proofs.CheckLemmas.{claim_from}
 use Rattle.ec_outcome.specs.declared.search.Outcome.{Outcome}
 use Rattle.ec_outcome.specs.declared.search.Outcome.TheVariants as outcome
-use Rattle.ec_workers.specs.Answers.{Asked, asked_beyond, GoesBeyond, IsOutcome, HasOrder, is_strong}
+use Rattle.ec_workers.specs.Answers.{Asked, asked_beyond, GoesBeyond, IsOutcome, HasOrder, is_strong, tree_in}
 use Rattle.ec_workers.specs.Outcomes.{Shows, IsOptimal, IsWithoutPlan}
+use Rattle.ec_book.specs.Parts.{LeavesOthers}
 use Rattle.ec_workers.proofs.GrowLemmas.{stays}
 use Rattle.ec_lines.specs.declared.answer.Answer.{Answer}
 use Rattle.ec_lines.specs.Outcomes.{outcome_output, IsLevelOf}
@@ -89,7 +93,7 @@ no_level : (l : ℕ) → None ≡ Some l → ⊥
 no_level l e = absurd cc
 
 -- a proof goes on from itself
-own_beyond : (nodes : ℕ) (us : Units) (c : CertView) (o : Outcome) → IsOutcome us.units us.slots (asked_beyond (is_strong c) 1 0 c.tree) o → IsProofBy c o → GoesBeyond c.tree (value_of c.best) nodes o
+own_beyond : (nodes : ℕ) (us : Units) (c : CertView) (o : Outcome) → IsOutcome us.units us.slots (asked_beyond (is_strong c) 1 0 c.tree 1) o → IsProofBy c o → GoesBeyond c.tree (value_of c.best) nodes o
 own_beyond nodes us c (outcome.Optimal plan b cert) is own =
     let value : Some b ≡ value_of c.best = ap (λ x. Some x) (sym is.held.2) ∙ ap value_of (sym is.held.1) ∙ ap (λ (x : CertView). value_of x.best) own in
     subst (λ (t : Shape). GoesBeyond t (value_of c.best) nodes (outcome.Optimal plan b cert)) (ap (λ (x : CertView). x.tree) own)
@@ -100,11 +104,32 @@ own_beyond nodes us c (outcome.NoPlan cert) is own =
     (subst (λ (v : Option ℕ). GoesBeyond (shape_of cert.tree) v nodes (outcome.NoPlan cert)) value (stays nodes (outcome.NoPlan cert)))
 own_beyond nodes us c (outcome.Unproved best order tree strong why) is own = absurd own
 
-pub goes_by_proof : (workers nodes : ℕ) (us : Units) (c : CertView) (o : Outcome) → IsCertified us.units us.slots c → c.level ≡ None → ((asked : Asked) → IsOutcome us.units us.slots asked o) → IsProofBy c o → GoesOn workers nodes us c o
-goes_by_proof workers nodes us c o right none is own = record {
+-- a tree has an open leaf in place of each of its open leaves
+mutual
+  drawn-same : (s : Shape) (k : ℕ) → draw (λ _. open_leaf) (numbered k s) ≡ s
+  drawn-same (split ts) k = ap split (drawns-same ts k)
+  drawn-same (leaf l) k = refl
+  drawn-same open_leaf k = refl
+
+  drawns-same : (ts : Shapes) (k : ℕ) → draws (λ _. open_leaf) (all_numbered k ts) ≡ ts
+  drawns-same no_shapes k = refl
+  drawns-same (more t ts) k = λ j. more (drawn-same t k j) (drawns-same ts (k + open_count t) j)
+
+-- so it leaves the leaves of other parts as they are
+leaves_own : (part : Part) (t : Shape) → LeavesOthers part t t
+leaves_own part t = ((λ _. open_leaf), sym (drawn-same t 0), λ m below no. refl)
+
+own_others : (part : Part) (c : CertView) (o : Outcome) → IsProofBy c o → LeavesOthers part c.tree (tree_in o)
+own_others part c (outcome.Optimal plan b cert) own = subst (λ (t : Shape). LeavesOthers part t (shape_of cert.tree)) (ap (λ (x : CertView). x.tree) own) (leaves_own part (shape_of cert.tree))
+own_others part c (outcome.NoPlan cert) own = subst (λ (t : Shape). LeavesOthers part t (shape_of cert.tree)) (ap (λ (x : CertView). x.tree) own) (leaves_own part (shape_of cert.tree))
+own_others part c (outcome.Unproved best order tree strong why) own = absurd own
+
+pub goes_by_proof : (workers nodes : ℕ) (part : Part) (us : Units) (c : CertView) (o : Outcome) → IsCertified us.units us.slots c → c.level ≡ None → ((asked : Asked) → IsOutcome us.units us.slots asked o) → IsProofBy c o → GoesOn workers nodes part us c o
+goes_by_proof workers nodes part us c o right none is own = record {
   right = right;
-  answer = is (asked_beyond (is_strong c) workers nodes c.tree);
-  beyond = own_beyond nodes us c o (is (asked_beyond (is_strong c) 1 0 c.tree)) own;
+  answer = is (asked_beyond (is_strong c) workers nodes c.tree part.count);
+  beyond = own_beyond nodes us c o (is (asked_beyond (is_strong c) 1 0 c.tree 1)) own;
+  others = own_others part c o own;
   level = λ l some. absurd (no_level l (sym none ∙ some));
   proof = λ _. own;
   order = own_order c o own;
@@ -132,5 +157,5 @@ unresumed workers bytes text r (inr (inl h)) = inl (inl h)
 unresumed workers bytes text r (inr (inr h)) = inr (inr (inl (cert.TooLarge, h.2, too_long text h.3)))
 
 -- an outcome of the text for the units that the bytes say
-pub resume_of : (workers nodes : ℕ) (bytes text : List ℕ) (us : Units) (o : Outcome) → AnswersUnits (Ok us) bytes → GoesOnFrom workers nodes us text o → IsResumeOf workers nodes bytes text us o
-resume_of workers nodes bytes text us o read goes = record { short = read.0; said = read.1; cert = goes.0; read = goes.1; goes = goes.2 }
+pub resume_of : (workers nodes : ℕ) (part : Part) (bytes text : List ℕ) (us : Units) (o : Outcome) → AnswersUnits (Ok us) bytes → GoesOnFrom workers nodes part us text o → IsResumeOf workers nodes part bytes text us o
+resume_of workers nodes part bytes text us o read goes = record { short = read.0; said = read.1; cert = goes.0; read = goes.1; goes = goes.2 }

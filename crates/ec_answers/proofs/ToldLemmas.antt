@@ -6,6 +6,7 @@ use Rattle.std.specs.Prelude.{◌⊎◌, IfOk, IfErr}
 use Rattle.ec_units.specs.declared.units.Units.{Units}
 use Rattle.ec_units.specs.Load.{loads_of}
 use Rattle.ec_units.specs.Views.{units_view}
+use Rattle.ec_cert.specs.declared.part.Part.{Part}
 use Rattle.ec_loads.specs.Shape.{open_leaf}
 use Rattle.ec_loads.specs.declared.plan.Plan.{Plan}
 use Rattle.ec_outcome.specs.declared.search.Outcome.{Outcome}
@@ -35,14 +36,14 @@ use Rattle.ec_answers.proofs.ResumeLemmas.{resume_of, stopped_text, unresumed}
 
 abbrev IsSimple : Job → Type 0
 IsSimple (job.Plan workers nodes strong) = ⊥
-IsSimple (job.Resume workers nodes) = ⊥
+IsSimple (job.Resume workers nodes part) = ⊥
 IsSimple job.Capture = ⊥
 IsSimple _ = Unit {0}
 
 simple_is : (j : Job) (bytes : List ℕ) (cert : Option (List ℕ)) (w : Written) → IsSimple j → (IsOutput j bytes cert w ⊎ IsNoMemory j w) → IsTold j bytes cert w None
 simple_is job.Cost bytes cert w simple h = (h, refl)
 simple_is (job.Plan workers nodes strong) bytes cert w simple h = absurd simple
-simple_is (job.Resume workers nodes) bytes cert w simple h = absurd simple
+simple_is (job.Resume workers nodes part) bytes cert w simple h = absurd simple
 simple_is job.Check bytes cert w simple h = (h, refl)
 simple_is job.Frames bytes cert w simple h = (h, refl)
 simple_is job.Capture bytes cert w simple h = absurd simple
@@ -109,7 +110,7 @@ same_tells j bytes cert t s text file h = record { file = h.file; is = subst (λ
 pub plan_tells : (j : Job) (bytes : List ℕ) (cert : Option (List ℕ)) (us : Units) (plan : Plan) (t : Result Told Refusal) → IsOfPlan j → FramesFrom cert (Ok (us, plan)) bytes → IsPlanTold j (units_view us) plan.places t → TellsFor j bytes cert t
 plan_tells job.Cost bytes cert us plan t of from h = absurd of
 plan_tells (job.Plan workers nodes strong) bytes cert us plan t of from h = absurd of
-plan_tells (job.Resume workers nodes) bytes cert us plan t of from h = absurd of
+plan_tells (job.Resume workers nodes part) bytes cert us plan t of from h = absurd of
 plan_tells job.Check bytes cert us plan t of from h = absurd of
 plan_tells job.Frames bytes cert us plan t of from h = simple_tells job.Frames bytes cert h.0 t tt h.1 h.2 (answered cert bytes us plan h.0 from h.3)
 plan_tells job.Capture bytes cert us plan t of from h = capture_tells bytes cert us plan t from h
@@ -119,7 +120,7 @@ plan_tells job.Play bytes cert us plan t of from h = simple_tells job.Play bytes
 pub fault_tells : (j : Job) (bytes : List ℕ) (cert : Option (List ℕ)) (r : Refusal) (t : Result Told Refusal) → IsOfPlan j → t ≡ Err r → IsFramesFault cert bytes r → TellsFor j bytes cert t
 fault_tells job.Cost bytes cert r t of is h = absurd of
 fault_tells (job.Plan workers nodes strong) bytes cert r t of is h = absurd of
-fault_tells (job.Resume workers nodes) bytes cert r t of is h = absurd of
+fault_tells (job.Resume workers nodes part) bytes cert r t of is h = absurd of
 fault_tells job.Check bytes cert r t of is h = absurd of
 fault_tells job.Frames bytes cert r t of is h = simple_untold job.Frames bytes cert r t tt is h
 fault_tells job.Capture bytes cert r t of is h = rw is (record { file = None; is = inr (record { refusal = r; fault = h; line = refl; none = refl }); made = refl })
@@ -151,20 +152,20 @@ planned_short workers nodes strong bytes cert t is =
     let w = search_untold (IsPlanOf (asked_for strong workers nodes) bytes) (IsPlanFault (asked_for strong workers nodes) bytes) out_of_memory t is (inr (inl refl)) in
     record { file = w.0; is = w.1; made = w.2 }
 
-pub resumed_tells : (workers nodes : ℕ) (bytes text : List ℕ) (us : Units) (o : Outcome) (t : Result Told Refusal) → AnswersUnits (Ok us) bytes → GoesOnFrom workers nodes us text o → IsOutcomeTold us o t → IsWant t
-    → TellsFor (job.Resume workers nodes) bytes (Some text) t
-resumed_tells workers nodes bytes text us o t read goes ok err =
-    let h = outcome_tells (IsResumeOf workers nodes bytes text) (IsResumeFault workers bytes text) us o t (resume_of workers nodes bytes text us o read goes) (inl (inr (inl refl))) ok err in
+pub resumed_tells : (workers nodes : ℕ) (part : Part) (bytes text : List ℕ) (us : Units) (o : Outcome) (t : Result Told Refusal) → AnswersUnits (Ok us) bytes → GoesOnFrom workers nodes part us text o → IsOutcomeTold us o t → IsWant t
+    → TellsFor (job.Resume workers nodes part) bytes (Some text) t
+resumed_tells workers nodes part bytes text us o t read goes ok err =
+    let h = outcome_tells (IsResumeOf workers nodes part bytes text) (IsResumeFault workers bytes text) us o t (resume_of workers nodes part bytes text us o read goes) (inl (inr (inl refl))) ok err in
     record { file = h.0; is = h.1; made = h.2 }
 
-pub resumed_untold : (workers nodes : ℕ) (bytes text : List ℕ) (us : Units) (r : Refusal) (t : Result Told Refusal) → AnswersUnits (Ok us) bytes → t ≡ Err r → IsStoppedFrom workers us text r → TellsFor (job.Resume workers nodes) bytes (Some text) t
-resumed_untold workers nodes bytes text us r t read is h =
-    let w = search_untold (IsResumeOf workers nodes bytes text) (IsResumeFault workers bytes text) r t is (stopped_text workers bytes text us r read.1 h) in
+pub resumed_untold : (workers nodes : ℕ) (part : Part) (bytes text : List ℕ) (us : Units) (r : Refusal) (t : Result Told Refusal) → AnswersUnits (Ok us) bytes → t ≡ Err r → IsStoppedFrom workers us text r → TellsFor (job.Resume workers nodes part) bytes (Some text) t
+resumed_untold workers nodes part bytes text us r t read is h =
+    let w = search_untold (IsResumeOf workers nodes part bytes text) (IsResumeFault workers bytes text) r t is (stopped_text workers bytes text us r read.1 h) in
     record { file = w.0; is = w.1; made = w.2 }
 
-pub resumed_short : (workers nodes : ℕ) (bytes text : List ℕ) (t : Result Told Refusal) → t ≡ Err out_of_memory → TellsFor (job.Resume workers nodes) bytes (Some text) t
-resumed_short workers nodes bytes text t is =
-    let w = search_untold (IsResumeOf workers nodes bytes text) (IsResumeFault workers bytes text) out_of_memory t is (inl (inr (inl refl))) in
+pub resumed_short : (workers nodes : ℕ) (part : Part) (bytes text : List ℕ) (t : Result Told Refusal) → t ≡ Err out_of_memory → TellsFor (job.Resume workers nodes part) bytes (Some text) t
+resumed_short workers nodes part bytes text t is =
+    let w = search_untold (IsResumeOf workers nodes part bytes text) (IsResumeFault workers bytes text) out_of_memory t is (inl (inr (inl refl))) in
     record { file = w.0; is = w.1; made = w.2 }
 
 -- ---- where there are no inputs
@@ -192,9 +193,9 @@ unread_tells (job.Plan workers nodes strong) bytes None r t has is h =
     let w = search_untold (IsPlanOf (asked_for strong workers nodes) bytes) (IsPlanFault (asked_for strong workers nodes) bytes) r t is (plan_unread workers nodes strong bytes r h) in
     record { file = w.0; is = w.1; made = w.2 }
 unread_tells (job.Plan workers nodes strong) bytes (Some text) r t has is h = absurd cc
-unread_tells (job.Resume workers nodes) bytes None r t has is h = absurd has
-unread_tells (job.Resume workers nodes) bytes (Some text) r t has is h =
-    let w = search_untold (IsResumeOf workers nodes bytes text) (IsResumeFault workers bytes text) r t is (unresumed workers bytes text r h) in
+unread_tells (job.Resume workers nodes part) bytes None r t has is h = absurd has
+unread_tells (job.Resume workers nodes part) bytes (Some text) r t has is h =
+    let w = search_untold (IsResumeOf workers nodes part bytes text) (IsResumeFault workers bytes text) r t is (unresumed workers bytes text r h) in
     record { file = w.0; is = w.1; made = w.2 }
 unread_tells job.Check bytes None r t has is h = absurd has
 unread_tells job.Check bytes (Some text) r t has is h = simple_untold job.Check bytes (Some text) r t tt is (check_unread bytes text r h)

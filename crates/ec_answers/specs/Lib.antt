@@ -1,3 +1,4 @@
 pub mod Captures
+pub mod Merged
 pub mod Planned
 pub mod Told

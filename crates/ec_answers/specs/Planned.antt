@@ -8,7 +8,9 @@ use Rattle.ec_units.specs.Load.{loads_of}
 use Rattle.ec_unit_text.specs.Reading.{reading}
 use Rattle.ec_units.specs.Views.{units_view}
 use Rattle.ec_loads.specs.Shape.{open_leaf}
+use Rattle.ec_cert.specs.declared.part.Part.{Part}
 use Rattle.ec_cert.specs.BestPlan.{value_of}
+use Rattle.ec_book.specs.Parts.{LeavesOthers}
 use Rattle.ec_cert.specs.Shapes.{CertView, cert_view, shape_of}
 use Rattle.ec_cert_text.specs.Reading.{Fails, reading as cert_reading}
 use Rattle.ec_cert_text.specs.Text.{certificate_text}
@@ -19,7 +21,7 @@ use Rattle.ec_checker.specs.declared.fault.Verdict.TheVariants as verdict
 use Rattle.ec_outcome.specs.declared.search.Outcome.{Outcome}
 use Rattle.ec_outcome.specs.declared.search.Outcome.TheVariants as outcome
 use Rattle.ec_outcome.specs.declared.search.SolveFault.{SolveFault}
-use Rattle.ec_workers.specs.Answers.{Asked, asked_beyond, GoesBeyond, HasLevelFrom, IsOutcome, IsSolveFault, HasOrder, HasSearchOrder, is_strong}
+use Rattle.ec_workers.specs.Answers.{Asked, asked_beyond, GoesBeyond, HasLevelFrom, IsOutcome, IsSolveFault, HasOrder, HasSearchOrder, is_strong, tree_in}
 use Rattle.ec_workers.specs.Outcomes.{partial_for, Shows}
 use Rattle.ec_refusals.specs.declared.refusal.Refusal.{Refusal}
 use Rattle.ec_refusals.specs.declared.refusal.Refusal.TheVariants as refusal
@@ -61,12 +63,13 @@ IsProofBy c (outcome.NoPlan cert) = cert_view cert ≡ c
 IsProofBy c (outcome.Unproved best order tree strong why) = ⊥
 
 -- what comes of going on with a certificate to which the checker says yes: where it is a proof, that one; else what a search finds that goes on with its tree, in
--- its order of the units, where new nodes alone are counted. Its tree grows from the certificate's, its value is at most that of the
--- certificate, and what it shows of every plan is at least the certificate's level
-pub record GoesOn (workers nodes : ℕ) (us : Units) (c : CertView) (o : Outcome) : Type 0 where
+-- its order of the units, where new nodes alone are counted. Its tree grows from the certificate's, and leaves the open leaves of other parts as they are. Its value is
+-- at most that of the certificate, and what it shows of every plan is at least the certificate's level
+pub record GoesOn (workers nodes : ℕ) (part : Part) (us : Units) (c : CertView) (o : Outcome) : Type 0 where
   pub right : IsCertified us.units us.slots c
-  pub answer : IsOutcome us.units us.slots (asked_beyond (is_strong c) workers nodes c.tree) o
+  pub answer : IsOutcome us.units us.slots (asked_beyond (is_strong c) workers nodes c.tree part.count) o
   pub beyond : GoesBeyond c.tree (value_of c.best) nodes o
+  pub others : LeavesOthers part c.tree (tree_in o)
   pub level : (l : ℕ) → c.level ≡ Some l → HasLevelFrom us.units us.slots l o
   pub proof : c.level ≡ None → IsProofBy c o
   pub order : HasOrder c.order o
@@ -83,20 +86,20 @@ abbrev pub IsTextFault : List ℕ → Refusal → Type 0
 IsTextFault text r = (f : CertFault) × (r ≡ refusal.Cert f) × Fails f (cert_reading text)
 
 -- the same of the certificate that a text says
-abbrev pub GoesOnFrom : ℕ → ℕ → Units → List ℕ → Outcome → Type 0
-GoesOnFrom workers nodes us text o = (c : CertView) × (cert_reading text ≡ Ok c) × GoesOn workers nodes us c o
+abbrev pub GoesOnFrom : ℕ → ℕ → Part → Units → List ℕ → Outcome → Type 0
+GoesOnFrom workers nodes part us text o = (c : CertView) × (cert_reading text ≡ Ok c) × GoesOn workers nodes part us c o
 
 -- and why nothing comes of it: the text has a fault, or nothing comes of its certificate
 abbrev pub IsStoppedFrom : ℕ → Units → List ℕ → Refusal → Type 0
 IsStoppedFrom workers us text r = ((r ≡ out_of_memory) ⊎ IsTextFault text r) ⊎ ((c : CertView) × (cert_reading text ≡ Ok c) × IsStopped workers us c r)
 
 -- of a resumed search: what comes of going on with the certificate that the text says, for the units that the bytes say
-pub record IsResumeOf (workers nodes : ℕ) (bytes text : List ℕ) (us : Units) (o : Outcome) : Type 0 where
+pub record IsResumeOf (workers nodes : ℕ) (part : Part) (bytes text : List ℕ) (us : Units) (o : Outcome) : Type 0 where
   pub short : length bytes ≤ 1048576
   pub said : reading bytes ≡ Ok (units_view us)
   pub cert : CertView
   pub read : cert_reading text ≡ Ok cert
-  pub goes : GoesOn workers nodes us cert o
+  pub goes : GoesOn workers nodes part us cert o
 
 -- the checker says no to the certificate that the text says, for the units that the bytes say
 pub record IsNoFor (bytes text : List ℕ) (f : CheckFault) : Type 0 where
@@ -147,8 +150,8 @@ abbrev pub IsPlanWritten : Asked → List ℕ → Written → Option (List ℕ) 
 IsPlanWritten asked bytes w cert = IsSearchWritten (IsPlanOf asked bytes) (IsPlanFault asked bytes) w cert
 
 -- for the bytes of units and the text of a certificate
-abbrev pub IsResumeWritten : ℕ → ℕ → List ℕ → List ℕ → Written → Option (List ℕ) → Type 0
-IsResumeWritten workers nodes bytes text w cert = IsSearchWritten (IsResumeOf workers nodes bytes text) (IsResumeFault workers bytes text) w cert
+abbrev pub IsResumeWritten : ℕ → ℕ → Part → List ℕ → List ℕ → Written → Option (List ℕ) → Type 0
+IsResumeWritten workers nodes part bytes text w cert = IsSearchWritten (IsResumeOf workers nodes part bytes text) (IsResumeFault workers bytes text) w cert
 
 -- a writer gets a certificate; where there is none it is left as it was
 abbrev pub Gets : {O : Type 0} → (O → Option (List ℕ)) → Io O → Io O → Option (List ℕ) → Type 0

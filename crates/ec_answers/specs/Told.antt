@@ -71,8 +71,8 @@ IsPlainTold j bytes cert w file = (IsOutput j bytes cert w ⊎ IsNoMemory j w) �
 abbrev pub IsTold : Job → List ℕ → Option (List ℕ) → Written → Option (List ℕ) → Type 0
 IsTold job.Cost bytes cert w file = IsPlainTold job.Cost bytes cert w file
 IsTold (job.Plan workers nodes strong) bytes cert w file = IsPlanWritten (asked_for strong workers nodes) bytes w file
-IsTold (job.Resume workers nodes) bytes None w file = ⊥
-IsTold (job.Resume workers nodes) bytes (Some text) w file = IsResumeWritten workers nodes bytes text w file
+IsTold (job.Resume workers nodes part) bytes None w file = ⊥
+IsTold (job.Resume workers nodes part) bytes (Some text) w file = IsResumeWritten workers nodes part bytes text w file
 IsTold job.Check bytes cert w file = IsPlainTold job.Check bytes cert w file
 IsTold job.Frames bytes cert w file = IsPlainTold job.Frames bytes cert w file
 IsTold job.Capture bytes cert w file = IsFramesWritten cert bytes w file
@@ -123,8 +123,8 @@ IsOfPlan _ = ⊥
 abbrev pub HasInput : Job → Option (List ℕ) → Type 0
 HasInput job.Cost cert = cert ≡ None
 HasInput (job.Plan workers nodes strong) cert = cert ≡ None
-HasInput (job.Resume workers nodes) None = ⊥
-HasInput (job.Resume workers nodes) (Some text) = Unit {0}
+HasInput (job.Resume workers nodes part) None = ⊥
+HasInput (job.Resume workers nodes part) (Some text) = Unit {0}
 HasInput job.Check None = ⊥
 HasInput job.Check (Some text) = Unit {0}
 HasInput job.PlanCost None = ⊥

@@ -3,6 +3,7 @@
 ghost use Rattle.std.specs.Prelude.{◌≡◌, ◌≤◌, ℕ, Bool, List, Option, Ok as OkOf, Some};
 ghost use Rattle.ec_units.specs.Load.{loads_of};
 ghost use Rattle.ec_loads.specs.Held.{no_places};
+ghost use Rattle.ec_cert.specs.Parts.{IsPart};
 ghost use Rattle.ec_command.specs.Words.{JobFits};
 ghost use Rattle.ec_command.specs.declared.job.Job.TheVariants.{Plan, Resume};
 ghost use Rattle.ec_inputs.specs.Input.{AnswersUnits, Says, HasRoom, text_given};
@@ -12,6 +13,7 @@ use crate::outcome::tell_outcome;
 use crate::plain::answer_plain;
 use crate::resume::text_outcome;
 use crate::told::Told;
+use ec_cert::Part;
 use ec_command::Job;
 use ec_inputs::{Given, Inputs};
 use ec_lines::Together;
@@ -50,19 +52,23 @@ fn tell_resumed<T: Threads + Wait + Sync, G: Gate + Sync>(
     alloc: Global,
     workers: usize,
     nodes: u32,
+    part: Part,
     units: &Units,
     given: Given,
     gate: &G,
 ) -> Result<Told, Refusal>
     requires workers { (1 ≤ workers) × (workers ≤ 16) }
     requires nodes { (1 ≤ nodes) × (nodes ≤ 10000000) }
+    requires part { IsPart part }
     requires room { given.loads ≡ record { loads = loads_of units.now.units; slots = units.now.slots; places = no_places (loads_of units.now.units) } }
-    ensures told { (bytes : List ℕ) → AnswersUnits (OkOf units.now) bytes → TellsFor (Resume workers nodes) bytes (Some given.text.items) result }
+    ensures told { (bytes : List ℕ) → AnswersUnits (OkOf units.now) bytes → TellsFor (Resume workers nodes part) bytes (Some given.text.items) result }
     ensures text { IsWritable result }
 {
     let Given { mut loads, text } = given;
     let lines = lines_of(alloc, units)?;
-    let outcome = text_outcome(rt, alloc, workers, nodes, &mut loads, units, text, gate)?;
+    let outcome = text_outcome(
+        rt, alloc, workers, nodes, part, &mut loads, units, text, gate,
+    )?;
     tell_outcome(alloc, units, &mut loads, lines, outcome)
 }
 
@@ -90,19 +96,21 @@ fn tell_resume<T: Threads + Wait + Sync, G: Gate + Sync>(
     alloc: Global,
     workers: usize,
     nodes: u32,
+    part: Part,
     inputs: Inputs,
     gate: &G,
 ) -> Result<Told, Refusal>
     requires workers { (1 ≤ workers) × (workers ≤ 16) }
     requires nodes { (1 ≤ nodes) × (nodes ≤ 10000000) }
+    requires part { IsPart part }
     requires room { HasRoom inputs }
-    requires given { HasInput (Resume workers nodes) (text_given inputs) }
-    ensures told { (bytes : List ℕ) (cert : Option (List ℕ)) → Says bytes cert inputs → TellsFor (Resume workers nodes) bytes cert result }
+    requires given { HasInput (Resume workers nodes part) (text_given inputs) }
+    ensures told { (bytes : List ℕ) (cert : Option (List ℕ)) → Says bytes cert inputs → TellsFor (Resume workers nodes part) bytes cert result }
     ensures text { IsWritable result }
 {
     let Inputs { units, given } = inputs;
     match given {
-        Some(given) => tell_resumed(rt, alloc, workers, nodes, &units, given, gate),
+        Some(given) => tell_resumed(rt, alloc, workers, nodes, part, &units, given, gate),
         None => unreachable!(),
     }
 }
@@ -133,7 +141,11 @@ pub fn answer<T: Threads + Wait + Sync, G: Gate + Sync>(
             nodes,
             strong,
         } => tell_plan(rt, alloc, *workers, *nodes, *strong, inputs, gate),
-        Job::Resume { workers, nodes } => tell_resume(rt, alloc, *workers, *nodes, inputs, gate),
+        Job::Resume {
+            workers,
+            nodes,
+            part,
+        } => tell_resume(rt, alloc, *workers, *nodes, *part, inputs, gate),
         Job::Cost | Job::Check | Job::Frames | Job::Capture | Job::Play | Job::PlanCost => {
             answer_plain(&Together(rt), alloc, job, inputs)
         }

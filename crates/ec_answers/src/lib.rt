@@ -3,6 +3,7 @@
 
 mod answering;
 mod check;
+mod merges;
 mod outcome;
 mod plain;
 mod plans;
@@ -10,5 +11,6 @@ mod resume;
 mod told;
 
 pub use answering::answer;
+pub use merges::{joined, right_cert, tell_merged};
 pub use plain::answer_plain;
 pub use told::{File, Told};

@@ -3,13 +3,14 @@
 ghost use Rattle.std.specs.Prelude.{◌≡◌, ◌≤◌, None, IfOk, IfErr, OnOk};
 ghost use Rattle.ec_units.specs.Load.{loads_of};
 ghost use Rattle.ec_loads.specs.Held.{no_places};
+ghost use Rattle.ec_cert.specs.Parts.{IsPart};
 ghost use Rattle.ec_cert.specs.Shapes.{cert_view};
 ghost use Rattle.ec_cert.specs.WellFormed.{IsWellFormed};
 ghost use Rattle.ec_checker.specs.Certified.{IsCertified};
 ghost use Rattle.ec_workers.specs.Answers.{Asked, IsOutcome};
 ghost use Rattle.ec_answers.specs.Planned.{GoesOn, GoesOnFrom, IsProofBy, IsStopped, IsStoppedFrom};
 
-use ec_cert::Cert;
+use ec_cert::{Cert, Part};
 use ec_cert_text::read_cert;
 use ec_checker::{Verdict, check_in, faults_refute};
 use ec_crew::copy_of;
@@ -54,6 +55,7 @@ fn went_on<T: Threads + Wait + Sync, G: Gate + Sync>(
     alloc: Global,
     workers: usize,
     nodes: u32,
+    part: Part,
     loads: &mut Loads,
     units: &Units,
     cert: Cert,
@@ -61,14 +63,17 @@ fn went_on<T: Threads + Wait + Sync, G: Gate + Sync>(
 ) -> Result<Outcome, Refusal>
     requires workers { (1 ≤ workers) × (workers ≤ 16) }
     requires nodes { (1 ≤ nodes) × (nodes ≤ 10000000) }
+    requires part { IsPart part }
     requires empty { loads.old ≡ record { loads = loads_of units.now.units; slots = units.now.slots; places = no_places (loads_of units.now.units) } }
     requires formed { IsWellFormed (cert_view cert) }
     ensures same { loads.new ≡ loads.old }
-    ensures ok { IfOk result (GoesOn workers nodes units.now (cert_view cert)) }
+    ensures ok { IfOk result (GoesOn workers nodes part units.now (cert_view cert)) }
     ensures err { IfErr result (IsStopped workers units.now (cert_view cert)) }
 {
     match check_in(loads, units, &cert) {
-        Ok(Verdict::AtLeast(_)) => Ok(solve_from(rt, alloc, units, cert, workers, nodes, gate)?),
+        Ok(Verdict::AtLeast(_)) => Ok(solve_from(
+            rt, alloc, units, cert, part, workers, nodes, gate,
+        )?),
         Ok(_) => Ok(proof_of(alloc, units, cert)?),
         Err(fault) => Err(Refusal::Check(fault)),
     }
@@ -81,6 +86,7 @@ pub(crate) fn text_outcome<T: Threads + Wait + Sync, G: Gate + Sync>(
     alloc: Global,
     workers: usize,
     nodes: u32,
+    part: Part,
     loads: &mut Loads,
     units: &Units,
     text: Vec<u8>,
@@ -88,13 +94,14 @@ pub(crate) fn text_outcome<T: Threads + Wait + Sync, G: Gate + Sync>(
 ) -> Result<Outcome, Refusal>
     requires workers { (1 ≤ workers) × (workers ≤ 16) }
     requires nodes { (1 ≤ nodes) × (nodes ≤ 10000000) }
+    requires part { IsPart part }
     requires empty { loads.old ≡ record { loads = loads_of units.now.units; slots = units.now.slots; places = no_places (loads_of units.now.units) } }
     ensures same { loads.new ≡ loads.old }
-    ensures ok { IfOk result (GoesOnFrom workers nodes units.now text.items) }
+    ensures ok { IfOk result (GoesOnFrom workers nodes part units.now text.items) }
     ensures err { IfErr result (IsStoppedFrom workers units.now text.items) }
 {
     let read = read_cert(alloc, text.as_slice());
     drop(text);
     let cert = read?;
-    went_on(rt, alloc, workers, nodes, loads, units, cert, gate)
+    went_on(rt, alloc, workers, nodes, part, loads, units, cert, gate)
 }

@@ -2,16 +2,17 @@
 use Rattle.std.specs.Prelude.{◌≡◌, ◌≤◌, String, Option, Some, None}
 use Rattle.std.specs.Option.{ForSome}
 use Rattle.std.proofs.Common.{Global}
+use Rattle.ec_cert.specs.Parts.{IsPart}
 use Rattle.ec_command.specs.declared.job.Job.{Job}
 use Rattle.ec_command.specs.declared.job.Job.TheVariants as job
 use Rattle.ec_command.specs.declared.line.Effort.{Effort}
 use Rattle.ec_command.specs.declared.line.Line.{Line}
 use Rattle.ec_command.specs.declared.line.Line.TheVariants as line
 
--- the numbers of a job are within the limits: 1 to 16 workers, and 1 to 10,000,000 nodes
+-- the numbers of a job are within the limits: 1 to 16 workers, 1 to 10,000,000 nodes, and a part of at most 10,000
 abbrev pub JobFits : Job → Type 0
 JobFits (job.Plan workers nodes strong) = (1 ≤ workers) × (workers ≤ 16) × (1 ≤ nodes) × (nodes ≤ 10000000)
-JobFits (job.Resume workers nodes) = (1 ≤ workers) × (workers ≤ 16) × (1 ≤ nodes) × (nodes ≤ 10000000)
+JobFits (job.Resume workers nodes part) = (1 ≤ workers) × (workers ≤ 16) × (1 ≤ nodes) × (nodes ≤ 10000000) × IsPart part × (part.count ≤ 10000)
 JobFits _ = Unit {0}
 
 -- what a line asks for
@@ -19,7 +20,7 @@ abbrev pub job_of : Line → Job
 job_of (line.Cost None svg) = job.Cost
 job_of (line.Cost (Some cert) svg) = job.PlanCost
 job_of (line.Plan effort strong out places) = job.Plan effort.workers effort.nodes strong
-job_of (line.Resume cert effort out places) = job.Resume effort.workers effort.nodes
+job_of (line.Resume cert effort part out places) = job.Resume effort.workers effort.nodes part
 job_of (line.Check cert) = job.Check
 job_of (line.Frames cert None header table report) = job.Frames
 job_of (line.Frames cert (Some pcap) header table report) = job.Capture
@@ -29,7 +30,7 @@ job_of (line.Play cert) = job.Play
 abbrev pub cert_of : Line → Option (String Global)
 cert_of (line.Cost cert svg) = cert
 cert_of (line.Plan effort strong out places) = None
-cert_of (line.Resume cert effort out places) = Some cert
+cert_of (line.Resume cert effort part out places) = Some cert
 cert_of (line.Check cert) = Some cert
 cert_of (line.Frames cert pcap header table report) = cert
 cert_of (line.Play cert) = cert
@@ -38,7 +39,7 @@ cert_of (line.Play cert) = cert
 abbrev pub out_of : Line → Option (String Global)
 out_of (line.Cost cert svg) = None
 out_of (line.Plan effort strong out places) = out
-out_of (line.Resume cert effort out places) = out
+out_of (line.Resume cert effort part out places) = out
 out_of (line.Check cert) = None
 out_of (line.Frames cert pcap header table report) = pcap
 out_of (line.Play cert) = None
@@ -46,5 +47,5 @@ out_of (line.Play cert) = None
 -- the job searches for nothing
 abbrev pub IsPlain : Job → Type 0
 IsPlain (job.Plan workers nodes strong) = ⊥
-IsPlain (job.Resume workers nodes) = ⊥
+IsPlain (job.Resume workers nodes part) = ⊥
 IsPlain _ = Unit {0}

@@ -1,5 +1,7 @@
 //! Jobs.
 
+use ec_cert::Part;
+
 /// What the program is to do.
 #[derive(Clone, Copy, Debug, PartialEq, Eq)]
 pub enum Job {
@@ -11,10 +13,12 @@ pub enum Job {
         nodes: u32,
         strong: bool,
     },
-    /// Goes on with the search of a certificate that was cut short, with so many workers, over at most so many new nodes.
+    /// Goes on with the search of a certificate that was cut short, with so many workers, over at most so many new nodes,
+    /// and only with the open leaves of this part.
     Resume {
         workers: usize,
         nodes: u32,
+        part: Part,
     },
     /// Checks a certificate for the units.
     Check,

@@ -4,6 +4,7 @@ ghost use Rattle.std.specs.Prelude.{◌≡◌, option_map};
 ghost use Rattle.ec_command.specs.Words.{cert_of, job_of, out_of};
 
 use crate::job::Job;
+use ec_cert::Part;
 
 /// What a search may take (own profile).
 #[derive(Clone, Copy, Debug, PartialEq, Eq)]
@@ -33,10 +34,11 @@ pub enum Line {
         out: Option<String>,
         places: Option<String>,
     },
-    /// Goes on with the search of a certificate.
+    /// Goes on with the search of a certificate, with the open leaves of this part.
     Resume {
         cert: String,
         effort: Effort,
+        part: Part,
         out: Option<String>,
         places: Option<String>,
     },
@@ -71,9 +73,10 @@ impl Line {
                 nodes: effort.nodes,
                 strong: *strong,
             },
-            Line::Resume { effort, .. } => Job::Resume {
+            Line::Resume { effort, part, .. } => Job::Resume {
                 workers: effort.workers,
                 nodes: effort.nodes,
+                part: *part,
             },
             Line::Check { .. } => Job::Check,
             Line::Frames { pcap: None, .. } => Job::Frames,

@@ -6,7 +6,7 @@ ghost use Rattle.ec_explain.specs.Plain.{IsPlain};
 use crate::plain::plain_text;
 use ec_outcome::Ending;
 use ec_refusals::Refusal;
-use ec_remarks::{Filed, Inputs, counsel, remarks};
+use ec_remarks::{Filed, Inputs, counsel, counsel_merged, remarks};
 use std::alloc::{AllocError, Global};
 
 /// What a refusal means, in a few sentences for a person, each a line: which unit, slave, key, value or line of the
@@ -39,4 +39,21 @@ pub fn advice(
 {
     let sentences = counsel(alloc, ending, filed, is_most)?;
     plain_text(alloc, sentences.as_str())
+}
+
+/// What to do after certificates were merged, in a few sentences, each a line. Where they are no proof together: what the
+/// plan is good for, what is proved of every plan, and how one goes on from them. In any case: that the merged certificate, if
+/// one was written, has more than the 67,108,864 bytes that are read again.
+///
+/// Whatever the path holds, the text has nothing but printable ASCII and line feeds, as `explain` says it. Only want of
+/// memory is an error (own profile).
+pub fn merged_advice(
+    alloc: Global,
+    ending: Option<Ending>,
+    filed: Filed<'_>,
+) -> Result<String, AllocError>
+    ensures { IfOk result (λ told. All IsPlain (string_bytes told)) }
+{
+    let merged = counsel_merged(alloc, ending, filed)?;
+    plain_text(alloc, merged.as_str())
 }

@@ -5,5 +5,5 @@ mod explaining;
 mod plain;
 
 pub use ec_remarks::{Filed, Inputs, Written};
-pub use explaining::{advice, explain};
+pub use explaining::{advice, explain, merged_advice};
 pub use plain::plain_text;

@@ -76,8 +76,12 @@ fn units_of<R: Read>(alloc: Global, input: &mut Io<R>) -> Result<Units, Refusal>
     Ok(read_units(alloc, &bytes)?)
 }
 
-/// The text of the certificate that the reader has. Of one that is too long 67,108,865 bytes are read.
-fn cert_text<C: Read>(alloc: Global, input: &mut Io<C>) -> Result<Vec<u8>, Refusal>
+/// Reads the text of a certificate, at most 67,108,864 bytes. Of one that is too long 67,108,865 are read, and no more.
+///
+/// # Errors
+///
+/// That it is too long, that memory ran out over its bytes, or that a read failed.
+pub fn cert_text<C: Read>(alloc: Global, input: &mut Io<C>) -> Result<Vec<u8>, Refusal>
     requires { has_failed input.old ≡ false }
     ensures ok { IfOk result (λ v. IfSome (C.remaining (stream input.old)) (λ all. v.items ≡ all)) }
     ensures err { has_failed input.new ≡ false → IfErr result (λ r.

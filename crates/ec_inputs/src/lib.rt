@@ -3,4 +3,4 @@
 
 mod input;
 
-pub use input::{Given, Inputs, read_all, read_alone, read_both};
+pub use input::{Given, Inputs, cert_text, read_all, read_alone, read_both};

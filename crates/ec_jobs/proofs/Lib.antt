@@ -1,5 +1,6 @@
 pub mod AgreeLemmas
 pub mod LineLemmas
+pub mod MergeLemmas
 pub mod OneCapture
 pub mod OneCheck
 pub mod OneIllegal

@@ -18,7 +18,7 @@ pub reads_cert : (l : Line) (path : String Global) → cert_of l ≡ Some path �
 reads_cert (line.Cost None svg) path is = absurd (none-some is)
 reads_cert (line.Cost (Some cert) svg) path is = tt
 reads_cert (line.Plan effort strong out places) path is = absurd (none-some is)
-reads_cert (line.Resume cert effort out places) path is = tt
+reads_cert (line.Resume cert effort part out places) path is = tt
 reads_cert (line.Check cert) path is = tt
 reads_cert (line.Frames cert None header table report) path is = tt
 reads_cert (line.Frames cert (Some pcap) header table report) path is = tt
@@ -29,7 +29,7 @@ pub needs_none : (l : Line) → cert_of l ≡ None → HasInput (job_of l) None
 needs_none (line.Cost None svg) is = refl
 needs_none (line.Cost (Some cert) svg) is = absurd (some-none is)
 needs_none (line.Plan effort strong out places) is = refl
-needs_none (line.Resume cert effort out places) is = absurd (some-none is)
+needs_none (line.Resume cert effort part out places) is = absurd (some-none is)
 needs_none (line.Check cert) is = absurd (some-none is)
 needs_none (line.Frames cert None header table report) is = tt
 needs_none (line.Frames cert (Some pcap) header table report) is = tt

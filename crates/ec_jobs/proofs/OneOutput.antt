@@ -125,7 +125,7 @@ units_once : (j : Job) (cert : Option (List ℕ)) (v : UnitsView) (a b : Written
 units_once job.Cost cert v a b p q =
     option_once (first_unplaced v.units) (IsPlacedOutput v (places_of v.units)) (λ n. refused (refusal.NoPlace n)) (placed_once v (places_of v.units)) a b p q
 units_once (job.Plan workers nodes strong) cert v a b p q = absurd p
-units_once (job.Resume workers nodes) cert v a b p q = absurd p
+units_once (job.Resume workers nodes part) cert v a b p q = absurd p
 units_once job.Check None v a b p q = absurd p
 units_once job.Check (Some text) v a b p q = cert_once v (cert_reading text) a b p q
 units_once job.Frames cert v a b p q = text_once_for IsFramesText frames_once cert v a b p q

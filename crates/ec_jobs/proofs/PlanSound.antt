@@ -29,6 +29,7 @@ use Rattle.ec_refusals.specs.declared.refusal.Refusal.{Refusal}
 use Rattle.ec_lines.specs.Outcomes.{outcome_output, optimal_text, unproved_text, IsLevelOf}
 use Rattle.ec_lines.specs.Output.{Written, refused}
 use Rattle.ec_refusals.specs.Refusals.{refusal_code}
+use Rattle.ec_answers.specs.Merged.{IsMergeWritten}
 use Rattle.ec_answers.specs.Planned.{IsShownAt, outcome_cert}
 use Rattle.ec_cert_text.specs.Text.{certificate_text}
 use Rattle.ec_checker.specs.declared.fault.Verdict.TheVariants as verdict
@@ -102,14 +103,18 @@ plan_true levels asked bytes w cert (inl h) = outcome_true levels asked bytes h.
 plan_true levels asked bytes w cert (inr h) = refusal_true bytes w cert h.refusal h.line
 
 pub resume_true : LevelsBound → ResumeIsTrue
-resume_true levels workers nodes bytes text w cert (inl h) =
-    outcome_true levels (asked_beyond (is_strong h.answer.cert) workers nodes h.answer.cert.tree) bytes h.units h.found h.level w cert h.answer.said h.answer.goes.answer h.shown h.text h.certificate h.shows
-resume_true levels workers nodes bytes text w cert (inr h) = refusal_true bytes w cert h.refusal h.line
+resume_true levels workers nodes part bytes text w cert (inl h) =
+    outcome_true levels (asked_beyond (is_strong h.answer.cert) workers nodes h.answer.cert.tree part.count) bytes h.units h.found h.level w cert h.answer.said h.answer.goes.answer h.shown h.text h.certificate h.shows
+resume_true levels workers nodes part bytes text w cert (inr h) = refusal_true bytes w cert h.refusal h.line
+
+pub merge_true : LevelsBound → (bytes : List ℕ) (w : Written) (cert : Option (List ℕ)) → IsMergeWritten bytes w cert → TellsTruth bytes w cert
+merge_true levels bytes w cert h = outcome_true levels h.answer.asked bytes h.units h.found h.level w cert h.answer.said h.answer.answer h.shown h.text h.certificate h.shows
 
 -- the certificate of what was told, and its truth
 pub told_true : LevelsBound → (bytes : List ℕ) (w : Written) → IsSearchTold bytes w → (cert : Option (List ℕ)) × TellsTruth bytes w cert
 told_true levels bytes w (inl (asked, cert, h)) = (cert, plan_true levels asked bytes w cert h)
-told_true levels bytes w (inr (workers, nodes, text, cert, h)) = (cert, resume_true levels workers nodes bytes text w cert h)
+told_true levels bytes w (inr (inl (workers, nodes, part, text, cert, h))) = (cert, resume_true levels workers nodes part bytes text w cert h)
+told_true levels bytes w (inr (inr (cert, h))) = (cert, merge_true levels bytes w cert h)
 
 -- units that the same bytes say
 pub same_ok : (r : Result UnitsView UnitFault) (u v : UnitsView) → r ≡ Ok u → r ≡ Ok v → u ≡ v

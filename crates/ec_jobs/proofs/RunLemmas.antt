@@ -51,7 +51,7 @@ true_or_false false = inr refl
 pub some_input : (j : Job) (text : List ℕ) → ReadsSomeCert j → HasInput j (Some text)
 some_input job.Cost text h = absurd h
 some_input (job.Plan workers nodes strong) text h = absurd h
-some_input (job.Resume workers nodes) text h = tt
+some_input (job.Resume workers nodes part) text h = tt
 some_input job.Check text h = tt
 some_input job.Frames text h = tt
 some_input job.Capture text h = tt

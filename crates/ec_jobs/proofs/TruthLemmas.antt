@@ -8,6 +8,7 @@ use Rattle.ec_refusals.specs.declared.refusal.Refusal.{Refusal}
 use Rattle.ec_refusals.specs.declared.refusal.Refusal.TheVariants as refusal
 use Rattle.ec_refusals.specs.Refusals.{refusal_code}
 use Rattle.ec_refusals.proofs.RefusalLemmas.{code_above}
+use Rattle.ec_cert.specs.declared.part.Part.{Part}
 use Rattle.ec_command.specs.declared.job.Job.{Job}
 use Rattle.ec_command.specs.declared.job.Job.TheVariants as job
 use Rattle.ec_command.specs.declared.line.Line.{Line}
@@ -29,14 +30,14 @@ use Rattle.ec_jobs.proofs.SoundLemmas.{truth_refused, yes_true}
 -- of a search, with its file
 abbrev Searches : Job → Type 0
 Searches (job.Plan workers nodes strong) = Unit {0}
-Searches (job.Resume workers nodes) = Unit {0}
+Searches (job.Resume workers nodes part) = Unit {0}
 Searches _ = ⊥
 
 search_true : LevelsBound → (j : Job) → Searches j → (bytes : List ℕ) (cert : Option (List ℕ)) (w : Written) (file : Option (List ℕ)) → IsTold j bytes cert w file → TellsTruth bytes w file
 search_true levels job.Cost is bytes cert w file h = absurd is
 search_true levels (job.Plan workers nodes strong) is bytes cert w file h = plan_true levels (asked_for strong workers nodes) bytes w file h
-search_true levels (job.Resume workers nodes) is bytes None w file h = absurd h
-search_true levels (job.Resume workers nodes) is bytes (Some text) w file h = resume_true levels workers nodes bytes text w file h
+search_true levels (job.Resume workers nodes part) is bytes None w file h = absurd h
+search_true levels (job.Resume workers nodes part) is bytes (Some text) w file h = resume_true levels workers nodes part bytes text w file h
 search_true levels job.Check is bytes cert w file h = absurd is
 search_true levels job.Frames is bytes cert w file h = absurd is
 search_true levels job.Capture is bytes cert w file h = absurd is
@@ -84,13 +85,13 @@ plan_all levels workers nodes strong None out w told unwritten = tt
 plan_all levels workers nodes strong (Some bytes) out w told unwritten = got_true bytes w out (λ fine. let h = told fine in (h.0, search_true levels (job.Plan workers nodes strong) tt bytes None w h.0 h.1, h.2)) unwritten
 
 -- of a resumed search, whatever its certificate holds
-resume_all : {O : Type 0} (levels : LevelsBound) (workers nodes : ℕ) (left : Option (List ℕ)) (out : Lent O) (w : Written)
-    → IfSome left (λ bytes. (Refuses refusal.Read w ⊎ Refuses refusal.Write w) ⊎ ((text : List ℕ) × (file : Option (List ℕ)) × IsTold (job.Resume workers nodes) bytes (Some text) w file × IfLent out (Unit {0}) (λ o. IsSound o → Gets o.tells o.old o.new file)))
+resume_all : {O : Type 0} (levels : LevelsBound) (workers nodes : ℕ) (part : Part) (left : Option (List ℕ)) (out : Lent O) (w : Written)
+    → IfSome left (λ bytes. (Refuses refusal.Read w ⊎ Refuses refusal.Write w) ⊎ ((text : List ℕ) × (file : Option (List ℕ)) × IsTold (job.Resume workers nodes part) bytes (Some text) w file × IfLent out (Unit {0}) (λ o. IsSound o → Gets o.tells o.old o.new file)))
     → IfSome left (IsTrueWith out w)
-resume_all levels workers nodes None out w h = tt
-resume_all levels workers nodes (Some bytes) out w (inl (inl read)) = refused_true out bytes w refusal.Read read
-resume_all levels workers nodes (Some bytes) out w (inl (inr write)) = refused_true out bytes w refusal.Write write
-resume_all levels workers nodes (Some bytes) out w (inr h) = (h.1, search_true levels (job.Resume workers nodes) tt bytes (Some h.0) w h.1 h.2, λ small. h.3)
+resume_all levels workers nodes part None out w h = tt
+resume_all levels workers nodes part (Some bytes) out w (inl (inl read)) = refused_true out bytes w refusal.Read read
+resume_all levels workers nodes part (Some bytes) out w (inl (inr write)) = refused_true out bytes w refusal.Write write
+resume_all levels workers nodes part (Some bytes) out w (inr h) = (h.1, search_true levels (job.Resume workers nodes part) tt bytes (Some h.0) w h.1 h.2, λ small. h.3)
 
 -- and of a check
 check_all : (trees : TreesBound) (levels : LevelsBound) (left : Option (List ℕ)) (P : Option (List ℕ) → Type 0) (w : Written)
@@ -114,8 +115,8 @@ lent_there j cert none P Q needs has say h = known_at j cert.tells cert.old cert
 pub run_true : {R C O : Type 0} → TreesBound → LevelsBound → (j : Job) (u : Use R) (cert : Lent C) (out : Lent O) (w : Written) → HasCert j cert.old → DoesWith j u cert out w → RunIsTrue j u out w
 run_true trees levels job.Cost u cert out w has d = tt
 run_true trees levels (job.Plan workers nodes strong) u cert out w has d = λ sound. plan_all levels workers nodes strong (before u) out w (λ fine. d.0.told sound tt fine) d.0.unwritten
-run_true trees levels (job.Resume workers nodes) u cert out w has d = λ sound.
-    lent_there (job.Resume workers nodes) cert _ _ (IfSome (before u) (IsTrueWith out w)) (λ e. e) has (λ c h. resume_all levels workers nodes (before u) out w h) (d.some sound)
+run_true trees levels (job.Resume workers nodes part) u cert out w has d = λ sound.
+    lent_there (job.Resume workers nodes part) cert _ _ (IfSome (before u) (IsTrueWith out w)) (λ e. e) has (λ c h. resume_all levels workers nodes part (before u) out w h) (d.some sound)
 run_true trees levels job.Check u cert out w has d = λ sound.
     lent_there job.Check cert _ _ (IfSome (before u) (λ bytes. YesTellsTruth bytes w)) (λ e. e) has (λ c h. check_all trees levels (before u) (λ file. Unit {0}) w h) (d.0.some sound)
 run_true trees levels job.Frames u cert out w has d = tt
@@ -148,7 +149,7 @@ pub line_true : {R : Type 0} → TreesBound → LevelsBound → (l : Line) (u : 
 line_true trees levels (line.Cost None svg) u w d = tt
 line_true trees levels (line.Cost (Some cert) svg) u w d = tt
 line_true trees levels (line.Plan effort strong out places) u w d = λ sound. line_search levels (job.Plan effort.workers effort.nodes strong) tt None out (before u) w (d.told sound)
-line_true trees levels (line.Resume cert effort out places) u w d = λ sound. line_search levels (job.Resume effort.workers effort.nodes) tt (Some cert) out (before u) w (d.told sound)
+line_true trees levels (line.Resume cert effort part out places) u w d = λ sound. line_search levels (job.Resume effort.workers effort.nodes part) tt (Some cert) out (before u) w (d.told sound)
 line_true trees levels (line.Check cert) u w d = λ sound. line_check trees levels cert None (before u) w (d.told sound)
 line_true trees levels (line.Frames cert None header table report) u w d = tt
 line_true trees levels (line.Frames cert (Some pcap) header table report) u w d = tt

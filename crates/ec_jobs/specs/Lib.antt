@@ -1,3 +1,4 @@
+pub mod Merging
 pub mod Older
 pub mod Runs
 pub mod Sound

@@ -79,7 +79,7 @@ pub record Does {R C O : Type 0} (j : Job) (units : Use R) (cert : Lent C) (out 
 abbrev pub DoesWith : {R C O : Type 0} → Job → Use R → Lent C → Lent O → Written → Type 0
 DoesWith {R} {C} {O} job.Cost units cert out w = Does job.Cost units (nobody {X = C}) (nobody {X = O}) w × IsLeft cert × IsLeft out
 DoesWith {R} {C} {O} (job.Plan workers nodes strong) units cert out w = Does (job.Plan workers nodes strong) units (nobody {X = C}) out w × IsLeft cert
-DoesWith {R} {C} {O} (job.Resume workers nodes) units cert out w = Does (job.Resume workers nodes) units cert out w
+DoesWith {R} {C} {O} (job.Resume workers nodes part) units cert out w = Does (job.Resume workers nodes part) units cert out w
 DoesWith {R} {C} {O} job.Check units cert out w = Does job.Check units cert (nobody {X = O}) w × IsLeft out
 DoesWith {R} {C} {O} job.Frames units cert out w = Does job.Frames units cert (nobody {X = O}) w × IsLeft out
 DoesWith {R} {C} {O} job.Capture units cert out w = Does job.Capture units cert out w
@@ -126,8 +126,8 @@ usage text = record { text = text; code = 5 }
 abbrev pub HasCert : {C : Type 0} → Job → Option (Io C) → Type 0
 HasCert job.Cost cert = Unit {0}
 HasCert (job.Plan workers nodes strong) cert = Unit {0}
-HasCert (job.Resume workers nodes) None = ⊥
-HasCert (job.Resume workers nodes) (Some cert) = has_failed cert ≡ false
+HasCert (job.Resume workers nodes part) None = ⊥
+HasCert (job.Resume workers nodes part) (Some cert) = has_failed cert ≡ false
 HasCert job.Check None = ⊥
 HasCert job.Check (Some cert) = has_failed cert ≡ false
 HasCert job.Frames None = Unit {0}
@@ -148,7 +148,7 @@ NoneFailed (Some cert) = has_failed cert ≡ false
 abbrev pub HasOut : {O : Type 0} → Job → Option (Io O) → Type 0
 HasOut job.Cost out = Unit {0}
 HasOut (job.Plan workers nodes strong) out = Unit {0}
-HasOut (job.Resume workers nodes) out = Unit {0}
+HasOut (job.Resume workers nodes part) out = Unit {0}
 HasOut job.Check out = Unit {0}
 HasOut job.Frames out = Unit {0}
 HasOut job.Capture out = NoneFailed out

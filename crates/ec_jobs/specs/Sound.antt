@@ -10,6 +10,7 @@ use Rattle.ec_loads.specs.Cost.{plan_items, IsBusiest}
 use Rattle.ec_loads.specs.Legal.{IsLegal}
 use Rattle.ec_loads.specs.Search.{BoundsAll, IsLeast, HasNoPlan}
 use Rattle.ec_cert.specs.declared.cert.Best.{Best}
+use Rattle.ec_cert.specs.declared.part.Part.{Part}
 use Rattle.ec_cert.specs.BestPlan.{IsBestPlan}
 use Rattle.ec_cert.specs.Shapes.{CertView}
 use Rattle.ec_cert_text.specs.Text.{certificate_text}
@@ -18,6 +19,7 @@ use Rattle.ec_checker.specs.declared.fault.Verdict.TheVariants as verdict
 use Rattle.ec_outcome.specs.declared.search.Cut.{Cut}
 use Rattle.ec_workers.specs.Answers.{Asked}
 use Rattle.ec_workers.specs.Outcomes.{Shows}
+use Rattle.ec_answers.specs.Merged.{IsMergeWritten}
 use Rattle.ec_answers.specs.Planned.{Gets, IsPlanWritten, IsResumeWritten}
 use Rattle.ec_command.specs.declared.job.Job.{Job}
 use Rattle.ec_command.specs.declared.job.Job.TheVariants as job
@@ -119,7 +121,7 @@ PlanIsTrue = (asked : Asked) (bytes : List ℕ) (w : Written) (cert : Option (Li
 -- and whatever certificate it went on with
 abbrev pub ResumeIsTrue : Type 0
 ResumeIsTrue =
-    (workers nodes : ℕ) (bytes text : List ℕ) (w : Written) (cert : Option (List ℕ)) → IsResumeWritten workers nodes bytes text w cert → TellsTruth bytes w cert
+    (workers nodes : ℕ) (part : Part) (bytes text : List ℕ) (w : Written) (cert : Option (List ℕ)) → IsResumeWritten workers nodes part bytes text w cert → TellsTruth bytes w cert
 
 -- ---- what a run tells is true
 
@@ -131,7 +133,7 @@ SearchIsTrue units out w = IsSound units → IfSome (before units) (λ bytes. (f
 -- what a search and a check tell is true, whatever a certificate holds that they read; the other jobs claim nothing of other plans
 abbrev pub RunIsTrue : {R O : Type 0} → Job → Use R → Lent O → Written → Type 0
 RunIsTrue (job.Plan workers nodes strong) units out w = SearchIsTrue units out w
-RunIsTrue (job.Resume workers nodes) units out w = SearchIsTrue units out w
+RunIsTrue (job.Resume workers nodes part) units out w = SearchIsTrue units out w
 RunIsTrue job.Check units out w = IsSound units → IfSome (before units) (λ bytes. YesTellsTruth bytes w)
 RunIsTrue _ units out w = Unit {0}
 
@@ -142,7 +144,7 @@ IsTrueRun j units cert text out code = Tells (λ w. DoesWith j units cert out w 
 -- the same of a command line, of whose file nothing is known
 abbrev pub LineIsTrue : {R : Type 0} → Job → Use R → Written → Type 0
 LineIsTrue (job.Plan workers nodes strong) units w = IsSound units → IfSome (before units) (λ bytes. (file : Option (List ℕ)) × TellsTruth bytes w file)
-LineIsTrue (job.Resume workers nodes) units w = IsSound units → IfSome (before units) (λ bytes. (file : Option (List ℕ)) × TellsTruth bytes w file)
+LineIsTrue (job.Resume workers nodes part) units w = IsSound units → IfSome (before units) (λ bytes. (file : Option (List ℕ)) × TellsTruth bytes w file)
 LineIsTrue job.Check units w = IsSound units → IfSome (before units) (λ bytes. YesTellsTruth bytes w)
 LineIsTrue _ units w = Unit {0}
 
@@ -152,11 +154,13 @@ LineIsTrue _ units w = Unit {0}
 abbrev pub BeginsOptimal : ℕ → Written → Type 0
 BeginsOptimal b w = (rest : List ℕ) × (w.text ≡ optimal_line b ++ rest)
 
--- written is what a search over the units that the bytes say tells, begun or resumed, whatever was asked for and whatever it went on with
+-- written is what a search over the units that the bytes say tells, begun or resumed, whatever was asked for and whatever it went on with; or what is told of some
+-- certificates for them that were merged
 abbrev pub IsSearchTold : List ℕ → Written → Type 0
 IsSearchTold bytes w =
     ((asked : Asked) × (cert : Option (List ℕ)) × IsPlanWritten asked bytes w cert)
-    ⊎ ((workers : ℕ) × (nodes : ℕ) × (text : List ℕ) × (cert : Option (List ℕ)) × IsResumeWritten workers nodes bytes text w cert)
+    ⊎ (((workers : ℕ) × (nodes : ℕ) × (part : Part) × (text : List ℕ) × (cert : Option (List ℕ)) × IsResumeWritten workers nodes part bytes text w cert)
+    ⊎ ((cert : Option (List ℕ)) × IsMergeWritten bytes w cert))
 
 -- two searches over the same bytes that end with status 0 name one cost; and where one ends so, none ends with status 1
 abbrev pub OneLeastEach : Type 0

@@ -5,7 +5,7 @@ ghost use Rattle.ec_wire.specs.Stream.{has_failed, stream};
 ghost use Rattle.ec_command.specs.Words.{JobFits, cert_of, job_of, out_of};
 ghost use Rattle.ec_inputs.specs.Input.{ReadsUpTo, most_of_units};
 ghost use Rattle.ec_inputs.specs.Use.{used};
-ghost use Rattle.ec_answers.specs.Told.{IsWritable};
+ghost use Rattle.ec_answers.specs.Told.{HasText, IsWritable};
 ghost use Rattle.ec_jobs.specs.Runs.{AnswersLine, DoesLine, ReadsSomeCert, Tells, reported};
 ghost use Rattle.ec_jobs.specs.Sound.{LineIsTrue};
 
@@ -15,7 +15,7 @@ use crate::job::{Status, refuse};
 use crate::older::reason_to_stay;
 use ec_answers::{File, Told};
 use ec_command::{Job, Line};
-use ec_files::{Content, FileFault, KeepReason, Late, are_one};
+use ec_files::{Content, FileFault, KeepReason, Late};
 use ec_refusals::Refusal;
 use ec_tree::{levels_bound, trees_bound};
 use ec_unit_text::UnitFault;
@@ -94,49 +94,57 @@ fn content_of(line: &Line) -> Content {
     }
 }
 
-/// Why what stands at the path of a line makes no room for the file of what is told. The certificate that the line goes on
-/// with does, since nothing that goes on with it says less.
+/// Why what stands at the path of a file makes no room for it: a certificate that says more does so, but for the one that
+/// the search went on with, than which nothing that goes on with it says less.
 fn reason_to_leave<F: Files>(
-    files: &F,
     alloc: Global,
-    line: &Line,
-    path: &String,
+    from: Option<&String>,
     file: &File,
+    late: &Late<'_, F>,
 ) -> Option<KeepReason> {
     let File::Cert(cert) = file else {
         return None;
     };
-    if let Some(from) = line.cert() {
-        if are_one(files, alloc, from.as_str(), path.as_str()) {
-            return None;
-        }
+    match from {
+        Some(from) if late.is_at(from.as_str()) => None,
+        _ => reason_to_stay(alloc, late, cert),
     }
-    reason_to_stay(files, alloc, path.as_str(), cert)
 }
 
-/// Writes the file of what is told, if there is one, and lets it take its place. Why it isn't there.
-fn write_late<F: Files>(
-    files: &F,
+/// Writes a file, if there is one, of what went on with the certificate `from` if it did with one, and lets it take its
+/// place. Why it isn't there.
+pub(crate) fn settle_file<F: Files>(
     alloc: Global,
-    line: &Line,
-    path: &String,
-    told: &Result<Told, Refusal>,
+    from: Option<&String>,
+    file: &File,
     mut late: Late<'_, F>,
 ) -> Option<FileFault>
-    requires { IsWritable told.now }
+    requires { HasText file.now }
 {
-    let Ok(told) = told else {
-        return None;
-    };
     let mut out = Io::new(&mut late);
-    let written = write_file(&told.file, &mut out);
+    let written = write_file(file, &mut out);
     drop(out);
     let Ok(()) = written else {
         return Some(late.give_up());
     };
-    match reason_to_leave(files, alloc, line, path, &told.file) {
+    match reason_to_leave(alloc, from, file, &late) {
         Some(why) => Some(late.leave(why)),
         None => late.settle().err(),
+    }
+}
+
+/// Writes the file of what is told of a line, if there is one, and lets it take its place. Why it isn't there.
+fn write_late<F: Files>(
+    alloc: Global,
+    line: &Line,
+    told: &Result<Told, Refusal>,
+    late: Late<'_, F>,
+) -> Option<FileFault>
+    requires { IsWritable told.now }
+{
+    match told {
+        Ok(told) => settle_file(alloc, line.cert(), &told.file, late),
+        Err(_) => None,
     }
 }
 
@@ -199,7 +207,7 @@ fn report_line<R: Read, W: Write, F: Files, T: Threads + Wait + Sync, G: Gate + 
     match Late::new(files, alloc, path.as_str(), content_of(line)) {
         Ok(late) => {
             let told = tell_line(wait, files, alloc, line, units, gate);
-            let fault = write_late(files, alloc, line, path, &told, late);
+            let fault = write_late(alloc, line, &told, late);
             deliver_report(told, fault, text)
         }
         Err(AllocError) => {

@@ -8,11 +8,11 @@ ghost use Rattle.ec_jobs.specs.Older.{ShowsMore, SaysMore};
 
 use ec_cert::{Best, Cert, UnitLine};
 use ec_cert_text::{CertFault, MOST_BYTES, read_cert};
-use ec_files::KeepReason;
-use std::alloc::{AllocError, Global};
-use std::io::{ErrorKind, Read};
+use ec_files::{KeepReason, Late};
+use std::alloc::Global;
+use std::io;
+use std::io::ErrorKind;
 use std::rt::Files;
-use std::{fs, io};
 
 /// Whether two lines say the same of a unit.
 fn is_same(one: &UnitLine, other: &UnitLine) -> bool
@@ -72,16 +72,11 @@ fn says_more(older: &Cert, newer: &Cert) -> bool
         && (shows_more(older.level, level) || costs_less(&older.best, &newer.best))
 }
 
-/// The certificate at a path; none where there is no file that is one.
-fn older_at<F: Files>(files: &F, alloc: Global, path: &str) -> io::Result<Option<Cert>> {
-    match fs::metadata(files, path) {
-        Ok(found) if found.is_file() => {}
-        _ => return Ok(None),
-    }
-    let mut text = Vec::new(alloc);
-    fs::open(files, path)?
-        .take(MOST_BYTES as u64)
-        .read_to_end(&mut text)?;
+/// The certificate that stands at the path of a file; none where there is no file that is one.
+fn standing_cert<F: Files>(alloc: Global, late: &Late<'_, F>) -> io::Result<Option<Cert>> {
+    let Some(text) = late.standing(MOST_BYTES as u64)? else {
+        return Ok(None);
+    };
     match read_cert(alloc, &text) {
         Ok(cert) => Ok(Some(cert)),
         Err(CertFault::OutOfMemory) => Err(io::Error::from(ErrorKind::OutOfMemory)),
@@ -89,18 +84,17 @@ fn older_at<F: Files>(files: &F, alloc: Global, path: &str) -> io::Result<Option
     }
 }
 
-/// Why a certificate that stands at a path doesn't make room for a newer one: it says more for the same units, or it can't be
-/// read. None where nothing of it is lost (own profile).
+/// Why a certificate that stands at the path of a newer one makes no room for it: it says more for the same units, or it
+/// can't be read. None where nothing of it is lost (own profile).
 pub(crate) fn reason_to_stay<F: Files>(
-    files: &F,
     alloc: Global,
-    path: &str,
+    late: &Late<'_, F>,
     newer: &Cert,
 ) -> Option<KeepReason> {
     if newer.level.is_none() {
         return None;
     }
-    match older_at(files, alloc, path) {
+    match standing_cert(alloc, late) {
         Ok(Some(older)) if says_more(&older, newer) => Some(KeepReason::SaysMore),
         Ok(_) => None,
         Err(_) => Some(KeepReason::Unreadable),

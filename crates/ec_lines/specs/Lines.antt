@@ -57,6 +57,7 @@ cut_text cut.Journal = codes "journal"
 cut_text cut.Budget = codes "budget"
 cut_text cut.Memory = codes "memory"
 cut_text cut.Time = codes "time"
+cut_text cut.Parts = codes "parts"
 
 abbrev pub cut_line : Cut → List ℕ
 cut_line why = codes "cut " ++ (cut_text why ++ codes "\n")

@@ -139,7 +139,7 @@ module _ (IsText : UnitsView → List Place → List ℕ → Type 0) where
 abbrev pub IsUnitsOutput : Job → Option (List ℕ) → UnitsView → Written → Type 0
 IsUnitsOutput job.Cost cert v w = IsCostOutput v w
 IsUnitsOutput (job.Plan workers nodes strong) cert v w = ⊥
-IsUnitsOutput (job.Resume workers nodes) cert v w = ⊥
+IsUnitsOutput (job.Resume workers nodes part) cert v w = ⊥
 IsUnitsOutput job.Check None v w = ⊥
 IsUnitsOutput job.Check (Some text) v w = IsCheckOutput v text w
 IsUnitsOutput job.Frames cert v w = IsTextFor IsFramesText cert v w

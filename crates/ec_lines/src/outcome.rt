@@ -59,6 +59,7 @@ fn cut_name(cut: Cut) -> &'static str
         Cut::Budget => "budget",
         Cut::Memory => "memory",
         Cut::Time => "time",
+        Cut::Parts => "parts",
     }
 }
 

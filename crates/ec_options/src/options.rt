@@ -9,16 +9,18 @@ enum Verb {
     Cost,
     Plan,
     Resume,
+    Merge,
     Check,
     Frames,
     Play,
 }
 
 /// The commands in the order of the help.
-const VERBS: [Verb; 6] = [
+const VERBS: [Verb; 7] = [
     Verb::Cost,
     Verb::Plan,
     Verb::Resume,
+    Verb::Merge,
     Verb::Check,
     Verb::Frames,
     Verb::Play,
@@ -28,6 +30,7 @@ const VERBS: [Verb; 6] = [
 #[derive(Clone, Copy)]
 enum Choice {
     Cert,
+    Part,
     Picture,
     Lose,
     Capture,
@@ -45,8 +48,9 @@ enum Choice {
 }
 
 /// The options in the order of the help.
-const CHOICES: [Choice; 15] = [
+const CHOICES: [Choice; 16] = [
     Choice::Cert,
+    Choice::Part,
     Choice::Picture,
     Choice::Lose,
     Choice::Capture,
@@ -84,6 +88,10 @@ fn name_of<'a>(verb: Verb) -> (&'a str, &'a str) {
             "resume",
             "Goes on with a search that ended without a proof, from its certificate",
         ),
+        Verb::Merge => (
+            "merge",
+            "Merges certificates that come from one certificate, and tells what they show together",
+        ),
         Verb::Check => ("check", "Checks a certificate for the units"),
         Verb::Frames => (
             "frames",
@@ -105,6 +113,8 @@ fn has(verb: Verb, choice: Choice) -> bool {
         Choice::Capture => matches!(verb, Verb::Frames | Verb::Play),
         Choice::Header | Choice::Map | Choice::Report => matches!(verb, Verb::Frames),
         Choice::Strong => matches!(verb, Verb::Plan),
+        Choice::Part => matches!(verb, Verb::Resume),
+        Choice::Out => matches!(verb, Verb::Plan | Verb::Resume | Verb::Merge),
         Choice::File => true,
         _ => matches!(verb, Verb::Plan | Verb::Resume),
     }
@@ -120,6 +130,7 @@ fn cert_help<'a>(verb: Verb) -> &'a str {
         Verb::Play =>
             "The certificate whose plan is played; without it the places in the units are",
         Verb::Resume => "The certificate of a search that ended without a proof",
+        Verb::Merge => "A certificate to merge; stands once for each",
         _ => "The certificate to check",
     }
 }
@@ -152,6 +163,37 @@ fn lose_arg<'a>(alloc: Global) -> Arg<'a> {
         .help(
             "The station of a slave that passes each frame of the ticks on as it is; may stand several times",
         )
+}
+
+/// The path of a certificate that a command reads. It must be there where there is nothing to do without it.
+fn cert_arg<'a>(alloc: Global, verb: Verb) -> Arg<'a> {
+    let arg = path_arg(alloc, "cert", cert_help(verb)).required(matches!(
+        verb,
+        Verb::Resume | Verb::Check | Verb::Merge
+    ));
+    match verb {
+        Verb::Merge => arg.action(ArgAction::Append),
+        _ => arg,
+    }
+}
+
+/// With which open leaves a search goes on.
+fn part_arg<'a>(alloc: Global) -> Arg<'a> {
+    Arg::new(alloc, "part")
+        .long("part")
+        .value_name("I/N")
+        .action(ArgAction::Set)
+        .help(
+            "Go on only with the open leaves of part I of N, and leave the others to other machines",
+        )
+}
+
+/// What the help says of the certificate that a command writes.
+fn out_help<'a>(verb: Verb) -> &'a str {
+    match verb {
+        Verb::Merge => "Where to write the merged certificate",
+        _ => "Where to write the certificate, also of a search that ends without a proof",
+    }
 }
 
 /// How many workers search.
@@ -210,13 +252,11 @@ fn file_arg<'a>(alloc: Global) -> Arg<'a> {
         .help("The units; standard input where it is - or isn't given")
 }
 
-/// The option of a command. A certificate must be there where there is nothing to do without it.
+/// The option of a command.
 fn arg_of<'a>(alloc: Global, verb: Verb, choice: Choice) -> Arg<'a> {
     match choice {
-        Choice::Cert => path_arg(alloc, "cert", cert_help(verb)).required(matches!(
-            verb,
-            Verb::Resume | Verb::Check
-        )),
+        Choice::Cert => cert_arg(alloc, verb),
+        Choice::Part => part_arg(alloc),
         Choice::Picture => path_arg(
             alloc,
             "svg",
@@ -239,11 +279,7 @@ fn arg_of<'a>(alloc: Global, verb: Verb, choice: Choice) -> Arg<'a> {
             "report",
             "Where to write a page about the plan, as HTML",
         ),
-        Choice::Out => path_arg(
-            alloc,
-            "out",
-            "Where to write the certificate, also of a search that ends without a proof",
-        ),
+        Choice::Out => path_arg(alloc, "out", out_help(verb)),
         Choice::Places => path_arg(
             alloc,
             "places",

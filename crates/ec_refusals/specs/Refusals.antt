@@ -160,7 +160,7 @@ IsNoThread r = (r ≡ refusal.Play play.Ring) ⊎ (r ≡ refusal.Play play.Spawn
 abbrev pub IsMemory : Job → Refusal → Type 0
 IsMemory job.Cost r = r ≡ out_of_memory
 IsMemory (job.Plan workers nodes strong) r = IsPlanMemory r
-IsMemory (job.Resume workers nodes) r = IsResumeMemory r
+IsMemory (job.Resume workers nodes part) r = IsResumeMemory r
 IsMemory job.Check r = (r ≡ out_of_memory) ⊎ ((r ≡ refusal.Cert cert.OutOfMemory) ⊎ (r ≡ refusal.Check check.OutOfMemory))
 IsMemory job.Frames r = IsFramesMemory r
 IsMemory job.Capture r = IsFramesMemory r

@@ -72,6 +72,8 @@ fn help_without_plan(cut: Cut) -> &'static str {
             "Memory ran out before a plan was found, and there may be one: run it with more memory.\n",
         Cut::Journal =>
             "What the workers noted does not agree, and there may be a plan: run it with --workers 1.\n",
+        Cut::Parts =>
+            "The leaves of this part are closed, and there may be a plan: merge it with the certificates of the other parts.\n",
     }
 }
 
@@ -86,6 +88,8 @@ fn help_with_plan(cut: Cut) -> &'static str {
             "Memory ran out before it was shown to be the best: more memory may show it, or find a better one.\n",
         Cut::Journal =>
             "What the workers noted does not agree, so it is not shown to be the best: run it with --workers 1.\n",
+        Cut::Parts =>
+            "The leaves of this part are closed. What is open is left to others: merge it with the certificates of the other parts.\n",
     }
 }
 
@@ -98,6 +102,8 @@ fn help_to_close(cut: Cut) -> &'static str {
             "The time was over before the search was closed: a greater --minutes may close it.\n",
         Cut::Memory => "Memory ran out before the search was closed: more memory may close it.\n",
         Cut::Journal => "What the workers noted does not agree: run it with --workers 1.\n",
+        Cut::Parts =>
+            "The leaves of this part are closed: merge it with the certificates of the other parts.\n",
     }
 }
 
@@ -119,13 +125,13 @@ fn help_beyond(ending: Ending) -> &'static str {
             "All nodes were spent, as many as one search may visit: resume goes on from its certificate.\n",
         Cut::Time =>
             "The time was over, as much as one search may take: resume goes on from its certificate.\n",
-        Cut::Memory | Cut::Journal => help_for(ending),
+        Cut::Memory | Cut::Journal | Cut::Parts => help_for(ending),
     }
 }
 
 /// Whether a search by the strong rules may end with a proof where this one didn't.
 fn may_be_proved(ending: Ending) -> bool {
-    !ending.strong && ending.cut != Cut::Journal
+    !ending.strong && !matches!(ending.cut, Cut::Journal | Cut::Parts)
 }
 
 /// Adds how the search is gone on with, by its certificate.
@@ -143,6 +149,38 @@ fn add_resume(out: &mut Draft, filed: Filed<'_>) {
     }
 }
 
+/// Adds how a part is merged with the others, by its certificate.
+fn add_merge(out: &mut Draft, filed: Filed<'_>) {
+    match filed {
+        Filed::There(cert) => {
+            out.add("The command merge --cert ");
+            add_quoted(out, cert.path.as_bytes());
+            out.add(
+                " --cert PATH .. merges it with the others, and tells what they show together.\n",
+            );
+        }
+        Filed::Missing => {}
+        Filed::Unasked => out.add(
+            "With --out PATH its certificate is written, and the command merge merges it with the others.\n",
+        ),
+    }
+}
+
+/// Adds how one goes on from merged certificates.
+fn add_onward(out: &mut Draft, filed: Filed<'_>) {
+    match filed {
+        Filed::There(cert) => {
+            out.add("The command resume --cert ");
+            add_quoted(out, cert.path.as_bytes());
+            out.add(" goes on with these leaves, and with --part I/N on many machines.\n");
+        }
+        Filed::Missing => {}
+        Filed::Unasked => out.add(
+            "With --out PATH the merged certificate is written, and the command resume --cert PATH goes on with it.\n",
+        ),
+    }
+}
+
 /// Adds that a certificate can't be read again.
 fn add_size(out: &mut Draft, cert: Written<'_>) {
     out.add("The certificate in ");
@@ -151,16 +189,20 @@ fn add_size(out: &mut Draft, cert: Written<'_>) {
     out.add(format_args!(
         " has {bytes} bytes. At most {MOST_READ} are read: check and resume refuse it.\n"
     ));
-    out.add("A smaller --nodes gives a smaller one.\n");
+}
+
+/// Adds what an end without a proof is good for.
+fn add_found(out: &mut Draft, ending: Ending) {
+    if ending.best.is_some() {
+        out.add("The plan is legal and can be used as it stands.\n");
+    }
+    add_level(out, ending);
 }
 
 /// Adds what a search without a proof is good for, and what would help it, which took as much as may be asked for where
 /// `is_most` says so.
 fn add_unproved(out: &mut Draft, ending: Ending, is_most: bool) {
-    if ending.best.is_some() {
-        out.add("The plan is legal and can be used as it stands.\n");
-    }
-    add_level(out, ending);
+    add_found(out, ending);
     out.add(if is_most {
         help_beyond(ending)
     } else {
@@ -186,8 +228,41 @@ pub fn counsel(
         add_unproved(&mut out, ending, is_most);
     }
     match (ending, filed) {
-        (_, Filed::There(cert)) if cert.is_too_large() => add_size(&mut out, cert),
+        (_, Filed::There(cert)) if cert.is_too_large() => {
+            add_size(&mut out, cert);
+            out.add("A smaller --nodes gives a smaller one.\n");
+        }
+        (
+            Some(
+                Ending {
+                    cut: Cut::Parts,
+                    ..
+                },
+            ),
+            _,
+        ) => add_merge(&mut out, filed),
         (Some(_), _) => add_resume(&mut out, filed),
+        (None, _) => {}
+    }
+    out.finish()
+}
+
+/// What to do after certificates were merged, in a few sentences, each a line. Where they are no proof together: what the
+/// plan is good for, what is proved of every plan, and how one goes on from them. In any case: that the merged certificate, if
+/// one was written, has more bytes than are read again. Only want of memory is an error (own profile).
+pub fn counsel_merged(
+    alloc: Global,
+    ending: Option<Ending>,
+    filed: Filed<'_>,
+) -> Result<String, AllocError> {
+    let mut out = Draft::new(alloc);
+    if let Some(ending) = ending {
+        add_found(&mut out, ending);
+        out.add("Some leaves are still open: none of these certificates closes them.\n");
+    }
+    match (ending, filed) {
+        (_, Filed::There(cert)) if cert.is_too_large() => add_size(&mut out, cert),
+        (Some(_), _) => add_onward(&mut out, filed),
         (None, _) => {}
     }
     out.finish()

@@ -1,4 +1,6 @@
+pub mod Merges
 pub mod Names
 pub mod Numbers
+pub mod Parts
 pub mod Paths
 pub mod Trials

@@ -29,5 +29,5 @@ HasEffortOf m e = IsSaidBy m (codes "workers") e.workers × IsSaidBy m (codes "n
 -- the numbers of a plan, and whether it goes by the strong rules; and the numbers of a resumed search
 abbrev pub HasNumbersOf : ArgMatches → Line → Type 0
 HasNumbersOf m (line.Plan effort strong out places) = HasEffortOf m effort × IsFlagOf m (codes "strong") strong
-HasNumbersOf m (line.Resume cert effort out places) = HasEffortOf m effort
+HasNumbersOf m (line.Resume cert effort part out places) = HasEffortOf m effort
 HasNumbersOf m _ = Unit {0}

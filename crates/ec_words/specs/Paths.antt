@@ -14,7 +14,7 @@ IsPathOf m id path = option_map string_bytes path ≡ first_value (found_of m) i
 abbrev pub HasPathsOf : ArgMatches → Line → Type 0
 HasPathsOf m (line.Cost cert svg) = IsPathOf m (codes "cert") cert × IsPathOf m (codes "svg") svg
 HasPathsOf m (line.Plan effort strong out places) = IsPathOf m (codes "out") out × IsPathOf m (codes "places") places
-HasPathsOf m (line.Resume cert effort out places) = IsPathOf m (codes "cert") (Some cert) × IsPathOf m (codes "out") out × IsPathOf m (codes "places") places
+HasPathsOf m (line.Resume cert effort part out places) = IsPathOf m (codes "cert") (Some cert) × IsPathOf m (codes "out") out × IsPathOf m (codes "places") places
 HasPathsOf m (line.Check cert) = IsPathOf m (codes "cert") (Some cert)
 HasPathsOf m (line.Frames cert pcap header table report) =
     IsPathOf m (codes "cert") cert × IsPathOf m (codes "pcap") pcap × IsPathOf m (codes "header") header × IsPathOf m (codes "map") table × IsPathOf m (codes "report") report

@@ -1,6 +1,11 @@
 //! The words of the command line.
 #![tactic(auto)]
 
+mod asked;
+mod merges;
+mod part;
 mod words;
 
-pub use words::{LineFault, Trial, Words, read_words};
+pub use asked::{Asked, read_words};
+pub use merges::Merging;
+pub use words::{LineFault, Trial, Words};

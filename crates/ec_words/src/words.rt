@@ -1,19 +1,24 @@
-//! The command line.
+//! The words of a line.
 
 ghost use Rattle.std.specs.Prelude.{◌≡◌, ◌≤◌, true, Some, codes, IfOk, IfSome};
 ghost use Rattle.std.specs.Option.{ForSome};
 ghost use Rattle.ec_command.specs.Words.{JobFits, job_of};
 ghost use Rattle.ec_words.specs.Names.{name_of};
 ghost use Rattle.ec_words.specs.Numbers.{EffortFits, HasEffortOf, HasNumbersOf, IsSaidBy};
+ghost use Rattle.ec_words.specs.Parts.{HasPartOf, PartFits};
 ghost use Rattle.ec_words.specs.Paths.{HasPathsOf, IsPathOf};
 ghost use Rattle.ec_words.specs.Trials.{AreSaidBy, HasCaptureOf, HasLostOf};
 ghost use Rattle.ec_words.specs.declared.words.LineFault.TheVariants.{Memory};
 
+use crate::part::part_of;
 use clap::error::ErrorKind;
 use clap::{ArgMatches, Error};
+use ec_cert::Part;
 use ec_command::{Effort, Line};
-use ec_options::all_commands;
 use std::alloc::{AllocError, Global};
+
+/// What is told of a word that says no part.
+const NO_PART: &str = "error: --part is I/N with 1 <= I <= N <= 10000, as 3/8\n";
 
 /// Why words are no command line.
 #[derive(Debug, Drop)]
@@ -52,7 +57,7 @@ pub struct Trial {
 }
 
 /// A refusal with this text, unless memory ran out.
-fn refused(alloc: Global, text: &str) -> LineFault {
+pub(crate) fn refused(alloc: Global, text: &str) -> LineFault {
     match String::from_str(alloc, text) {
         Ok(text) => LineFault::Refused { text },
         Err(AllocError) => LineFault::Memory,
@@ -60,7 +65,7 @@ fn refused(alloc: Global, text: &str) -> LineFault {
 }
 
 /// What words that give no matches are answered with: the error's text, unless memory ran out.
-fn fault_of(alloc: Global, error: Error) -> LineFault {
+pub(crate) fn fault_of(alloc: Global, error: Error) -> LineFault {
     if error.kind() == ErrorKind::OutOfMemory {
         return LineFault::Memory;
     }
@@ -71,7 +76,7 @@ fn fault_of(alloc: Global, error: Error) -> LineFault {
 }
 
 /// The path that an option names, if it is there.
-fn path_of(
+pub(crate) fn path_of(
     alloc: Global,
     matches: &ArgMatches<'_>,
     option: &str,
@@ -172,6 +177,17 @@ fn plan_line(alloc: Global, matches: &ArgMatches<'_>) -> Result<Line, LineFault>
     })
 }
 
+/// The part of a resumed search, or the refusal of a word that says no part.
+fn part(alloc: Global, matches: &ArgMatches<'_>) -> Result<Part, LineFault>
+    ensures fits { IfOk result PartFits }
+    ensures said { IfOk result (HasPartOf matches.now) }
+{
+    match part_of(matches) {
+        Some(part) => Ok(part),
+        None => Err(refused(alloc, NO_PART)),
+    }
+}
+
 /// The line of a resumed search with these options.
 fn resume_line(alloc: Global, matches: &ArgMatches<'_>) -> Result<Line, LineFault>
     ensures named { IfOk result (λ line. name_of line ≡ codes "resume") }
@@ -180,12 +196,14 @@ fn resume_line(alloc: Global, matches: &ArgMatches<'_>) -> Result<Line, LineFaul
     ensures paths { IfOk result (HasPathsOf matches.now) }
 {
     let effort = effort(alloc, matches)?;
+    let part = part(alloc, matches)?;
     let cert = cert_path(alloc, matches)?;
     let out = path_of(alloc, matches, "out")?;
     let places = path_of(alloc, matches, "places")?;
     Ok(Line::Resume {
         cert,
         effort,
+        part,
         out,
         places,
     })
@@ -285,25 +303,24 @@ fn trial_of(alloc: Global, line: &Line, matches: &ArgMatches<'_>) -> Result<Tria
 }
 
 /// The path of the units, where they don't come on standard input.
-fn units_path(alloc: Global, matches: &ArgMatches<'_>) -> Result<Option<String>, AllocError> {
+pub(crate) fn units_path(
+    alloc: Global,
+    matches: &ArgMatches<'_>,
+) -> Result<Option<String>, AllocError> {
     match matches.get_str("file") {
         None | Some("-") => Ok(None),
         Some(path) => Ok(Some(String::from_str(alloc, path)?)),
     }
 }
 
-/// Reads the words after the program's name: `cost`, `plan`, `resume`, `check`, `frames` or `play`, with its options and the path of
-/// the units.
-pub fn read_words(alloc: Global, words: &[String]) -> Result<Words, LineFault>
+/// The words of a line with these options.
+pub(crate) fn line_words(
+    alloc: Global,
+    command: &str,
+    options: &ArgMatches<'_>,
+) -> Result<Words, LineFault>
     ensures { IfOk result (λ words. JobFits (job_of words.line)) }
 {
-    let matches = match all_commands(alloc)?.try_get_matches_from(words) {
-        Ok(matches) => matches,
-        Err(error) => return Err(fault_of(alloc, error)),
-    };
-    let Some((command, options)) = matches.subcommand() else {
-        return Err(refused(alloc, "error: no command\n"));
-    };
     let line = line_of(alloc, command, options)?;
     let units = units_path(alloc, options)?;
     let trial = trial_of(alloc, &line, options)?;

@@ -8,6 +8,7 @@ mod faults;
 mod handing;
 mod job;
 mod kept;
+mod merging;
 mod progress;
 mod remark;
 mod targets;
@@ -15,10 +16,11 @@ mod telling;
 mod trial;
 
 use crate::job::do_words;
+use crate::merging::do_merging;
 use crate::telling::WAITING;
 use ec_jobs::{refuse_memory, refuse_words};
 use ec_wire::Io;
-use ec_words::{LineFault, read_words};
+use ec_words::{Asked, LineFault, read_words};
 use std::io::{ErrorKind, IsTerminal};
 use std::process::ExitCode;
 use std::{env, fs, io};
@@ -38,6 +40,13 @@ fn hold_number(rt: &HostRuntime) -> Option<fs::File> {
     fs::open(rt, "/").ok()
 }
 
+/// Tells a person that the units are waited for, where they come from a terminal.
+fn tell_waiting(rt: &HostRuntime, come_on_input: bool) {
+    if come_on_input && rt.stdin().is_terminal() {
+        let _ = rt.eprint(WAITING);
+    }
+}
+
 /// Reads the words, does what they say, and ends with its status.
 fn main(rt: HostRuntime) -> ExitCode {
     let _held = (hold_number(&rt), hold_number(&rt), hold_number(&rt));
@@ -51,12 +60,14 @@ fn main(rt: HostRuntime) -> ExitCode {
         Err(_) => return ExitCode::from(refuse_memory(&mut out).code),
     };
     match read_words(rt.alloc(), &words) {
-        Ok(words) => {
-            if words.units.is_none() && rt.stdin().is_terminal() {
-                let _ = rt.eprint(WAITING);
-            }
+        Ok(Asked::Line(words)) => {
+            tell_waiting(&rt, words.units.is_none());
             let is_terminal = rt.stderr().is_terminal();
             ExitCode::from(do_words(&rt, &words, is_terminal))
+        }
+        Ok(Asked::Merge(merging)) => {
+            tell_waiting(&rt, merging.units.is_none());
+            ExitCode::from(do_merging(&rt, &merging))
         }
         Err(LineFault::Memory) => ExitCode::from(refuse_memory(&mut out).code),
         Err(LineFault::Refused { text }) => {

@@ -158,9 +158,13 @@ pub(crate) fn tell_refusal<'x, R: Files + AllocGlobal + Eprint>(
     }
 }
 
-/// What became of the certificate of a search, which is at the path of its line where `is_there` says so.
-fn filed_by<'x, R: Files>(files: &R, line: &'x Line, is_there: bool) -> Filed<'x> {
-    let Some(path) = text_of(line.out()) else {
+/// What became of a certificate that was to be written to this path, and is there where `is_there` says so.
+pub(crate) fn filed_at<'x, R: Files>(
+    files: &R,
+    path: Option<&'x str>,
+    is_there: bool,
+) -> Filed<'x> {
+    let Some(path) = path else {
         return Filed::Unasked;
     };
     if !is_there {
@@ -195,7 +199,7 @@ fn tell_advice<R: Files + AllocGlobal + Eprint>(rt: &R, line: &Line, told: &Told
     let (Line::Plan { .. } | Line::Resume { .. }) = line else {
         return;
     };
-    let filed = filed_by(rt, line, is_there);
+    let filed = filed_at(rt, text_of(line.out()), is_there);
     if let Ok(text) = advice(rt.alloc(), told.ending, filed, is_most(line, told)) {
         let _ = rt.eprint(text.as_str());
     }

@@ -2,11 +2,11 @@
 //!
 //! Its head is the line of a refusal, and below it `cert PATH`, `out PATH` and `reason WORDS` where the job had them. Or it is
 //! the first line of a search's text: of one without a proof `unproved V`, below it `cut WHY` and `at least L`, and `strong`
-//! of a search by the strong rules, `most` of one that took as much as may be asked for; and where a certificate was wanted,
-//! `out PATH` and `bytes N`, and `missing` where it isn't there.
+//! of a search by the strong rules, `most` of one that took as much as may be asked for, `merged` of merged certificates; and
+//! where a certificate was wanted, `out PATH` and `bytes N`, and `missing` where it isn't there.
 
 use crate::refusals::refusal_of;
-use ec_explain::{Filed, Inputs, Written, advice, explain};
+use ec_explain::{Filed, Inputs, Written, advice, explain, merged_advice};
 use ec_outcome::{Cut, Ending};
 use std::alloc::{AllocError, Global};
 
@@ -40,6 +40,7 @@ fn cut_named(name: &str) -> Option<Cut> {
         "budget" => Some(Cut::Budget),
         "memory" => Some(Cut::Memory),
         "time" => Some(Cut::Time),
+        "parts" => Some(Cut::Parts),
         _ => None,
     }
 }
@@ -64,6 +65,9 @@ pub(crate) fn answer_to<'x>(
     units: &'x [u8],
     cert: Option<&'x [u8]>,
 ) -> Result<String, AllocError> {
+    if part(head, "merged").is_some() {
+        return merged_advice(alloc, ending_of(head), filed_of(head));
+    }
     if !head.starts_with("refused ") {
         return advice(
             alloc,

@@ -14,7 +14,7 @@ use crate::guide::{Wish, found_below, is_reached};
 use crate::samples::add_places;
 use ec_book::{Book, BookFault, Finished, Taken};
 use ec_branch::search_order;
-use ec_cert::{Cert, Tree};
+use ec_cert::{Cert, Part, Tree};
 use ec_drafts::Draft;
 use ec_loads::{Places, Plan};
 use ec_symmetry::Rules;
@@ -97,7 +97,7 @@ fn resumed(
     ensures book { IfOk result (λ r. IsBookOf units.now.units units.now.slots r.1.items turned_time r.0) }
 {
     let order = Vec::from_slice(alloc, cert.order.as_slice())?;
-    let book = Book::resume(alloc, units, cert, Rules::Turned, nodes)?;
+    let book = Book::resume(alloc, units, cert, Rules::Turned, Part::whole(), nodes)?;
     Ok((book, order))
 }
 

@@ -6,7 +6,7 @@ ghost use Rattle.ec_workers.specs.Answers.{Asked, IsOutcome};
 use crate::call::Call;
 use crate::certs::{add_verdict, add_written, resumable};
 use crate::crews::{Crew, Told, add_outcome, crew_of};
-use ec_cert::Cert;
+use ec_cert::{Cert, Part};
 use ec_checker::level;
 use ec_drafts::Draft;
 use ec_units::Units;
@@ -110,7 +110,16 @@ fn resume(
     let workers = crew.workers.clamp(1, 16);
     let nodes = crew.nodes.clamp(1, 10_000_000);
     if let Some(cert) = resumable(told, alloc, units, barred) {
-        let found = solve_from(rt, alloc, units, cert, workers, nodes, &Told::new());
+        let found = solve_from(
+            rt,
+            alloc,
+            units,
+            cert,
+            Part::whole(),
+            workers,
+            nodes,
+            &Told::new(),
+        );
         end(told, text, alloc, units, found);
     }
 }

@@ -10,6 +10,7 @@ use ec_command::Line;
 use ec_drafts::Draft;
 use ec_jobs::do_line;
 use ec_wire::Io;
+use ec_words::Asked;
 use ec_workers::Quiet;
 use std::alloc::AllocError;
 use std::io::Read;
@@ -83,7 +84,8 @@ fn add_answer<R: Files + AllocGlobal + Threads + Wait + Sync>(
     units: &str,
 ) {
     match asked(rt.alloc(), line) {
-        Ok(asked) => add_done(out, rt, &asked.line, units),
+        Ok(Asked::Line(words)) => add_done(out, rt, &words.line, units),
+        Ok(Asked::Merge(_)) => out.add("no line\n"),
         Err(_) => out.add("no line\n"),
     }
 }

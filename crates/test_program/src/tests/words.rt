@@ -1,11 +1,12 @@
 //! The command line.
 
 ghost use Rattle.std.specs.Prelude.{IfOk};
-ghost use Rattle.ec_command.specs.Words.{JobFits, job_of};
+ghost use Rattle.ec_words.specs.Merges.{AskedFits};
 
+use ec_cert::Part;
 use ec_command::{Job, Line};
 use ec_drafts::Draft;
-use ec_words::{LineFault, Words, read_words};
+use ec_words::{Asked, LineFault, Merging, Words, read_words};
 use std::alloc::{AllocError, Global};
 
 /// Adds words as the command line gives them, out of a text with one space between two words.
@@ -20,8 +21,8 @@ fn add_words(words: &mut Vec<String>, alloc: Global, text: &str) -> Result<(), A
 }
 
 /// What the words of a text ask for.
-pub(super) fn asked(alloc: Global, text: &str) -> Result<Words, LineFault>
-    ensures { IfOk result (λ words. JobFits (job_of words.line)) }
+pub(super) fn asked(alloc: Global, text: &str) -> Result<Asked, LineFault>
+    ensures { IfOk result AskedFits }
 {
     let mut words = Vec::new(alloc);
     match add_words(&mut words, alloc, text) {
@@ -38,6 +39,14 @@ fn path_of(path: Option<&String>) -> &str {
     }
 }
 
+/// Adds the part of a resumed search, where there are several.
+fn add_part(out: &mut Draft, part: Part) {
+    let Part { index, count } = part;
+    if count != 1 {
+        out.add(format_args!(" part {index}/{count}"));
+    }
+}
+
 /// Adds a job, with its numbers.
 fn add_job(out: &mut Draft, job: Job) {
     match job {
@@ -50,7 +59,14 @@ fn add_job(out: &mut Draft, job: Job) {
             let how = if strong { " strong" } else { "" };
             out.add(format_args!("<plan {workers} {nodes}{how}"));
         }
-        Job::Resume { workers, nodes } => out.add(format_args!("<resume {workers} {nodes}")),
+        Job::Resume {
+            workers,
+            nodes,
+            part,
+        } => {
+            out.add(format_args!("<resume {workers} {nodes}"));
+            add_part(out, part);
+        }
         Job::Check => out.add("<check"),
         Job::Frames => out.add("<frames"),
         Job::Capture => out.add("<capture"),
@@ -95,10 +111,24 @@ fn add_line(out: &mut Draft, words: &Words) {
     add_minutes(out, line);
 }
 
+/// Adds the certificates that are to be merged, the path of the merged one, and that of the units.
+fn add_merging(out: &mut Draft, merging: &Merging) {
+    out.add("<merge");
+    for cert in merging.certs.as_slice() {
+        out.add(format_args!(" {}", cert.as_str()));
+    }
+    out.add(format_args!(
+        " {}> {}",
+        path_of(merging.out.as_ref()),
+        path_of(merging.units.as_ref())
+    ));
+}
+
 /// Adds what the words of a text are answered with: their line, or the text of their refusal.
 fn add_answer(out: &mut Draft, alloc: Global, text: &str) {
     match asked(alloc, text) {
-        Ok(words) => add_line(out, &words),
+        Ok(Asked::Line(words)) => add_line(out, &words),
+        Ok(Asked::Merge(merging)) => add_merging(out, &merging),
         Err(LineFault::Refused { text }) => out.add(format_args!("<{text}>")),
         Err(LineFault::Memory) => out.give_up(),
     }
@@ -204,6 +234,14 @@ const LINES: &str = "cost : <cost - ->|\
     resume --workers 16 --nodes 10000000 --cert p : <resume 16 10000000 p ->|\
     resume --out q --nodes 8 --cert p --workers 2 r : <resume 2 8 p q> r -|\
     resume r --cert p : <resume 1 1000000 p -> r -|\
+    resume --cert p --part 3/8 : <resume 1 1000000 part 3/8 p ->|\
+    resume --part=8/8 --cert p --workers 2 : <resume 2 1000000 part 0/8 p ->|\
+    resume --cert p --part 1/1 : <resume 1 1000000 p ->|\
+    resume --cert p --part 9999/10000 --nodes 5 : <resume 1 5 part 9999/10000 p ->|\
+    merge --cert p : <merge p -> -|\
+    merge --cert p --cert q --cert p : <merge p q p -> -|\
+    merge --cert=q --out=r s --cert p : <merge q p r> s|\
+    merge --cert p --out p - : <merge p p> -|\
     resume --cert p - : <resume 1 1000000 p ->";
 
 /// Words that are no command, with a part of what is told; of two the whole text.
@@ -224,6 +262,32 @@ const REFUSED: &str = " : requires a subcommand|\
     resume --cert p --pcap q : unexpected argument '--pcap'|\
     resume --cert p --svg q : unexpected argument '--svg'|\
     resume --cert p q r : unexpected argument 'r'|\
+    resume --cert p --part : a value is required for '--part <I/N>'|\
+    resume --cert p --part 1/2 --part 1/2 : '--part <I/N>' cannot be used multiple times|\
+    resume --cert p --part 0/3 : <error: --part is I/N with 1 <= I <= N <= 10000, as 3/8\n>|\
+    resume --cert p --part 4/3 : <error: --part is I/N with|\
+    resume --cert p --part 1/0 : <error: --part is I/N with|\
+    resume --cert p --part a/b : <error: --part is I/N with|\
+    resume --cert p --part 1/10001 : <error: --part is I/N with|\
+    resume --cert p --part 1/65537 : <error: --part is I/N with|\
+    resume --cert p --part 65537/3 : <error: --part is I/N with|\
+    resume --cert p --part 1 : <error: --part is I/N with|\
+    resume --cert p --part / : <error: --part is I/N with|\
+    resume --cert p --part 1/ : <error: --part is I/N with|\
+    resume --cert p --part 1/2/3 : <error: --part is I/N with|\
+    resume --cert p --part= : <error: --part is I/N with|\
+    resume --part 1/2 : --cert <PATH>|\
+    plan --part 1/2 : unexpected argument '--part'|\
+    check --cert p --part 1/2 : unexpected argument '--part'|\
+    merge : --cert <PATH>|\
+    merge p q : --cert <PATH>|\
+    merge --cert : a value is required for '--cert <PATH>'|\
+    merge --cert p --cert : a value is required for '--cert <PATH>'|\
+    merge --cert p --out q --out q : '--out <PATH>' cannot be used multiple times|\
+    merge --cert p q r : unexpected argument 'r'|\
+    merge --cert p --nodes 5 : unexpected argument '--nodes'|\
+    merge --cert p --places q : unexpected argument '--places'|\
+    merge --cert p --part 1/2 : unexpected argument '--part'|\
     frames --cert : a value is required for '--cert <PATH>'|\
     frames --out p : unexpected argument '--out'|\
     frames --pcap : a value is required for '--pcap <PATH>'|\
@@ -310,6 +374,10 @@ const HELP: &str = "--help : Usage: ecplan <COMMAND>|\
     check --help : Usage: ecplan check --cert <PATH> [FILE]|\
     resume --help : Usage: ecplan resume [OPTIONS] --cert <PATH> [FILE]|\
     resume --help : without it 1000000, with --minutes 10000000|\
+    resume --help : Go on only with the open leaves of part I of N|\
+    merge --help : Usage: ecplan merge [OPTIONS] --cert <PATH> [FILE]|\
+    merge --help : Where to write the merged certificate|\
+    --help : Merges certificates that come from one certificate|\
     frames --help : Usage: ecplan frames [OPTIONS] [FILE]|\
     frames --help : Where to write the frames as a capture file|\
     play --help : Usage: ecplan play [OPTIONS] [FILE]|\

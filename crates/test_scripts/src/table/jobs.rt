@@ -6,6 +6,7 @@ ghost use Rattle.ec_command.specs.Words.{JobFits, IsPlain};
 ghost use Rattle.ec_jobs.specs.Runs.{HasCert};
 
 use crate::table::row::Row;
+use ec_cert::Part;
 use ec_command::Job;
 use ec_jobs::{Status, run, run_plain};
 use ec_wire::Io;
@@ -85,7 +86,11 @@ fn search_or(row: &Row<'_>, other: Job) -> Job
             nodes,
             strong: row.job == "strong",
         },
-        "resume" => Job::Resume { workers, nodes },
+        "resume" => Job::Resume {
+            workers,
+            nodes,
+            part: Part::whole(),
+        },
         _ => other,
     }
 }
