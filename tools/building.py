@@ -18,8 +18,8 @@ from placing import bytes_at, write_whole
 from sources import PARTS, PROGRAM, TOP, hash_of_tree, is_source, lines_of_crates, sources, stands_on, sum_of
 from symbols import without_symbols
 
-# The crates at the top, of which each waits for the one before it or has only that one beside it.
-LAST = ("ec_crew", "ec_workers", "ec_answers", "ec_jobs", PROGRAM)
+# The lowest of the crates at the top: each that stands on it waits for the one before, or has only that one beside it.
+FIRST_OF_LAST = "ec_crew"
 # How the line begins that says that the program is proved, now or by an earlier run over the same sources.
 PROVED = (b"logic=proved", b"rt: nothing has changed since the last proved build")
 # What is said before the path of what the provers said.
@@ -184,11 +184,17 @@ def built_in(home, log, progress):
     return built
 
 
-def without_last(found):
+def last_crates():
+    """The crates at the top, each after those below it."""
+    lines = lines_of_crates()
+    return [crate for crate in stands_on(lines) if FIRST_OF_LAST in stands_on(lines, crate)]
+
+
+def without(last, found):
     """These sources without those of the last crates."""
-    lower = {path: content for path, content in found.items() if path.split("/")[:2][-1] not in LAST}
+    lower = {path: content for path, content in found.items() if path.split("/")[:2][-1] not in last}
     listed = found["crates.txt"].decode().splitlines(keepends=True)
-    lower["crates.txt"] = "".join(it for it in listed if it.partition(":")[0] not in LAST).encode()
+    lower["crates.txt"] = "".join(it for it in listed if it.partition(":")[0] not in last).encode()
     return lower
 
 
@@ -219,18 +225,18 @@ def build(folder, crates, found):
     progress = Progress(crates, min(at_once, len(os.sched_getaffinity(0))))
     say("proving the %d crates that the program stands on; this is done once" % len(crates))
     progress.tell()
-    inside, aside = os.path.join(folder, "crates"), folder + "-aside"
-    home = {crate: os.path.join(inside, crate) for crate in LAST}
-    for crate in LAST:
+    inside, aside, last = os.path.join(folder, "crates"), folder + "-aside", last_crates()
+    home = {crate: os.path.join(inside, crate) for crate in last}
+    for crate in last:
         # What an interrupted run kept of them; no check goes by a file of a crate that crates.txt doesn't name.
         move_out(crate, inside, aside)
-    make_same(folder, without_last(found))
+    make_same(folder, without(last, found))
     with open(os.path.join(folder, "log"), "wb") as log:
         is_proved = follow(["rt", "all", "check", "--jobs", str(at_once)], folder, log, progress) == 0
         make_same(folder, found)
-        for crate in LAST:
+        for crate in last:
             move_out(crate, aside, inside)
-        for crate in LAST[:-1]:
+        for crate in last[:-1]:
             is_proved = is_proved and follow(["rt", "lib"], home[crate], log, progress) == 0
             if is_proved:
                 progress.ended(crate)
