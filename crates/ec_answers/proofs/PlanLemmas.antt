@@ -13,7 +13,6 @@ use Rattle.ec_answers.specs.declared.told.Told.{Told}
 use Rattle.ec_lines.specs.Outcomes.{outcome_output, IsLevelOf}
 use Rattle.ec_refusals.specs.Refusals.{out_of_memory}
 use Rattle.ec_cert.specs.declared.cert.Best.{Best}
-use Rattle.ec_cert.specs.declared.order.Order.{Order}
 use Rattle.ec_cert.specs.declared.tree.Tree.{Tree}
 use Rattle.ec_cert.specs.Shapes.{shape_of}
 use Rattle.ec_units.specs.declared.unit.Unit.{Unit as SyncUnit}
@@ -34,6 +33,6 @@ pub search_untold : (is : Units → Outcome → Type 0) (fault : Refusal → Typ
 search_untold is fault r t eq why = rw eq (None, inr (record { refusal = r; why = why; line = refl; certificate = refl }), refl)
 
 -- what a search without a proof has
-pub unproved_of : (units : List SyncUnit) (n : ℕ) (o : Outcome) (best : Option Best) (order : Order) (tree : Tree) (strong : Bool) (why : Cut) → o ≡ outcome.Unproved best order tree strong why → (asked : Asked) × IsOutcome units n asked o
+pub unproved_of : (units : List SyncUnit) (n : ℕ) (o : Outcome) (best : Option Best) (order : List ℕ) (tree : Tree) (strong : Bool) (why : Cut) → o ≡ outcome.Unproved best order tree strong why → (asked : Asked) × IsOutcome units n asked o
     → (asked : Asked) × IsUnproved units n asked best order (shape_of tree) strong why
 unproved_of units n o best order tree strong why is h = subst (λ (x : Outcome). (asked : Asked) × IsOutcome units n asked x) is h

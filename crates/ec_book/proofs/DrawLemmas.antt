@@ -1,7 +1,7 @@
 -- The last trees in place of the open leaves, from the last report to the first.
-use Rattle.std.proofs.Common.{◌≡◌, ◌≢◌, ℕ, zero, suc, ◌+◌, ◌<◌, ◌≤◌, ◌==◌, Bool, true, false, eqb, if◌then◌else◌, List, [], ◌∷◌, ◌++◌, length, set, get_or, slice_get, take, drop, replicate, Some, refl, sym, ap, ◌∙◌, subst, arith, not-suc-le-zero, le_of_suc-le-suc, add-one, rules, IsTrue, ◌↔◌}
+use Rattle.std.proofs.Common.{◌≡◌, ◌≢◌, ℕ, zero, suc, ◌+◌, ◌<◌, ◌≤◌, ◌==◌, Bool, true, false, eqb, if◌then◌else◌, List, [], ◌∷◌, ◌++◌, length, set, slice_get, take, drop, replicate, Some, refl, sym, ap, ◌∙◌, subst, arith, not-suc-le-zero, le_of_suc-le-suc, rules, IsTrue, ◌↔◌}
 use Rattle.ec_loads.specs.Shape.{average, Leaf, Shape, Shapes, tick, full, weighted, split, leaf, open_leaf, no_shapes, more}
-use Rattle.ec_loads.specs.Search.{open_count, open_counts, node_count, node_counts}
+use Rattle.ec_loads.specs.Search.{open_count, open_counts}
 use Rattle.ec_cert.specs.declared.tree.Tree.{Tree, TickLeaf, FullLeaf, Average, Weights, OpenLeaf, the_lemmas}
 use Rattle.ec_cert.specs.Shapes.{shape_of, shapes_of}
 use Rattle.ec_book.specs.declared.report.Report.{Report}
@@ -141,14 +141,6 @@ grown-below c (x ∷ rs) e t h b =
       | true ↦ Below-numbered x.first (shape_of x.tree) (c + n) (omega (arith, h.0))
       | false ↦ omega arith
     ])) t b)
-
-nodes_suc : (ts : List Tree) (i : ℕ) (x : Tree) → i < length ts → x ≡ get_or ts i x → node_counts (shapes_of (take (suc i) ts)) ≡ node_counts (shapes_of (take i ts)) + node_count (shape_of x)
-nodes_suc [] i x h is = absurd (not-suc-le-zero h)
-nodes_suc (t ∷ ts) zero x h is = let one = ap (λ w. node_count (shape_of w)) is in omega (arith, one)
-nodes_suc (t ∷ ts) (suc i) x h is = let rest = nodes_suc ts i x (le_of_suc-le-suc h) is in omega (arith, rest)
-
-pub nodes_step : (ts : List Tree) (i : ℕ) (x : Tree) → i < length ts → x ≡ get_or ts i x → node_counts (shapes_of (take (i + 1) ts)) ≡ node_counts (shapes_of (take i ts)) + node_count (shape_of x)
-nodes_step ts i x h is = rw add-one (nodes_suc ts i x h is)
 
 -- one child fewer
 pub rows_done : (f : ℕ → Shape) (ts ls : List Tree) (i k : ℕ) (child new : Tree) → i < length ls → slice_get ts i ≡ Some child → shape_of new ≡ draw f (numbered k (shape_of child))

@@ -8,9 +8,8 @@ ghost use Rattle.ec_symmetry.specs.Orders.{IsOrder};
 ghost use Rattle.ec_symmetry.specs.Ruled.{line_rules};
 ghost use Rattle.ec_book.specs.Open.{AreOpened};
 
-use crate::judge::node_count;
 use crate::open::opened_by;
-use ec_cert::Subtree;
+use ec_cert::{Subtree, node_count};
 use ec_loads::{Loads, Places};
 use ec_symmetry::Rules;
 use ec_units::Place;

@@ -1,6 +1,6 @@
 //! Whether a reported subtree is welcome.
 
-ghost use Rattle.std.specs.Prelude.{◌≡◌, ◌≢◌, ℕ, ◌+◌, ◌<◌, ◌≤◌, ◌^◌, min, length, slice_get, Some, IfOk, IfErr, OnOk, IsTrue, ◌↔◌};
+ghost use Rattle.std.specs.Prelude.{◌≡◌, ◌≢◌, ℕ, ◌+◌, ◌<◌, ◌≤◌, ◌^◌, length, slice_get, Some, IfOk, IfErr, OnOk, IsTrue, ◌↔◌};
 ghost use Rattle.ec_loads.specs.Search.{IsAtMost, node_count as node_count_of};
 ghost use Rattle.ec_cert.specs.Shapes.{shape_of};
 ghost use Rattle.ec_book.specs.Faults.{IsTakenBy, IsHoldFault, IsWelcome, IsReportFault};
@@ -8,27 +8,8 @@ ghost use Rattle.ec_book.specs.Faults.{IsTakenBy, IsHoldFault, IsWelcome, IsRepo
 use crate::counted::Counted;
 use crate::fault::BookFault;
 use crate::piece::Piece;
-use ec_cert::Tree;
 use ec_loads::Places;
 use ec_units::Place;
-
-/// The number of splits and closed leaves, or the greatest number where it is smaller.
-pub(crate) fn node_count(tree: &Tree) -> u64
-    ensures { result ≡ min (node_count_of (shape_of tree.now)) 18446744073709551615 }
-{
-    match tree {
-        Tree::Split(trees) => {
-            let trees = trees.as_ref();
-            let mut count = 1u64;
-            for i in 0..trees.len() {
-                count = count.saturating_add(node_count(&trees[i]));
-            }
-            count
-        }
-        Tree::OpenLeaf => 0,
-        _ => 1,
-    }
-}
 
 /// Whether two lists of places are one.
 fn are_same(these: &[Place], those: &[Place]) -> bool

@@ -1,8 +1,6 @@
 //! What happened.
 
-ghost use Rattle.std.specs.Prelude.{◌≡◌};
-
-use std::marker::Model;
+use ec_lists::Items;
 
 /// One entry of a book's log. Workers and pieces go by their numbers, from 0.
 #[derive(Clone, Copy, PartialEq, Eq, Debug)]
@@ -35,40 +33,4 @@ pub enum Step {
 }
 
 /// Steps in the order in which they were made. A contract sees them as their list.
-#[derive(Debug, Drop)]
-pub struct Steps {
-    items: Vec<Step>,
-}
-
-impl Model for Steps {
-    ghost use Rattle.std.specs.Prelude.{List};
-    ghost use Rattle.ec_book.specs.declared.step.Step.{Step};
-
-    ghost Value = { List Step };
-
-    ghost view = { λ s. s.items.items };
-}
-
-impl Steps {
-    /// These steps, in this order; takes no memory.
-    pub fn new(items: Vec<Step>) -> Steps
-        ensures { result ≡ items.items }
-    {
-        Steps { items }
-    }
-
-    /// The steps as a slice.
-    pub fn as_slice(&self) -> &[Step]
-        ensures { result.now ≡ self.now }
-    {
-        self.items.as_slice()
-    }
-
-    /// The steps as a `Vec` again; takes no memory.
-    pub fn into_vec(self) -> Vec<Step>
-        ensures { result.items ≡ self }
-    {
-        let Steps { items } = self;
-        items
-    }
-}
+pub type Steps = Items<Step>;

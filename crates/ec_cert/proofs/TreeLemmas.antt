@@ -3,7 +3,7 @@
 use Rattle.std.proofs.Common.{◌≡◌, ◌↔◌, IsTrue, Bool, true, false, ℕ, zero, suc, ◌+◌, ◌-◌, ◌<◌, ◌≤◌, List, [], ◌∷◌, ◌++◌, map, length, drop, take, get_or, Box, Vec, Global, refl, ap, sym, subst, ◌∙◌, arith, rules, not-suc-le-zero, le_of_suc-le-suc, add-one}
 use Rattle.std.proofs.lemmas.Bool.{true≢false}
 use Rattle.std.proofs.lemmas.List.{drop_more, drop_all, map_more, take_all, map-append}
-use Rattle.ec_loads.specs.Search.{open_count, open_counts}
+use Rattle.ec_loads.specs.Search.{open_count, open_counts, node_count, node_counts}
 use borrow.Author.Tests.{leb-true, le-leb}
 use lib.Dec.{leb}
 use Rattle.ec_loads.specs.declared.pair.Pair.{Pair}
@@ -39,6 +39,15 @@ opens_suc (t ∷ ts) (suc i) x h is = let rest = opens_suc ts i x (le_of_suc-le-
 
 pub opens_step : (ts : List Tree) (i : ℕ) (x : Tree) → i < length ts → x ≡ get_or ts i x → open_counts (shapes_of (take (i + 1) ts)) ≡ open_counts (shapes_of (take i ts)) + open_count (shape_of x)
 opens_step ts i x h is = rw add-one (opens_suc ts i x h is)
+
+-- and its own nodes more
+nodes_suc : (ts : List Tree) (i : ℕ) (x : Tree) → i < length ts → x ≡ get_or ts i x → node_counts (shapes_of (take (suc i) ts)) ≡ node_counts (shapes_of (take i ts)) + node_count (shape_of x)
+nodes_suc [] i x h is = absurd (not-suc-le-zero h)
+nodes_suc (t ∷ ts) zero x h is = let one = ap (λ w. node_count (shape_of w)) is in omega (arith, one)
+nodes_suc (t ∷ ts) (suc i) x h is = let rest = nodes_suc ts i x (le_of_suc-le-suc h) is in omega (arith, rest)
+
+pub nodes_step : (ts : List Tree) (i : ℕ) (x : Tree) → i < length ts → x ≡ get_or ts i x → node_counts (shapes_of (take (i + 1) ts)) ≡ node_counts (shapes_of (take i ts)) + node_count (shape_of x)
+nodes_step ts i x h is = rw add-one (nodes_suc ts i x h is)
 
 -- what has been looked at has the levels, so the rest decides
 abbrev pub SameLevels : Kinds → ℕ → List Tree → ℕ → Type 0

@@ -3,7 +3,7 @@
 ghost use Rattle.std.specs.Prelude.{◌≡◌};
 ghost use Rattle.ec_fmmu.specs.Records.{record_bytes};
 
-use std::marker::Model;
+use ec_lists::Items;
 
 /// An FMMU record (ETG.1000.4, clause 6.6): `len` bytes from the logical address `logical` on are those from
 /// `physical` on in the slave's memory. Bit 0 of the type `kind` is for reading that memory, bit 1 for writing it.
@@ -18,43 +18,7 @@ pub struct Fmmu {
 
 /// The two records of each slave, in file order: the first for its outputs, the second for its inputs. A contract sees
 /// them as their list.
-#[derive(Debug, Drop)]
-pub struct Fmmus {
-    items: Vec<[Fmmu; 2]>,
-}
-
-impl Model for Fmmus {
-    ghost use Rattle.std.specs.Prelude.{List};
-    ghost use Rattle.ec_fmmu.specs.declared.fmmu.Fmmu.{Fmmu};
-
-    ghost Value = { List (List Fmmu) };
-
-    ghost view = { λ s. s.items.items };
-}
-
-impl Fmmus {
-    /// These records, in this order; takes no memory.
-    pub fn new(items: Vec<[Fmmu; 2]>) -> Fmmus
-        ensures { result ≡ items.items }
-    {
-        Fmmus { items }
-    }
-
-    /// The records as a slice.
-    pub fn as_slice(&self) -> &[[Fmmu; 2]]
-        ensures { result.now ≡ self.now }
-    {
-        self.items.as_slice()
-    }
-
-    /// The records as a `Vec` again; takes no memory.
-    pub fn into_vec(self) -> Vec<[Fmmu; 2]>
-        ensures { result.items ≡ self }
-    {
-        let Fmmus { items } = self;
-        items
-    }
-}
+pub type Fmmus = Items<[Fmmu; 2]>;
 
 /// The 16 bytes of a record as they stand in a slave's memory (ETG.1000.4, clause 6.6), numbers with their lowest byte
 /// first. Whole bytes are mapped: start bits 0, stop bit 7. A record without bytes is 16 zeros. Takes no memory.

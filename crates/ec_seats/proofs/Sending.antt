@@ -10,11 +10,13 @@ use Rattle.std.specs.declared.sync.ledger.Ledger
 use Rattle.std.proofs.sync.ledger.Share.TheSendSync as share
 use Rattle.std.proofs.sync.ledger.Book.TheSendSync as ledger
 use Rattle.std.specs.contracts.sync.Mutex as Mutex
+use Rattle.ec_units.specs.contracts.slave.Place as Place
+use Rattle.ec_units.proofs.slave.Place.TheSendSync as place
+use Rattle.ec_lists.specs.contracts.items.Items as Items
+use Rattle.ec_lists.proofs.items.Items.TheSendSync as items
+use Rattle.ec_lists.proofs.behind.Behind.TheSendSync as behind
 use Rattle.ec_loads.proofs.loads.Loads.TheSendSync as loads
-use Rattle.ec_loads.proofs.plan.Places.TheSendSync as places
 use Rattle.ec_cert.proofs.cert.Best.TheSendSync as best
-use Rattle.ec_cert.proofs.pairs.Pairs.TheSendSync as pairs
-use Rattle.ec_cert.proofs.weights.Weights.TheSendSync as weights
 use Rattle.ec_cert.proofs.tree.Tree.TheLaws.TheKnot as tree
 use Rattle.ec_book.proofs.piece.Piece.TheSendSync as piece
 use Rattle.ec_book.proofs.step.Step.TheSendSync as step
@@ -24,11 +26,14 @@ use Rattle.ec_seats.specs.declared.search.Search
 use Rattle.ec_seats.specs.contracts.locked.Locked as Locked
 use Rattle.ec_seats.specs.contracts.shared.Shared as Shared
 
+places_send : IsSend (Items.the_row Place.the_row)
+places_send = search (sendable, crosses, items.the_send, place.the_send) depth 20
+
 report_send : IsSend Report.the_row
-report_send = search (sendable, crosses, tree.crosses, weights.the_send, pairs.the_send) depth 20
+report_send = search (sendable, crosses, tree.crosses, behind.the_send) depth 20
 
 book_send : IsSend Book.the_row
-book_send = search (sendable, crosses, tree.crosses, report_send, weights.the_send, pairs.the_send, loads.the_send, places.the_send, best.the_send, piece.the_send, step.the_send) depth 60
+book_send = search (sendable, crosses, tree.crosses, report_send, behind.the_send, loads.the_send, places_send, best.the_send, piece.the_send, step.the_send) depth 60 fits 20000
 
 locked_send : (T : RattleType) (s : Search.Ghosts T.Denot) (l : Ledger.Ghosts T.Denot) → IsSend T → IsSync T → IsSend (Locked.the_row T s l)
 locked_send T s l send sync = search (sendable, crosses, book_send, share.the_send, ledger.the_send) depth 20

@@ -1,8 +1,8 @@
 //! Slaves and places.
 
-ghost use Rattle.std.specs.Prelude.{◌≡◌, ℕ, ◌+◌, ◌<◌, ◌≤◌};
+ghost use Rattle.std.specs.Prelude.{ℕ, ◌+◌, ◌<◌, ◌≤◌};
 
-use std::marker::Model;
+use ec_lists::Items;
 
 /// A slave with its process bytes and the areas of its memory that hold them (own profile).
 ///
@@ -31,39 +31,4 @@ pub struct Place {
 }
 
 /// Slaves in file order. A contract sees them as their list.
-#[derive(Debug, Drop)]
-pub struct Slaves {
-    items: Vec<Slave>,
-}
-
-impl Model for Slaves {
-    ghost use Rattle.std.specs.Prelude.{List};
-    ghost use Rattle.ec_units.specs.declared.slave.Slave.{Slave};
-
-    ghost Value = { List Slave };
-
-    ghost view = { λ s. s.items.items };
-}
-
-impl Slaves {
-    /// These slaves, in this order; takes no memory.
-    pub fn new(items: Vec<Slave>) -> Slaves
-        ensures { result ≡ items.items }
-    {
-        Slaves { items }
-    }
-
-    /// The slaves as a slice.
-    pub fn as_slice(&self) -> &[Slave]
-        ensures { result.now ≡ self.now }
-    {
-        self.items.as_slice()
-    }
-
-    /// The slaves as a `Vec` again; takes no memory.
-    pub fn into_vec(self) -> Vec<Slave>
-        ensures { result.items ≡ self }
-    {
-        self.items
-    }
-}
+pub type Slaves = Items<Slave>;

@@ -7,7 +7,7 @@ ghost use Rattle.ec_units.specs.Bytes.{bytes_of_slaves};
 
 use crate::name::Name;
 use crate::slave::{Place, Slaves};
-use std::marker::Model;
+use ec_lists::Items;
 
 /// A sync unit: slaves whose process bytes travel together, once in each period (own profile).
 ///
@@ -34,39 +34,4 @@ pub struct Load {
 }
 
 /// Units in file order. A contract sees them as their list.
-#[derive(Debug, Drop)]
-pub struct UnitList {
-    items: Vec<Unit>,
-}
-
-impl Model for UnitList {
-    ghost use Rattle.std.specs.Prelude.{List};
-    ghost use Rattle.ec_units.specs.declared.unit.Unit.{Unit as SyncUnit};
-
-    ghost Value = { List SyncUnit };
-
-    ghost view = { λ s. s.items.items };
-}
-
-impl UnitList {
-    /// These units, in this order; takes no memory.
-    pub fn new(items: Vec<Unit>) -> UnitList
-        ensures { result ≡ items.items }
-    {
-        UnitList { items }
-    }
-
-    /// The units as a slice.
-    pub fn as_slice(&self) -> &[Unit]
-        ensures { result.now ≡ self.now }
-    {
-        self.items.as_slice()
-    }
-
-    /// The units as a `Vec` again; takes no memory.
-    pub fn into_vec(self) -> Vec<Unit>
-        ensures { result.items ≡ self }
-    {
-        self.items
-    }
-}
+pub type UnitList = Items<Unit>;

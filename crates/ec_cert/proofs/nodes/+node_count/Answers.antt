@@ -1,9 +1,8 @@
 use Rattle.std.proofs.Common.{◌≡◌, ap, arith, ◌∙◌, take_all}
 use Rattle.ec_loads.specs.Search.{node_count, node_counts}
 use Rattle.ec_cert.specs.Shapes.{shape_of, shapes_of}
-use Rattle.ec_cert.proofs.TreeLemmas.{shape_of-trees}
-use Rattle.ec_book.proofs.DrawLemmas.{nodes_step, shape_of-OpenLeaf}
-use Rattle.ec_book.proofs.judge.+node_count.Goals as goal
+use Rattle.ec_cert.proofs.TreeLemmas.{shape_of-trees, shape_of-OpenLeaf, nodes_step}
+use Rattle.ec_cert.proofs.nodes.+node_count.Goals as goal
 
 pub loop-i-preserved : goal.loop-i-preserved
 loop-i-preserved t c =

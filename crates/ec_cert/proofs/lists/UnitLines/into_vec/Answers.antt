@@ -1,4 +1,0 @@
-use Rattle.ec_cert.proofs.lists.UnitLines.into_vec.Goals as goal
-
-pub returns : goal.returns
-returns c = c.self.view_is

@@ -1,5 +1,0 @@
-use Rattle.std.proofs.Common.{refl}
-use Rattle.ec_cert.proofs.lists.UnitLines.new.Goals as goal
-
-pub returns : goal.returns
-returns c = refl
