@@ -1,7 +1,7 @@
 -- From what comes of going on with a certificate to what is answered.
 -- What a resume finds of a certificate that is a proof is that certificate's own outcome, so nothing after it asks how
 -- it came about.
-use Rattle.std.proofs.Common.{◌≡◌, ℕ, ◌+◌, List, Option, Some, None, Result, Ok, Err, refl, sym, ap, subst, ◌∙◌, inl, inr}
+use Rattle.std.proofs.Common.{◌≡◌, ℕ, List, Option, Some, None, Result, Ok, Err, refl, sym, ap, subst, ◌∙◌, inl, inr}
 use Rattle.std.specs.Prelude.{◌⊎◌, IfSome, IfOk, IfErr}
 use Rattle.ec_units.specs.declared.slave.Place.{Place}
 use Rattle.ec_units.specs.declared.unit.Unit.{Unit as SyncUnit}
@@ -9,9 +9,7 @@ use Rattle.ec_units.specs.declared.units.Units.{Units}
 use Rattle.ec_units.specs.Load.{loads_of}
 use Rattle.ec_unit_text.specs.Reading.{reading}
 use Rattle.ec_units.specs.Views.{units_view}
-use Rattle.ec_loads.specs.Shape.{Shape, Shapes, split, leaf, open_leaf, no_shapes, more}
-use Rattle.ec_loads.specs.Search.{open_count}
-use Rattle.ec_book.specs.Numbered.{numbered, all_numbered, draw, draws}
+use Rattle.ec_loads.specs.Shape.{Shape, open_leaf}
 use Rattle.ec_cert.specs.declared.cert.Best.{Best}
 use Rattle.ec_cert.specs.declared.part.Part.{Part}
 use Rattle.ec_cert.specs.BestPlan.{IsBestPlan, value_of}
@@ -29,10 +27,10 @@ use Rattle.ec_checker.specs.Laws.{FaultsRefute}
 use Rattle.ec_checker.proofs.CheckLemmas.{claim_from}
 use Rattle.ec_outcome.specs.declared.search.Outcome.{Outcome}
 use Rattle.ec_outcome.specs.declared.search.Outcome.TheVariants as outcome
-use Rattle.ec_workers.specs.Answers.{Asked, asked_beyond, GoesBeyond, IsOutcome, HasOrder, is_strong, tree_in}
+use Rattle.ec_workers.specs.Answers.{Asked, asked_beyond, GoesBeyond, IsOutcome, HasOrder, is_strong, KeepsToPart}
 use Rattle.ec_workers.specs.Outcomes.{Shows, IsOptimal, IsWithoutPlan}
 use Rattle.ec_book.specs.Parts.{LeavesOthers}
-use Rattle.ec_workers.proofs.GrowLemmas.{stays}
+use Rattle.ec_workers.proofs.GrowLemmas.{drawn-same, stays}
 use Rattle.ec_lines.specs.declared.answer.Answer.{Answer}
 use Rattle.ec_lines.specs.Outcomes.{outcome_output, IsLevelOf}
 use Rattle.ec_lines.specs.Output.{shown}
@@ -104,24 +102,19 @@ own_beyond nodes us c (outcome.NoPlan cert) is own =
     (subst (λ (v : Option ℕ). GoesBeyond (shape_of cert.tree) v nodes (outcome.NoPlan cert)) value (stays nodes (outcome.NoPlan cert)))
 own_beyond nodes us c (outcome.Unproved best order tree strong why) is own = absurd own
 
--- a tree has an open leaf in place of each of its open leaves
-mutual
-  drawn-same : (s : Shape) (k : ℕ) → draw (λ _. open_leaf) (numbered k s) ≡ s
-  drawn-same (split ts) k = ap split (drawns-same ts k)
-  drawn-same (leaf l) k = refl
-  drawn-same open_leaf k = refl
-
-  drawns-same : (ts : Shapes) (k : ℕ) → draws (λ _. open_leaf) (all_numbered k ts) ≡ ts
-  drawns-same no_shapes k = refl
-  drawns-same (more t ts) k = λ j. more (drawn-same t k j) (drawns-same ts (k + open_count t) j)
-
--- so it leaves the leaves of other parts as they are
+-- a tree leaves its own leaves as they are, so a proof keeps to each part
 leaves_own : (part : Part) (t : Shape) → LeavesOthers part t t
 leaves_own part t = ((λ _. open_leaf), sym (drawn-same t 0), λ m below no. refl)
 
-own_others : (part : Part) (c : CertView) (o : Outcome) → IsProofBy c o → LeavesOthers part c.tree (tree_in o)
-own_others part c (outcome.Optimal plan b cert) own = subst (λ (t : Shape). LeavesOthers part t (shape_of cert.tree)) (ap (λ (x : CertView). x.tree) own) (leaves_own part (shape_of cert.tree))
-own_others part c (outcome.NoPlan cert) own = subst (λ (t : Shape). LeavesOthers part t (shape_of cert.tree)) (ap (λ (x : CertView). x.tree) own) (leaves_own part (shape_of cert.tree))
+own_others : (part : Part) (c : CertView) (o : Outcome) → IsProofBy c o → KeepsToPart part c.tree o
+own_others part c (outcome.Optimal plan b cert) own = record {
+  others = subst (λ (t : Shape). LeavesOthers part t (shape_of cert.tree)) (ap (λ (x : CertView). x.tree) own) (leaves_own part (shape_of cert.tree));
+  closed = λ why. absurd why;
+}
+own_others part c (outcome.NoPlan cert) own = record {
+  others = subst (λ (t : Shape). LeavesOthers part t (shape_of cert.tree)) (ap (λ (x : CertView). x.tree) own) (leaves_own part (shape_of cert.tree));
+  closed = λ why. absurd why;
+}
 own_others part c (outcome.Unproved best order tree strong why) own = absurd own
 
 pub goes_by_proof : (workers nodes : ℕ) (part : Part) (us : Units) (c : CertView) (o : Outcome) → IsCertified us.units us.slots c → c.level ≡ None → ((asked : Asked) → IsOutcome us.units us.slots asked o) → IsProofBy c o → GoesOn workers nodes part us c o

@@ -10,7 +10,6 @@ use Rattle.ec_units.specs.Views.{units_view}
 use Rattle.ec_loads.specs.Shape.{open_leaf}
 use Rattle.ec_cert.specs.declared.part.Part.{Part}
 use Rattle.ec_cert.specs.BestPlan.{value_of}
-use Rattle.ec_book.specs.Parts.{LeavesOthers}
 use Rattle.ec_cert.specs.Shapes.{CertView, cert_view, shape_of}
 use Rattle.ec_cert_text.specs.Reading.{Fails, reading as cert_reading}
 use Rattle.ec_cert_text.specs.Text.{certificate_text}
@@ -21,7 +20,7 @@ use Rattle.ec_checker.specs.declared.fault.Verdict.TheVariants as verdict
 use Rattle.ec_outcome.specs.declared.search.Outcome.{Outcome}
 use Rattle.ec_outcome.specs.declared.search.Outcome.TheVariants as outcome
 use Rattle.ec_outcome.specs.declared.search.SolveFault.{SolveFault}
-use Rattle.ec_workers.specs.Answers.{Asked, asked_beyond, GoesBeyond, HasLevelFrom, IsOutcome, IsSolveFault, HasOrder, HasSearchOrder, is_strong, tree_in}
+use Rattle.ec_workers.specs.Answers.{Asked, asked_beyond, GoesBeyond, HasLevelFrom, IsOutcome, IsSolveFault, HasOrder, HasSearchOrder, is_strong, KeepsToPart}
 use Rattle.ec_workers.specs.Outcomes.{partial_for, Shows}
 use Rattle.ec_refusals.specs.declared.refusal.Refusal.{Refusal}
 use Rattle.ec_refusals.specs.declared.refusal.Refusal.TheVariants as refusal
@@ -63,13 +62,13 @@ IsProofBy c (outcome.NoPlan cert) = cert_view cert ≡ c
 IsProofBy c (outcome.Unproved best order tree strong why) = ⊥
 
 -- what comes of going on with a certificate to which the checker says yes: where it is a proof, that one; else what a search finds that goes on with its tree, in
--- its order of the units, where new nodes alone are counted. Its tree grows from the certificate's, and leaves the open leaves of other parts as they are. Its value is
+-- its order of the units, where new nodes alone are counted. Its tree grows from the certificate's, by the open leaves of the part alone. Its value is
 -- at most that of the certificate, and what it shows of every plan is at least the certificate's level
 pub record GoesOn (workers nodes : ℕ) (part : Part) (us : Units) (c : CertView) (o : Outcome) : Type 0 where
   pub right : IsCertified us.units us.slots c
   pub answer : IsOutcome us.units us.slots (asked_beyond (is_strong c) workers nodes c.tree part.count) o
   pub beyond : GoesBeyond c.tree (value_of c.best) nodes o
-  pub others : LeavesOthers part c.tree (tree_in o)
+  pub others : KeepsToPart part c.tree o
   pub level : (l : ℕ) → c.level ≡ Some l → HasLevelFrom us.units us.slots l o
   pub proof : c.level ≡ None → IsProofBy c o
   pub order : HasOrder c.order o

@@ -9,6 +9,7 @@ pub mod PartLemmas
 pub mod KeepLemmas
 pub mod ShareLemmas
 pub mod PlanLemmas
+pub mod ClosedLemmas
 pub mod FinishLemmas
 pub mod OpenLemmas
 pub mod GivenLemmas

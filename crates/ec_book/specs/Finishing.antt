@@ -1,5 +1,5 @@
 -- What a finished book gives.
-use Rattle.std.specs.Prelude.{◌≡◌, ℕ, ◌+◌, ◌≤◌}
+use Rattle.std.specs.Prelude.{◌≡◌, ℕ, ◌+◌, ◌≤◌, IsTrue}
 use Rattle.ec_loads.specs.Held.{no_places}
 use Rattle.ec_loads.specs.Line.{line_by}
 use Rattle.ec_loads.specs.Shape.{Shape}
@@ -8,7 +8,7 @@ use Rattle.ec_cert.specs.Shapes.{shape_of}
 use Rattle.ec_book.specs.Numbered.{Numbered, numbered, draw, plain, NumberedTree}
 use Rattle.ec_book.specs.Open.{StandsAt}
 use Rattle.ec_book.specs.Grown.{HasPieces}
-use Rattle.ec_book.specs.Parts.{LeavesOthers}
+use Rattle.ec_book.specs.Parts.{LeavesOthers, ClosesPart}
 use Rattle.ec_cert.specs.BestPlan.{value_of, IsBestPlan}
 use Rattle.ec_book.specs.declared.book.Finished.{Finished}
 use Rattle.ec_book.specs.Steps.{live_count, IsHistory, replay}
@@ -25,7 +25,7 @@ abbrev pub GrowsFrom : Shape → Shape → Type 0
 GrowsFrom given shape = (f : ℕ → Shape) × (shape ≡ draw f (numbered 0 given))
 
 -- what comes of a book: its best plan, its nodes and its log; and a tree that holds at the value, with as many open leaves as pieces are free or taken, and without
--- one a whole tree, which goes on from the tree that the search was given, at the open leaves of the part alone; the value is at most the given one, and the nodes that are spent are at most those that were allowed
+-- one a whole tree, which goes on from the tree that the search was given, at the open leaves of the part alone, and where it is told that the part is done, each of these is closed; the value is at most the given one, and the nodes that are spent are at most those that were allowed
 pub record IsFinishedOf (b : BookView) (f : Finished) : Type 0 where
   pub best : f.best ≡ b.best
   pub legal : IsBestPlan b.loads b.slots f.best
@@ -40,5 +40,6 @@ pub record IsFinishedOf (b : BookView) (f : Finished) : Type 0 where
   pub replayed : replay (opening b) f.log ≡ state_of b
   pub extends : GrowsFrom b.given (shape_of f.tree)
   pub others : LeavesOthers b.part b.given (shape_of f.tree)
+  pub done : IsTrue f.done → ClosesPart b.part b.given (shape_of f.tree)
   pub falls : IsAtMost (value_of b.best) b.given_value
   pub within : f.spent ≤ b.nodes

@@ -1,10 +1,11 @@
 -- Laws of books.
-use Rattle.std.specs.Prelude.{◌≡◌, ◌⊎◌, ℕ, ◌≤◌, true, List, [], Option}
+use Rattle.std.specs.Prelude.{◌≡◌, ◌⊎◌, ℕ, ◌≤◌, List, [], Option}
 use Rattle.ec_loads.specs.Line.{Line}
 use Rattle.ec_loads.specs.Shape.{Shape}
 use Rattle.ec_loads.specs.Search.{Prefix, IsPartialTree, IsAtMost}
 use Rattle.ec_book.specs.declared.step.Step.{Step}
-use Rattle.ec_book.specs.Steps.{PiecesState, IsHistory, replay, taken_count, live}
+use Rattle.ec_book.specs.Parts.{NoneIsLeft}
+use Rattle.ec_book.specs.Steps.{PiecesState, IsHistory, replay, taken_count}
 use Rattle.ec_book.specs.Views.{BookView, ours, state_of, opening}
 use Rattle.ec_book.specs.Faults.{HasNothing}
 
@@ -18,7 +19,7 @@ HistoriesReplay = (n : ℕ) (s : PiecesState) (es : List Step) (t : PiecesState)
 
 -- no piece of the part is free or taken
 abbrev pub HasNoneLeft : BookView → Type 0
-HasNoneLeft b = (m : ℕ) → ours b m ≡ true → live b.pieces m ≡ 0
+HasNoneLeft b = NoneIsLeft (ours b) b.pieces
 
 -- where nothing can be handed out and no piece is taken, no piece of the part is left or all nodes are spent
 abbrev pub DoneIsSpent : Type 0

@@ -19,7 +19,7 @@ ghost use Rattle.ec_book.specs.Views.{book_view, ours as ours_of, state_of, open
 ghost use Rattle.ec_book.specs.Kept.{NoneFreeBelow};
 ghost use Rattle.ec_book.specs.Faults.{left_of, IsForTaking, IsLowestFree, IsGiven, IsHandedOut, IsPieceHandedOut, IsPieceFault, IsHoldFault, IsBetterFault, IsOfferFault, IsPlanOf, IsReportFault, IsTakenBy, IsWelcome};
 ghost use Rattle.ec_book.specs.Steps.{IsBelow};
-ghost use Rattle.ec_book.specs.Parts.{is_of_part as is_of_part_spec};
+ghost use Rattle.ec_book.specs.Parts.{is_of_part as is_of_part_spec, NoneIsLeft};
 ghost use Rattle.ec_book.specs.Finishing.{IsFinishedOf};
 ghost use Rattle.ec_book.specs.declared.fault.BookFault.TheVariants.{OutOfMemory};
 ghost use Rattle.ec_book.specs.declared.taken.Taken.TheVariants.{Later, Done};
@@ -92,11 +92,13 @@ impl Model for Book {
 }
 
 /// A finished search: the best plan, if one is known, the tree that its reports make of the tree that it was given,
-/// where free and taken pieces are open leaves, the nodes that the reports have split and closed, and what happened.
+/// where free and taken pieces are open leaves, whether each open leaf of its part is closed there, the nodes that the
+/// reports have split and closed, and what happened.
 #[derive(Drop)]
 pub struct Finished {
     pub best: Option<Best>,
     pub tree: Tree,
+    pub done: bool,
     pub spent: u64,
     pub log: Steps,
 }
@@ -144,6 +146,19 @@ fn count_live(pieces: &[Piece]) -> usize
         count += one_if_live(pieces[i]);
     }
     count
+}
+
+/// Whether no piece of the part is free or taken, where the first so many pieces are those of the given tree.
+fn none_is_left(pieces: &[Piece], part: Part, first: u64) -> bool
+    requires { IsPart part }
+    ensures { IsTrue result ↔ NoneIsLeft (is_of_part_spec part first) pieces.now }
+{
+    for i in 0..pieces.len() {
+        if one_if_live(pieces[i]) == 1 && is_of_part(part, first, i as u64) {
+            return false;
+        }
+    }
+    true
 }
 
 /// The value of the best plan, if there is one.
@@ -645,11 +660,13 @@ impl Book {
         ensures ok { IfOk result (IsFinishedOf self) }
         ensures always { OnErr result ⊥ }
     {
+        let done = none_is_left(self.pieces.as_slice(), self.part, self.first);
         let built = open_leaves(self.leaves, self.pieces.len());
         let tree = assembled(self.given, self.reports, built);
         Ok(Finished {
             best: self.best,
             tree,
+            done,
             spent: self.spent,
             log: Steps::new(self.log),
         })

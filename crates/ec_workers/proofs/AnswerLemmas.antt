@@ -1,7 +1,7 @@
 -- What a finished search says.
 -- `without` and `optimal` have an equation premise for each part, so that the answers only pass names. All that an outcome
 -- says comes from `Book::finish`.
-use Rattle.std.proofs.Common.{◌≡◌, ◌≢◌, Bool, ℕ, ◌+◌, ◌<◌, ◌≤◌, List, length, Option, Some, None, Result, Ok, Err, IfOk, refl, ap, sym, subst, arith, ◌∙◌}
+use Rattle.std.proofs.Common.{◌≡◌, ◌≢◌, Bool, ℕ, ◌+◌, ◌<◌, ◌≤◌, List, length, Option, Some, None, Result, Ok, Err, IfOk, IsTrue, refl, ap, sym, subst, arith, ◌∙◌}
 use Rattle.std.proofs.lemmas.List.{length-map}
 use Rattle.ec_units.specs.declared.slave.Place.{Place}
 use Rattle.ec_units.specs.declared.unit.Unit.{Unit as SyncUnit}
@@ -31,11 +31,11 @@ use Rattle.ec_outcome.specs.declared.search.SolveFault.{SolveFault}
 use Rattle.ec_book.specs.Views.{BookView}
 use Rattle.ec_book.specs.Books.{IsBookOf}
 use Rattle.ec_book.specs.Finishing.{GrowsFrom, IsFinishedOf}
-use Rattle.ec_book.specs.Parts.{LeavesOthers}
+use Rattle.ec_book.specs.Parts.{LeavesOthers, ClosesPart}
 use Rattle.ec_book.specs.declared.book.Finished.{Finished}
 use Rattle.ec_crew.specs.Crews.{IsCrewed}
 use Rattle.std.specs.Prelude.{nat_lt, true, false}
-use Rattle.ec_workers.specs.Answers.{is_strong, Asked, asked_beyond, GoesBeyond, IsCut, IsUnproved, IsOutcome, tree_in, value_in}
+use Rattle.ec_workers.specs.Answers.{is_strong, Asked, asked_beyond, GoesBeyond, HasCut, IsCut, IsUnproved, IsOutcome, KeepsToPart, tree_in, value_in}
 use Rattle.ec_outcome.specs.Searched.{searched_by}
 use Rattle.ec_workers.specs.Outcomes.{proof_version, partial_version, cert_for, IsFound, IsOptimal, IsWithoutPlan, Shows}
 use Rattle.ec_workers.proofs.ResumeLemmas.{crewed-nodes}
@@ -149,14 +149,18 @@ beyond b f nodes o is nodes_is tree value =
       within = subst (λ t. node_count t ≤ node_count b.given + nodes) (sym tree) (let all = is.nodes in let spent = is.spent in let most = is.within in omega (arith, all, spent, most, nodes_is));
     }
 
--- and leaves the open leaves of the other parts open
-pub others-of : (b : BookView) (f : Finished) (o : Outcome) → IsFinishedOf b f → tree_in o ≡ shape_of f.tree → LeavesOthers b.part b.given (tree_in o)
-others-of b f o is tree = subst (LeavesOthers b.part b.given) (sym tree) is.others
+-- and keeps to the part, where it says that there are other parts only if its own is done
+pub keeps-of : (b : BookView) (f : Finished) (o : Outcome) → IsFinishedOf b f → tree_in o ≡ shape_of f.tree → (HasCut cut.Parts o → IsTrue f.done) → KeepsToPart b.part b.given o
+keeps-of b f o is tree done = record {
+  others = subst (LeavesOthers b.part b.given) (sym tree) is.others;
+  closed = λ why. subst (ClosesPart b.part b.given) (sym tree) (is.done (done why));
+}
 
 -- the same of what several workers made
-pub crew-others : (us : List SyncUnit) (n : ℕ) (order : List ℕ) (rules : Rules) (given : Shape) (value : Option ℕ) (nodes : ℕ) (part : Part) (f : Finished) (o : Outcome) → IsCrewed us n order rules given value nodes part f → tree_in o ≡ shape_of f.tree → LeavesOthers part given (tree_in o)
-crew-others us n order rules given value nodes part f o (b, of, began, is) tree =
-    subst (λ g. LeavesOthers part g (tree_in o)) began.given_is (subst (λ p. LeavesOthers p b.given (tree_in o)) began.part_is (others-of b f o is tree))
+pub crew-keeps : (us : List SyncUnit) (n : ℕ) (order : List ℕ) (rules : Rules) (given : Shape) (value : Option ℕ) (nodes : ℕ) (part : Part) (f : Finished) (o : Outcome) → IsCrewed us n order rules given value nodes part f → tree_in o ≡ shape_of f.tree
+    → (HasCut cut.Parts o → IsTrue f.done) → KeepsToPart part given o
+crew-keeps us n order rules given value nodes part f o (b, of, began, is) tree done =
+    subst (λ g. KeepsToPart part g o) began.given_is (subst (λ p. KeepsToPart p b.given o) began.part_is (keeps-of b f o is tree done))
 
 pub crew-beyond : (us : List SyncUnit) (n : ℕ) (order : List ℕ) (rules : Rules) (given : Shape) (value : Option ℕ) (nodes : ℕ) (part : Part) (f : Finished) (o : Outcome) → IsCrewed us n order rules given value nodes part f → tree_in o ≡ shape_of f.tree → value_in o ≡ value_of f.best → GoesBeyond given value nodes o
 crew-beyond us n order rules given value nodes part f o (b, of, began, is) tree value_is =

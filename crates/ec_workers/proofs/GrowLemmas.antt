@@ -8,7 +8,7 @@ use Rattle.ec_outcome.specs.declared.search.Outcome.{Outcome}
 use Rattle.ec_workers.specs.Answers.{GoesBeyond, tree_in, value_in}
 
 mutual
-  drawn-same : (s : Shape) (k : ℕ) → draw (λ _. open_leaf) (numbered k s) ≡ s
+  pub drawn-same : (s : Shape) (k : ℕ) → draw (λ _. open_leaf) (numbered k s) ≡ s
   drawn-same (split ts) k = ap split (drawns-same ts k)
   drawn-same (leaf l) k = refl
   drawn-same open_leaf k = refl

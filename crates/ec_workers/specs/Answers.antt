@@ -9,12 +9,14 @@ use Rattle.ec_loads.specs.Shape.{Shape, open_leaf}
 use Rattle.ec_loads.specs.Search.{IsPartialTree, IsAtMost, node_count, open_count}
 use Rattle.ec_symmetry.specs.Orders.{IsOrder}
 use Rattle.ec_cert.specs.declared.cert.Best.{Best}
+use Rattle.ec_cert.specs.declared.part.Part.{Part}
 use Rattle.ec_cert.specs.Shapes.{CertView, shape_of, cert_view}
 use Rattle.ec_cert.specs.BestPlan.{value_of, IsBestPlan}
 use Rattle.ec_checker.specs.Levels.{IsGreatestLevel}
 use Rattle.ec_branch.specs.Weights.{IsSearchOrder}
 use Rattle.ec_branch.specs.StrongOrders.{IsStrongOrder}
 use Rattle.ec_book.specs.Finishing.{GrowsFrom}
+use Rattle.ec_book.specs.Parts.{LeavesOthers, ClosesPart}
 use Rattle.ec_outcome.specs.declared.search.Cut.{Cut}
 use Rattle.ec_outcome.specs.declared.search.Cut.TheVariants as cut
 use Rattle.ec_outcome.specs.declared.search.Outcome.{Outcome}
@@ -90,6 +92,16 @@ pub record GoesBeyond (given : Shape) (value : Option ℕ) (nodes : ℕ) (o : Ou
   pub falls : IsAtMost (value_in o) value
   pub within : node_count (tree_in o) ≤ node_count given + nodes
 
+-- it ended without a proof, for this reason
+abbrev pub HasCut : Cut → Outcome → Type 0
+HasCut why (outcome.Unproved best order tree strong is) = is ≡ why
+HasCut why _ = ⊥
+
+-- it goes on with a part of a tree's open leaves alone: it leaves those of the other parts open, and where it ended since there are other parts, each leaf of its own is closed
+pub record KeepsToPart (part : Part) (given : Shape) (o : Outcome) : Type 0 where
+  pub others : LeavesOthers part given (tree_in o)
+  pub closed : HasCut cut.Parts o → ClosesPart part given (tree_in o)
+
 -- every legal plan has a tick that costs at least what the outcome shows, and this is at least l: where it ended without a proof the greatest level of its tree, else
 -- what its plan costs
 abbrev pub HasLevelFrom : List SyncUnit → ℕ → ℕ → Outcome → Type 0
@@ -101,11 +113,6 @@ HasLevelFrom units n l (outcome.Unproved best order tree strong why) = (m : ℕ)
 abbrev pub IsSolveFault : ℕ → SolveFault → Type 0
 IsSolveFault workers refused.OutOfMemory = Unit {0}
 IsSolveFault workers refused.Spawn = 1 < workers
-
--- it ended without a proof, for this reason
-abbrev pub HasCut : Cut → Outcome → Type 0
-HasCut why (outcome.Unproved best order tree strong is) = is ≡ why
-HasCut why _ = ⊥
 
 -- the outcome has this order of the units: where it ended without a proof its own, else its certificate's
 abbrev pub HasOrder : List ℕ → Outcome → Type 0

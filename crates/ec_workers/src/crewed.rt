@@ -1,6 +1,6 @@
 //! A search by several workers, and what comes of it.
 
-ghost use Rattle.std.specs.Prelude.{◌≡◌, ◌≢◌, ℕ, ◌<◌, ◌≤◌, [], Option, None, IfOk, IfErr, length};
+ghost use Rattle.std.specs.Prelude.{◌≡◌, ◌≢◌, ℕ, ◌<◌, ◌≤◌, [], Option, None, IfOk, IfErr, IsTrue, length};
 ghost use Rattle.ec_units.specs.Load.{loads_of};
 ghost use Rattle.ec_loads.specs.Shape.{Shape, open_leaf};
 ghost use Rattle.ec_symmetry.specs.Orders.{IsOrder};
@@ -8,10 +8,9 @@ ghost use Rattle.ec_cert.specs.BestPlan.{value_of};
 ghost use Rattle.ec_cert.specs.Parts.{IsPart};
 ghost use Rattle.ec_cert.specs.Shapes.{cert_view, shape_of};
 ghost use Rattle.ec_book.specs.Books.{IsBookOf};
-ghost use Rattle.ec_book.specs.Parts.{LeavesOthers};
 ghost use Rattle.ec_crew.specs.Crews.{IsCrewed};
-ghost use Rattle.ec_crew.specs.declared.ended.Ended.TheVariants.{Refused, Done as EndedDone, Memory as EndedMemory, Time as EndedTime};
-ghost use Rattle.ec_workers.specs.Answers.{asked_beyond, asked_for, GoesBeyond, HasCut, HasOrder, HasRules, HasSearchOrder, IsOutcome, IsSolveFault, is_strong as strong_spec, tree_in};
+ghost use Rattle.ec_crew.specs.declared.ended.Ended.TheVariants.{Refused, Memory as EndedMemory, Time as EndedTime};
+ghost use Rattle.ec_workers.specs.Answers.{asked_beyond, asked_for, GoesBeyond, HasCut, HasOrder, HasRules, HasSearchOrder, IsOutcome, IsSolveFault, is_strong as strong_spec, KeepsToPart};
 ghost use Rattle.ec_outcome.specs.Searched.{searched_by};
 ghost use Rattle.ec_workers.specs.Outcomes.{IsPartialCert};
 ghost use Rattle.ec_workers.specs.Rooms.{IsRoomFor};
@@ -30,23 +29,23 @@ use std::sync::Wait;
 use std::thread::Threads;
 
 /// Why several workers, to none of whom the book refused anything but memory, left a leaf open: all nodes are spent,
-/// else memory was refused, else the time was over, else their part of several was done, else what they wrote down doesn't
+/// else their part of several is done, else memory was refused, else the time was over, else what they wrote down doesn't
 /// agree.
-fn cut_of_crew(spent: u64, nodes: u32, part: Part, ended: Ended) -> Cut
+fn cut_of_crew(spent: u64, nodes: u32, part: Part, done: bool, ended: Ended) -> Cut
     ensures budget { result ≡ Budget → spent ≡ nodes }
     ensures memory { result ≡ Memory → (spent ≢ nodes) × (ended ≡ EndedMemory) }
     ensures time { result ≡ Time → (spent ≢ nodes) × (ended ≡ EndedTime) }
-    ensures parts { result ≡ Parts → (1 < part.count) × (spent ≢ nodes) × (ended ≡ EndedDone) }
+    ensures parts { result ≡ Parts → (1 < part.count) × (spent ≢ nodes) × IsTrue done }
     ensures journal { result ≡ Journal → (spent ≢ nodes) × (ended ≢ EndedMemory) × (ended ≢ EndedTime) }
 {
     if spent == u64::from(nodes) {
         Cut::Budget
+    } else if done && part.count > 1 {
+        Cut::Parts
     } else if ended == Ended::Memory {
         Cut::Memory
     } else if ended == Ended::Time {
         Cut::Time
-    } else if ended == Ended::Done && part.count > 1 {
-        Cut::Parts
     } else {
         Cut::Journal
     }
@@ -67,7 +66,7 @@ fn outcome_of(
     requires crewed { (given : Shape) × (value : Option ℕ) × IsCrewed units.now.units units.now.slots order (searched_by strong) given value nodes part crewed.finished }
     ensures outcome { (workers : ℕ) (given : Shape) (value : Option ℕ) → 1 < workers → IsCrewed units.now.units units.now.slots order (searched_by strong) given value nodes part crewed.finished → IsOutcome units.now.units units.now.slots (asked_beyond strong workers nodes given part.count) result }
     ensures beyond { (given : Shape) (value : Option ℕ) → IsCrewed units.now.units units.now.slots order (searched_by strong) given value nodes part crewed.finished → GoesBeyond given value nodes result }
-    ensures others { (given : Shape) (value : Option ℕ) → IsCrewed units.now.units units.now.slots order (searched_by strong) given value nodes part crewed.finished → LeavesOthers part given (tree_in result) }
+    ensures others { (given : Shape) (value : Option ℕ) → IsCrewed units.now.units units.now.slots order (searched_by strong) given value nodes part crewed.finished → KeepsToPart part given result }
     ensures journal { crewed.ended ≡ Refused → HasCut Journal result }
     ensures rules { HasRules strong result }
     ensures order { HasOrder order result }
@@ -76,6 +75,7 @@ fn outcome_of(
     let Finished {
         best,
         tree,
+        done,
         spent,
         ..
     } = finished;
@@ -96,7 +96,7 @@ fn outcome_of(
         order,
         tree,
         strong,
-        cut: cut_of_crew(spent, nodes, part, ended),
+        cut: cut_of_crew(spent, nodes, part, done, ended),
     }
 }
 
@@ -121,7 +121,7 @@ fn search_on<R: Threads + Wait + Sync, G: Gate + Sync>(
     requires nodes { book.nodes ≡ nodes }
     ensures outcome { IfOk result (IsOutcome units.now.units units.now.slots (asked_beyond strong workers nodes book.given book.part.count)) }
     ensures beyond { IfOk result (GoesBeyond book.given book.given_value nodes) }
-    ensures others { IfOk result (λ o. LeavesOthers book.part book.given (tree_in o)) }
+    ensures others { IfOk result (KeepsToPart book.part book.given) }
     ensures fault { IfErr result (IsSolveFault workers) }
     ensures order { IfOk result (HasOrder order.items) }
     ensures rules { IfOk result (HasRules strong) }
@@ -189,7 +189,7 @@ pub(crate) fn resume_by_crew<R: Threads + Wait + Sync, G: Gate + Sync>(
     requires cert { IsPartialCert units.now.units units.now.slots (cert_view cert) }
     ensures outcome { IfOk result (IsOutcome units.now.units units.now.slots (asked_beyond (strong_spec (cert_view cert)) workers nodes (shape_of cert.tree) part.count)) }
     ensures beyond { IfOk result (GoesBeyond (shape_of cert.tree) (value_of cert.best) nodes) }
-    ensures others { IfOk result (λ o. LeavesOthers part (shape_of cert.tree) (tree_in o)) }
+    ensures others { IfOk result (KeepsToPart part (shape_of cert.tree)) }
     ensures fault { IfErr result (IsSolveFault workers) }
     ensures order { IfOk result (HasOrder cert.order) }
     ensures rules { IfOk result (HasRules (strong_spec (cert_view cert))) }

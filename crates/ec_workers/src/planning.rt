@@ -1,6 +1,6 @@
 //! The planner.
 
-ghost use Rattle.std.specs.Prelude.{◌≡◌, ◌≢◌, ◌<◌, ◌≤◌, None, IfOk, IfErr, length};
+ghost use Rattle.std.specs.Prelude.{◌≡◌, ◌≢◌, ◌<◌, ◌≤◌, None, IfOk, IfErr, IsTrue, length};
 ghost use Rattle.ec_units.specs.Load.{loads_of};
 ghost use Rattle.ec_loads.specs.Search.{open_count};
 ghost use Rattle.ec_loads.specs.Shape.{open_leaf};
@@ -9,12 +9,12 @@ ghost use Rattle.ec_cert.specs.BestPlan.{value_of};
 ghost use Rattle.ec_cert.specs.Parts.{IsPart};
 ghost use Rattle.ec_cert.specs.Shapes.{cert_view, shape_of};
 ghost use Rattle.ec_book.specs.Books.{IsBookOf, IsSameSearch};
-ghost use Rattle.ec_book.specs.Parts.{LeavesOthers};
-ghost use Rattle.ec_crew.specs.declared.ended.Ended.TheVariants.{Done as EndedDone, Time as EndedTime};
-ghost use Rattle.ec_workers.specs.Answers.{Asked, asked_beyond, asked_for, GoesBeyond, HasOrder, HasRules, HasSearchOrder, IsOutcome, is_strong as strong_spec, tree_in, value_in};
+ghost use Rattle.ec_crew.specs.declared.ended.Ended.TheVariants.{Time as EndedTime};
+ghost use Rattle.ec_workers.specs.Answers.{Asked, asked_beyond, asked_for, GoesBeyond, HasCut, HasOrder, HasRules, HasSearchOrder, IsOutcome, is_strong as strong_spec, KeepsToPart, tree_in, value_in};
 ghost use Rattle.ec_outcome.specs.Searched.{searched_by};
 ghost use Rattle.ec_workers.specs.Outcomes.{IsFound, IsPartialCert};
 ghost use Rattle.ec_workers.specs.Rooms.{IsRoomFor};
+ghost use Rattle.ec_outcome.specs.declared.search.Cut.{Cut};
 ghost use Rattle.ec_outcome.specs.declared.search.Cut.TheVariants.{Budget, Journal, Memory, Parts, Time};
 ghost use Rattle.ec_outcome.specs.declared.search.SolveFault.TheVariants.{OutOfMemory};
 
@@ -62,21 +62,21 @@ fn searched<R: Wait, G: Gate>(
     work(rt, alloc, units, order, book, gate)
 }
 
-/// Why a search that left a leaf open ended: all nodes are spent, else the time was over, else its part of several was
-/// done, else memory was refused.
-fn cut_of(spent: u64, nodes: u32, part: Part, why: Ended) -> Cut
+/// Why a search that left a leaf open ended: all nodes are spent, else its part of several is done, else the time was over,
+/// else memory was refused.
+fn cut_of(spent: u64, nodes: u32, part: Part, done: bool, why: Ended) -> Cut
     ensures budget { result ≡ Budget → spent ≡ nodes }
     ensures memory { result ≡ Memory → (spent ≢ nodes) × (why ≢ EndedTime) }
     ensures time { result ≡ Time → (spent ≢ nodes) × (why ≡ EndedTime) }
-    ensures parts { result ≡ Parts → (1 < part.count) × (spent ≢ nodes) × (why ≡ EndedDone) }
+    ensures parts { result ≡ Parts → (1 < part.count) × (spent ≢ nodes) × IsTrue done }
     ensures agrees { result ≢ Journal }
 {
     if spent == u64::from(nodes) {
         Cut::Budget
+    } else if done && part.count > 1 {
+        Cut::Parts
     } else if why == Ended::Time {
         Cut::Time
-    } else if why == Ended::Done && part.count > 1 {
-        Cut::Parts
     } else {
         Cut::Memory
     }
@@ -98,6 +98,7 @@ pub(crate) fn proved(
     ensures value { value_in result ≡ value_of best }
     ensures rules { HasRules strong result }
     ensures order { HasOrder order result }
+    ensures uncut { (why : Cut) → ¬ (HasCut why result) }
 {
     faults_refute();
     trees_bound();
@@ -132,7 +133,7 @@ fn ended(
     requires nodes { book.nodes ≡ nodes }
     ensures outcome { IsOutcome units.now.units units.now.slots (asked_beyond strong 1 nodes book.given book.part.count) result }
     ensures beyond { GoesBeyond book.given book.given_value nodes result }
-    ensures others { LeavesOthers book.part book.given (tree_in result) }
+    ensures others { KeepsToPart book.part book.given result }
     ensures rules { HasRules strong result }
     ensures order { HasOrder order result }
 {
@@ -144,6 +145,7 @@ fn ended(
     let Finished {
         best,
         tree,
+        done,
         spent,
         ..
     } = finished;
@@ -155,7 +157,7 @@ fn ended(
         order,
         tree,
         strong,
-        cut: cut_of(spent, nodes, part, why),
+        cut: cut_of(spent, nodes, part, done, why),
     }
 }
 
@@ -199,7 +201,7 @@ pub(crate) fn resume_alone<R: Wait, G: Gate>(
     requires cert { IsPartialCert units.now.units units.now.slots (cert_view cert) }
     ensures outcome { IfOk result (IsOutcome units.now.units units.now.slots (asked_beyond (strong_spec (cert_view cert)) 1 nodes (shape_of cert.tree) part.count)) }
     ensures beyond { IfOk result (GoesBeyond (shape_of cert.tree) (value_of cert.best) nodes) }
-    ensures others { IfOk result (λ o. LeavesOthers part (shape_of cert.tree) (tree_in o)) }
+    ensures others { IfOk result (KeepsToPart part (shape_of cert.tree)) }
     ensures order { IfOk result (HasOrder cert.order) }
     ensures rules { IfOk result (HasRules (strong_spec (cert_view cert))) }
     ensures fault { IfErr result (λ e. e ≡ OutOfMemory) }

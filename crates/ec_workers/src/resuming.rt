@@ -4,8 +4,7 @@ ghost use Rattle.std.specs.Prelude.{◌≡◌, ℕ, ◌≤◌, Some, IfOk, IfErr
 ghost use Rattle.ec_cert.specs.BestPlan.{value_of};
 ghost use Rattle.ec_cert.specs.Parts.{IsPart};
 ghost use Rattle.ec_cert.specs.Shapes.{cert_view, shape_of};
-ghost use Rattle.ec_book.specs.Parts.{LeavesOthers};
-ghost use Rattle.ec_workers.specs.Answers.{asked_beyond, GoesBeyond, HasLevelFrom, HasOrder, HasRules, IsOutcome, IsSolveFault, is_strong, tree_in};
+ghost use Rattle.ec_workers.specs.Answers.{asked_beyond, GoesBeyond, HasLevelFrom, HasOrder, HasRules, IsOutcome, IsSolveFault, is_strong, KeepsToPart};
 ghost use Rattle.ec_workers.specs.Outcomes.{IsPartialCert};
 
 use crate::crewed::resume_by_crew;
@@ -50,7 +49,7 @@ pub fn solve_from<R: Threads + Wait + Sync, G: Gate + Sync>(
     requires cert { IsPartialCert units.now.units units.now.slots (cert_view cert) }
     ensures outcome { IfOk result (IsOutcome units.now.units units.now.slots (asked_beyond (is_strong (cert_view cert)) workers nodes (shape_of cert.tree) part.count)) }
     ensures beyond { IfOk result (GoesBeyond (shape_of cert.tree) (value_of cert.best) nodes) }
-    ensures others { IfOk result (λ o. LeavesOthers part (shape_of cert.tree) (tree_in o)) }
+    ensures others { IfOk result (KeepsToPart part (shape_of cert.tree)) }
     ensures level { IfOk result (λ o. (l : ℕ) → cert.level ≡ Some l → HasLevelFrom units.now.units units.now.slots l o) }
     ensures fault { IfErr result (IsSolveFault workers) }
     ensures order { IfOk result (HasOrder cert.order) }

@@ -1,6 +1,7 @@
 //! Searches that are cut short and gone on with: their levels and their certificates.
 
 ghost use Rattle.std.specs.Prelude.{IfOk};
+ghost use Rattle.ec_cert.specs.Parts.{IsPart};
 ghost use Rattle.ec_workers.specs.Answers.{Asked, IsOutcome};
 
 use crate::call::Call;
@@ -96,35 +97,41 @@ fn cut(
     end(told, text, alloc, units, found);
 }
 
-/// Adds what so many workers find that go on with the text of a certificate, with bars, over so many nodes more, and their
-/// certificate, where the checker shows of it no more than a level; else adds what it answers.
+/// The part that the first two words of a call name, by its index and its count; the whole where they name none.
+fn part_of(call: Call<'_>) -> Part
+    ensures { IsPart result }
+{
+    let (index, count) = (call.short(1), call.short(2));
+    if index < count {
+        Part { index, count }
+    } else {
+        Part::whole()
+    }
+}
+
+/// Adds what so many workers find that go on with a part of the text of a certificate, with bars, over so many nodes more, and
+/// their certificate, where the checker shows of it no more than a level; else adds what it answers.
 fn resume(
     rt: &(impl Threads + Wait + Sync),
     alloc: Global,
     units: &Units,
     barred: &str,
+    part: Part,
     crew: Crew,
     told: &mut Draft,
     text: &mut Draft,
-) {
+)
+    requires { IsPart part }
+{
     let workers = crew.workers.clamp(1, 16);
     let nodes = crew.nodes.clamp(1, 10_000_000);
     if let Some(cert) = resumable(told, alloc, units, barred) {
-        let found = solve_from(
-            rt,
-            alloc,
-            units,
-            cert,
-            Part::whole(),
-            workers,
-            nodes,
-            &Told::new(),
-        );
+        let found = solve_from(rt, alloc, units, cert, part, workers, nodes, &Told::new());
         end(told, text, alloc, units, found);
     }
 }
 
-/// Adds what a search in two parts finds, the second of which goes on with the certificate that the first one wrote.
+/// Adds what a search finds that goes on with the certificate of one that was cut short.
 /// What else they tell goes to another text.
 fn onward(
     rt: &(impl Threads + Wait + Sync),
@@ -142,9 +149,40 @@ fn onward(
         strong: call.is_strong(),
     };
     match cert.finish() {
-        Ok(cert) => resume(rt, alloc, units, cert.as_str(), more, out, other),
+        Ok(cert) => resume(
+            rt,
+            alloc,
+            units,
+            cert.as_str(),
+            Part::whole(),
+            more,
+            out,
+            other,
+        ),
         Err(_) => out.give_up(),
     }
+}
+
+/// Adds what is found by going on with a part, and its certificate to another text.
+fn go_on_by_part(
+    rt: &(impl Threads + Wait + Sync),
+    alloc: Global,
+    units: &Units,
+    call: Call<'_>,
+    told: &mut Draft,
+    text: &mut Draft,
+) {
+    let crew = crew_of(call, 3);
+    resume(
+        rt,
+        alloc,
+        units,
+        call.after(5),
+        part_of(call),
+        crew,
+        told,
+        text,
+    );
 }
 
 /// Adds what is asked of a search, and what else it tells to another text.
@@ -162,11 +200,14 @@ fn tell(
         nodes: call.count(1),
         strong: call.is_strong(),
     };
+    let whole = Part::whole();
     match call.name() {
         "level" => cut(rt, alloc, units, alone, out, other),
         "partial" => cut(rt, alloc, units, alone, other, out),
-        "resume" => resume(rt, alloc, units, call.after(3), crew, out, other),
-        "resumed" => resume(rt, alloc, units, call.after(3), crew, other, out),
+        "resume" => resume(rt, alloc, units, call.after(3), whole, crew, out, other),
+        "resumed" => resume(rt, alloc, units, call.after(3), whole, crew, other, out),
+        "part" => go_on_by_part(rt, alloc, units, call, out, other),
+        "parted" => go_on_by_part(rt, alloc, units, call, other, out),
         "onward" => onward(rt, alloc, units, call, out, other),
         _ => out.add("no call"),
     }
@@ -174,7 +215,8 @@ fn tell(
 
 /// Adds what a call about searches that are gone on with answers: `level NODES` what one worker finds, its level and
 /// what the checker answers of its certificate; `partial NODES` that certificate; `resume WORKERS NODES CERT` what is
-/// found by going on with a certificate, and `resumed WORKERS NODES CERT` the certificate of that; `onward WORKERS NODES
+/// found by going on with a certificate, and `resumed WORKERS NODES CERT` the certificate of that; `part INDEX COUNT WORKERS
+/// NODES CERT` and `parted ..` the same of one that goes on with a part; `onward WORKERS NODES
 /// MORE` what a search finds that is cut after so many nodes and gone on with by more.
 pub(crate) fn answer(
     rt: &(impl Threads + Wait + Sync),

@@ -1,7 +1,8 @@
 use Rattle.std.proofs.Common.{rules}
 use Rattle.ec_outcome.specs.Searched.{searched_by}
+use Rattle.ec_outcome.specs.declared.search.Cut.TheVariants as cut
 use Rattle.ec_workers.specs.Answers.{asked_beyond}
-use Rattle.ec_workers.proofs.AnswerLemmas.{crew-beyond, crew-others}
+use Rattle.ec_workers.proofs.AnswerLemmas.{crew-beyond, crew-keeps}
 use Rattle.ec_workers.proofs.crewed.outcome_of.Goals as goal
 
 pub returns-then-is_closed-clause-outcome : goal.returns-then-is_closed-clause-outcome
@@ -11,7 +12,7 @@ pub returns-then-is_closed-clause-beyond : goal.returns-then-is_closed-clause-be
 returns-then-is_closed-clause-beyond c = λ given value crewed. crew-beyond c.args.units.now.units c.args.units.now.slots c.args.order (searched_by c.args.strong) given value c.args.nodes c.args.part c.args.crewed.finished c.proved.result crewed c.proved.ensures.tree c.proved.ensures.value
 
 pub returns-then-is_closed-clause-others : goal.returns-then-is_closed-clause-others
-returns-then-is_closed-clause-others c = λ given value crewed. crew-others c.args.units.now.units c.args.units.now.slots c.args.order (searched_by c.args.strong) given value c.args.nodes c.args.part c.args.crewed.finished c.proved.result crewed c.proved.ensures.tree
+returns-then-is_closed-clause-others c = λ given value crewed. crew-keeps c.args.units.now.units c.args.units.now.slots c.args.order (searched_by c.args.strong) given value c.args.nodes c.args.part c.args.crewed.finished c.proved.result crewed c.proved.ensures.tree (λ why. absurd (c.proved.ensures.uncut cut.Parts why))
 
 pub proved-requires-clause-found : goal.proved-requires-clause-found
 proved-requires-clause-found c = search rules

@@ -5,9 +5,10 @@ use Rattle.ec_cert.specs.BestPlan.{value_of}
 use Rattle.ec_symmetry.specs.Ruled.{line_rules}
 use Rattle.ec_book.specs.Numbered.{numbered, plain}
 use Rattle.ec_book.specs.Grown.{grown}
-use Rattle.ec_book.specs.Parts.{is_of_part, IsReportOf}
+use Rattle.ec_book.specs.Parts.{is_of_part, IsReportOf, LeavesOthers, NoneIsLeft}
 use Rattle.ec_book.specs.Steps.{start}
 use Rattle.ec_book.proofs.HistoryLemmas.{history-replays, history-falls}
+use Rattle.ec_book.proofs.ClosedLemmas.{part_closed}
 use Rattle.ec_book.proofs.FinishLemmas.{drawn, drawn-partial, drawn-nodes, drawn-open, drawn-closed, drawn-extends, drawn-others}
 use Rattle.ec_book.proofs.book.Book.finish.Goals as goal
 
@@ -31,6 +32,8 @@ returns-clause-ok c =
     let past = c.self.invariant.counted.history in
     let shape = shape_of c.assembled-tree.result in
     let is : shape ≡ plain (grown (numbered 0 given) reports) = drawn given line order pieces prefixes reports value b.spent made c.len.result _ _ c.assembled-tree.ensures c.open_leaves-built.ensures in
+    let others : LeavesOthers b.part given shape =
+    drawn-others given line order pieces prefixes reports value b.spent made b.part shape is (subst (λ n. All (IsReportOf (is_of_part b.part n)) reports) c.self.invariant.shared.first_is c.self.invariant.shared.parted.reported) in
     rw (← c.self.view_is) (record {
       best = refl;
       legal = c.self.invariant.for.best_is;
@@ -44,7 +47,9 @@ returns-clause-ok c =
       history = rw c.new.ensures past;
       replayed = rw c.new.ensures (history-replays b.nodes (start given b.given_value) b.log.items (record { pieces = pieces; value = value; spent = b.spent }) past);
       extends = drawn-extends given line order pieces prefixes reports value b.spent made shape is;
-      others = drawn-others given line order pieces prefixes reports value b.spent made b.part shape is (subst (λ n. All (IsReportOf (is_of_part b.part n)) reports) c.self.invariant.shared.first_is c.self.invariant.shared.parted.reported);
+      others = others;
+      done = λ yes. part_closed b.part given shape pieces others (drawn-open given line order pieces prefixes reports value b.spent made shape is)
+          (subst (λ n. NoneIsLeft (is_of_part b.part n) pieces) c.self.invariant.shared.first_is (subst (NoneIsLeft (is_of_part b.part b.first)) c.as_slice.ensures.value (c.none_is_left-done.ensures.0 yes)));
       falls = history-falls b.nodes (start given b.given_value) b.log.items (record { pieces = pieces; value = value; spent = b.spent }) past;
       within = omega (arith, c.self.invariant.counted.within);
     })
