@@ -25,7 +25,7 @@ use ec_units::Units;
 use std::alloc::Global;
 
 /// By which rules the trees of certificates of this version are made.
-fn rules_for(version: u8) -> Rules
+pub fn rules_for(version: u8) -> Rules
     ensures { line_rules result ≡ rules_of version }
 {
     if 3 < version {

@@ -11,7 +11,7 @@ mod same;
 mod shown;
 mod walk;
 
-pub use checking::{check, check_in};
+pub use checking::{check, check_in, rules_for};
 pub use ec_symmetry::Rules;
 pub use fault::{CheckFault, Verdict};
 pub use law::faults_refute;

@@ -6,8 +6,8 @@ ghost use Rattle.ec_cert.specs.Versions.{rules_of};
 ghost use Rattle.ec_merge.specs.Certs.{FitTogether, IsMisfit};
 
 use crate::fault::Misfit;
-use crate::version::rules_for;
 use ec_cert::Cert;
+use ec_checker::rules_for;
 
 /// Whether trees of certificates of these two versions are made by the same rules.
 fn have_same_rules(first: u8, second: u8) -> bool

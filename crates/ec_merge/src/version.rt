@@ -1,24 +1,10 @@
-//! The rules of a version, and the version by its rules.
+//! The version of certificates by their rules.
 
 ghost use Rattle.std.specs.Prelude.{◌≡◌};
 ghost use Rattle.ec_cert.specs.Versions.{rules_of};
-ghost use Rattle.ec_symmetry.specs.Ruled.{line_rules};
 ghost use Rattle.ec_merge.specs.Certs.{version_by};
 
-use ec_symmetry::Rules;
-
-/// By which rules the trees of certificates of this version are made.
-pub(crate) fn rules_for(version: u8) -> Rules
-    ensures { line_rules result ≡ rules_of version }
-{
-    if 3 < version {
-        return Rules::Strong;
-    }
-    if 1 < version {
-        return Rules::Turned;
-    }
-    Rules::Plain
-}
+use ec_checker::{Rules, rules_for};
 
 /// The version of certificates by the rules of this version, with such a level.
 pub(crate) fn version_for(version: u8, level: Option<u64>) -> u8

@@ -4,6 +4,9 @@ use std::alloc::Global;
 use std::io;
 use std::io::{ErrorKind, Read};
 
+/// The most bytes of a unit text that are read, and one, by which a longer one shows.
+const MOST_TEXT: usize = 1_048_577;
+
 /// The front of some bytes, up to a limit. Where memory runs out it keeps nothing any more.
 #[derive(Drop)]
 struct Front {
@@ -36,13 +39,13 @@ pub(crate) struct Kept<R> {
 }
 
 impl<R> Kept<R> {
-    /// This reader, of which at most so many bytes are kept.
-    pub(crate) fn new(alloc: Global, inner: R, room: usize) -> Kept<R> {
+    /// This reader of a unit text.
+    pub(crate) fn new(alloc: Global, inner: R) -> Kept<R> {
         Kept {
             inner,
             front: Front {
                 bytes: Vec::new(alloc),
-                room,
+                room: MOST_TEXT,
             },
             fault: None,
         }

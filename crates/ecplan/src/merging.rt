@@ -22,9 +22,6 @@ use std::io::Read;
 use std::rt::Files;
 use std::{fs, io};
 
-/// The most bytes of the units that are kept: as many as are read.
-const MOST_TEXT: usize = 1_048_577;
-
 /// What to do with certificates that don't fit together.
 const ONE_LINE_OF_DESCENT: &str =
     "Merge only certificates that come from one certificate: go on from one, with resume --cert PATH --part I/N.\n";
@@ -150,7 +147,7 @@ fn merge_units<H: Files + AllocGlobal + Eprint + Print, R: Read + Drop>(
 ) -> u8
     requires { MergingFits merging.now }
 {
-    let mut units = Kept::new(rt.alloc(), reader, MOST_TEXT);
+    let mut units = Kept::new(rt.alloc(), reader);
     let report = do_merge(
         rt,
         rt.alloc(),

@@ -29,9 +29,6 @@ use std::rt::{Clock, Files};
 use std::sync::Wait;
 use std::thread::Threads;
 
-/// The most bytes of the units that are kept: as many as are read.
-const MOST_TEXT: usize = 1_048_577;
-
 /// Why nothing is told of such a play.
 #[derive(Drop)]
 enum TrialFault {
@@ -247,7 +244,7 @@ pub(crate) fn do_trial<
     requires { JobFits (job_of words.now.line) }
 {
     let progress = Progress::new(rt, &words.line, Telling::Nothing);
-    let mut units = Kept::new(rt.alloc(), reader, MOST_TEXT);
+    let mut units = Kept::new(rt.alloc(), reader);
     let report = do_line(
         rt,
         rt,
