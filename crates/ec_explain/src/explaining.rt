@@ -6,7 +6,7 @@ ghost use Rattle.ec_explain.specs.Plain.{IsPlain};
 use crate::plain::plain_text;
 use ec_outcome::Ending;
 use ec_refusals::Refusal;
-use ec_remarks::{Filed, Inputs, counsel, counsel_merged, remarks};
+use ec_remarks::{Asked, Filed, Inputs, counsel, counsel_merged, remarks};
 use std::alloc::{AllocError, Global};
 
 /// What a refusal means, in a few sentences for a person, each a line: which unit, slave, key, value or line of the
@@ -23,9 +23,8 @@ pub fn explain(alloc: Global, refusal: &Refusal, inputs: &Inputs<'_>) -> Result<
 }
 
 /// What to do after a search, in a few sentences, each a line. Of one that ended without a proof: what its plan is good
-/// for, what it has proved of every plan, what would help, also where it took as much as may be asked for (`is_most`), and
-/// how it is gone on with. Of any: that its certificate, if
-/// one was written, has more than the 67,108,864 bytes that are read again.
+/// for, what it has proved of every plan, what would help, by what it was asked for, and how one goes on from it. Of any: that
+/// its certificate, if one was written, has more than the 67,108,864 bytes that are read again.
 ///
 /// Whatever the path holds, the text has nothing but printable ASCII and line feeds, as `explain` says it. Only want of
 /// memory is an error (own profile).
@@ -33,11 +32,11 @@ pub fn advice(
     alloc: Global,
     ending: Option<Ending>,
     filed: Filed<'_>,
-    is_most: bool,
+    asked: Asked,
 ) -> Result<String, AllocError>
     ensures { IfOk result (λ told. All IsPlain (string_bytes told)) }
 {
-    let sentences = counsel(alloc, ending, filed, is_most)?;
+    let sentences = counsel(alloc, ending, filed, asked)?;
     plain_text(alloc, sentences.as_str())
 }
 

@@ -4,6 +4,6 @@
 mod explaining;
 mod plain;
 
-pub use ec_remarks::{Filed, Inputs, Written};
+pub use ec_remarks::{Asked, Filed, Inputs, Written};
 pub use explaining::{advice, explain, merged_advice};
 pub use plain::plain_text;

@@ -39,6 +39,17 @@ pub enum Filed<'a> {
     There(Written<'a>),
 }
 
+/// What a search was asked for, where what would help it hangs on that.
+#[derive(Clone, Copy)]
+pub enum Asked {
+    /// All of a tree, with fewer nodes and minutes than may be asked for.
+    Whole,
+    /// All of a tree, with as many nodes or minutes as may be asked for.
+    Most,
+    /// A part of a tree's open leaves.
+    Part,
+}
+
 /// Whether no plan is better than the one that was found.
 fn is_best(ending: Ending) -> bool {
     ending.best == Some(ending.level)
@@ -129,9 +140,31 @@ fn help_beyond(ending: Ending) -> &'static str {
     }
 }
 
+/// What would help where a part wasn't done, or was, by what was found.
+fn help_part(ending: Ending) -> &'static str {
+    match ending.cut {
+        Cut::Budget =>
+            "All nodes were spent before the leaves of this part were closed: what it closed stays closed when it is merged.\n",
+        Cut::Time =>
+            "The time was over before the leaves of this part were closed: what it closed stays closed when it is merged.\n",
+        Cut::Memory =>
+            "Memory ran out before the leaves of this part were closed: what it closed stays closed when it is merged.\n",
+        Cut::Journal | Cut::Parts => help_for(ending),
+    }
+}
+
+/// What would help, by what was found and what was asked for.
+fn help(ending: Ending, asked: Asked) -> &'static str {
+    match asked {
+        Asked::Whole => help_for(ending),
+        Asked::Most => help_beyond(ending),
+        Asked::Part => help_part(ending),
+    }
+}
+
 /// Whether a search by the strong rules may end with a proof where this one didn't.
-fn may_be_proved(ending: Ending) -> bool {
-    !ending.strong && !matches!(ending.cut, Cut::Journal | Cut::Parts)
+fn may_be_proved(ending: Ending, asked: Asked) -> bool {
+    !ending.strong && ending.cut != Cut::Journal && !matches!(asked, Asked::Part)
 }
 
 /// Adds how the search is gone on with, by its certificate.
@@ -199,49 +232,42 @@ fn add_found(out: &mut Draft, ending: Ending) {
     add_level(out, ending);
 }
 
-/// Adds what a search without a proof is good for, and what would help it, which took as much as may be asked for where
-/// `is_most` says so.
-fn add_unproved(out: &mut Draft, ending: Ending, is_most: bool) {
+/// Adds what a search without a proof is good for, and what would help it, by what it was asked for.
+fn add_unproved(out: &mut Draft, ending: Ending, asked: Asked) {
     add_found(out, ending);
-    out.add(if is_most {
-        help_beyond(ending)
-    } else {
-        help_for(ending)
-    });
-    if may_be_proved(ending) {
+    out.add(help(ending, asked));
+    if may_be_proved(ending, asked) {
         out.add(STRONGER);
     }
 }
 
+/// Adds how one goes on from the certificate of a search, by what it was asked for.
+fn add_next(out: &mut Draft, filed: Filed<'_>, asked: Asked) {
+    match asked {
+        Asked::Part => add_merge(out, filed),
+        Asked::Whole | Asked::Most => add_resume(out, filed),
+    }
+}
+
 /// What to do after a search, in a few sentences, each a line. Of one that ended without a proof: what the plan is good
-/// for, what is proved of every plan, what would help, also where it took as much as may be asked for (`is_most`), and how
-/// the search is gone on with. Of any: that its certificate,
-/// if one was written, has more bytes than are read again. Only want of memory is an error (own profile).
+/// for, what is proved of every plan, what would help, by what it was asked for, and how one goes on from it. Of any: that its
+/// certificate, if one was written, has more bytes than are read again. Only want of memory is an error (own profile).
 pub fn counsel(
     alloc: Global,
     ending: Option<Ending>,
     filed: Filed<'_>,
-    is_most: bool,
+    asked: Asked,
 ) -> Result<String, AllocError> {
     let mut out = Draft::new(alloc);
     if let Some(ending) = ending {
-        add_unproved(&mut out, ending, is_most);
+        add_unproved(&mut out, ending, asked);
     }
     match (ending, filed) {
         (_, Filed::There(cert)) if cert.is_too_large() => {
             add_size(&mut out, cert);
             out.add("A smaller --nodes gives a smaller one.\n");
         }
-        (
-            Some(
-                Ending {
-                    cut: Cut::Parts,
-                    ..
-                },
-            ),
-            _,
-        ) => add_merge(&mut out, filed),
-        (Some(_), _) => add_resume(&mut out, filed),
+        (Some(_), _) => add_next(&mut out, filed, asked),
         (None, _) => {}
     }
     out.finish()

@@ -24,6 +24,6 @@ mod syntax;
 mod telling;
 mod units;
 
-pub use advising::{Filed, Written, counsel, counsel_merged};
+pub use advising::{Asked, Filed, Written, counsel, counsel_merged};
 pub use inputs::Inputs;
 pub use telling::remarks;

@@ -7,11 +7,11 @@ use crate::telling::{UNTOLD, tell_reason, tell_text};
 use ec_answers::Told;
 use ec_cert_text::CertFault;
 use ec_checker::CheckFault;
-use ec_command::Line;
-use ec_explain::{Filed, Inputs, Written, advice, explain};
+use ec_command::{Effort, Line};
+use ec_explain::{Asked, Filed, Inputs, Written, advice, explain};
 use ec_files::FileFault;
 use ec_jobs::Report;
-use ec_outcome::{Cut, Ending};
+use ec_outcome::Cut;
 use ec_refusals::Refusal;
 use std::alloc::{AllocError, Global};
 use std::io::{ErrorKind, Read};
@@ -177,20 +177,24 @@ pub(crate) fn filed_at<'x, R: Files>(
     Filed::There(Written { path, bytes })
 }
 
-/// Whether a search that ended without a proof took as many nodes or minutes as may be asked for.
-fn is_most(line: &Line, told: &Told) -> bool {
-    let (Line::Plan { effort, .. } | Line::Resume { effort, .. }) = line else {
-        return false;
-    };
-    match told.ending {
-        Some(
-            Ending {
-                cut: Cut::Budget,
-                ..
-            },
-        ) => effort.nodes == MOST_NODES,
-        Some(Ending { cut: Cut::Time, .. }) => effort.minutes == Some(MOST_MINUTES),
+/// Whether a search that was cut short took as many nodes or minutes as may be asked for.
+fn is_most(effort: &Effort, cut: Cut) -> bool {
+    match cut {
+        Cut::Budget => effort.nodes == MOST_NODES,
+        Cut::Time => effort.minutes == Some(MOST_MINUTES),
         _ => false,
+    }
+}
+
+/// What a search was asked for.
+fn asked_of(line: &Line, told: &Told) -> Asked {
+    let (Line::Plan { effort, .. } | Line::Resume { effort, .. }) = line else {
+        return Asked::Whole;
+    };
+    match (line, &told.ending) {
+        (Line::Resume { part, .. }, _) if part.count > 1 => Asked::Part,
+        (_, Some(ending)) if is_most(effort, ending.cut) => Asked::Most,
+        _ => Asked::Whole,
     }
 }
 
@@ -200,7 +204,7 @@ fn tell_advice<R: Files + AllocGlobal + Eprint>(rt: &R, line: &Line, told: &Told
         return;
     };
     let filed = filed_at(rt, text_of(line.out()), is_there);
-    if let Ok(text) = advice(rt.alloc(), told.ending, filed, is_most(line, told)) {
+    if let Ok(text) = advice(rt.alloc(), told.ending, filed, asked_of(line, told)) {
         let _ = rt.eprint(text.as_str());
     }
 }

@@ -6,7 +6,7 @@
 //! where a certificate was wanted, `out PATH` and `bytes N`, and `missing` where it isn't there.
 
 use crate::refusals::refusal_of;
-use ec_explain::{Filed, Inputs, Written, advice, explain, merged_advice};
+use ec_explain::{Asked, Filed, Inputs, Written, advice, explain, merged_advice};
 use ec_outcome::{Cut, Ending};
 use std::alloc::{AllocError, Global};
 
@@ -58,6 +58,17 @@ fn ending_of(head: &str) -> Option<Ending> {
     })
 }
 
+/// What a search was asked for.
+fn asked_of(head: &str) -> Asked {
+    if part(head, "most").is_some() {
+        return Asked::Most;
+    }
+    if part(head, "part").is_some() {
+        return Asked::Part;
+    }
+    Asked::Whole
+}
+
 /// What is told of a row.
 pub(crate) fn answer_to<'x>(
     alloc: Global,
@@ -69,12 +80,7 @@ pub(crate) fn answer_to<'x>(
         return merged_advice(alloc, ending_of(head), filed_of(head));
     }
     if !head.starts_with("refused ") {
-        return advice(
-            alloc,
-            ending_of(head),
-            filed_of(head),
-            part(head, "most").is_some(),
-        );
+        return advice(alloc, ending_of(head), filed_of(head), asked_of(head));
     }
     let Some(refusal) = refusal_of(head.lines().next().unwrap_or("")) else {
         return String::from_str(alloc, "no line of a refusal\n");
