@@ -413,6 +413,8 @@ def of_longer_searches(outputs):
     for longer in (cert, resumed):
         yield f"plan --nodes 45 --out c, over {longer.name} of the same units that says more", partial(
             try_older_that_says_more, longer, cert.rival)
+    yield "plan --nodes 30 --out c, over that of plan --nodes 45, of the same value and level", partial(
+        try_older_that_says_more, cert.rival, cert.fewer)
 
 
 def at_rest(outputs):

@@ -271,7 +271,8 @@ def outputs_of(program, folder):
     def made(words, option, units, older=b"", given=None):
         return Output("", words, option, units, older, given).run_undisturbed(trial)
 
-    older = made(["plan", "--nodes", "30"], "--out", twelve).whole
+    shorter = made(["plan", "--nodes", "30"], "--out", twelve)
+    older = shorter.whole
     short = made(["plan", "--nodes", "45"], "--out", twelve, older)
     resumed = ["resume", "--cert", "given.cert"]
     outputs = [
@@ -286,6 +287,7 @@ def outputs_of(program, folder):
         Output("a capture of a play", ["play"], "--pcap", line, made(["play"], "--pcap", other).whole),
     ]
     outputs[0].rival = outputs[1].rival = short
+    outputs[0].fewer = shorter
     return [it.run_undisturbed(trial) for it in outputs]
 
 

@@ -47,8 +47,10 @@ pub enum KeepReason {
     HoldsElse,
     /// What it holds can't be read.
     Unreadable,
-    /// It holds a certificate of the same units that says more.
+    /// It holds a certificate of the same units that says more, and no proof.
     SaysMore,
+    /// It holds a proof for the same units.
+    IsProof,
 }
 
 impl KeepReason {
@@ -61,7 +63,10 @@ impl KeepReason {
             }
             KeepReason::Unreadable => "What it holds cannot be read: give another path",
             KeepReason::SaysMore => {
-                "It holds a certificate of the same units with a better plan or a higher level: go on from that one"
+                "It holds a certificate of the same units that says more: where check says that it is right, go on from it, else give another path"
+            }
+            KeepReason::IsProof => {
+                "It holds a proof for the same units: where check says that it is right nothing better can be found, else give another path"
             }
         }
     }

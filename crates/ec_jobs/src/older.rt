@@ -4,11 +4,12 @@ ghost use Rattle.std.specs.Prelude.{◌≡◌, ◌↔◌, IsTrue};
 ghost use Rattle.ec_loads.specs.Search.{IsAtMost};
 ghost use Rattle.ec_cert.specs.BestPlan.{value_of};
 ghost use Rattle.ec_cert.specs.Shapes.{cert_view};
-ghost use Rattle.ec_jobs.specs.Older.{ShowsMore, SaysMore};
+ghost use Rattle.ec_jobs.specs.Older.{HasMoreNodes, ShowsMore, SaysMore};
 
-use ec_cert::{Best, Cert, UnitLine};
+use ec_cert::{Best, Cert, UnitLine, node_count};
 use ec_cert_text::{CertFault, MOST_BYTES, read_cert};
 use ec_files::{KeepReason, Late};
+use ec_merge::misfit;
 use std::alloc::Global;
 use std::io;
 use std::io::ErrorKind;
@@ -49,6 +50,27 @@ fn costs_less(older: &Option<Best>, newer: &Option<Best>) -> bool
     }
 }
 
+/// Whether two plans cost the same, or neither is there.
+fn cost_the_same(older: &Option<Best>, newer: &Option<Best>) -> bool
+    ensures { IsTrue result ↔ (value_of older.now ≡ value_of newer.now) }
+{
+    match (older, newer) {
+        (None, None) => true,
+        (Some(older), Some(newer)) => older.busiest == newer.busiest,
+        _ => false,
+    }
+}
+
+/// Whether an older certificate is of the same search with the same value and level, and has more nodes.
+fn has_more_nodes(older: &Cert, newer: &Cert) -> bool
+    ensures { IsTrue result ↔ HasMoreNodes (cert_view older.now) (cert_view newer.now) }
+{
+    misfit(older, newer).is_none()
+        && cost_the_same(&older.best, &newer.best)
+        && older.level == newer.level
+        && node_count(&newer.tree) < node_count(&older.tree)
+}
+
 /// Whether the level of an older certificate, none of a proof, is above that of a newer one.
 fn shows_more(older: Option<u64>, newer: u64) -> bool
     ensures { IsTrue result ↔ ShowsMore older newer }
@@ -60,7 +82,7 @@ fn shows_more(older: Option<u64>, newer: u64) -> bool
 }
 
 /// Whether an older certificate says more for the same units than a newer one, which is no proof: it shows a higher level,
-/// or has a plan that costs less.
+/// has a plan that costs less, or is of the same search and has more nodes.
 fn says_more(older: &Cert, newer: &Cert) -> bool
     ensures { IsTrue result ↔ SaysMore (cert_view older.now) (cert_view newer.now) }
 {
@@ -69,7 +91,9 @@ fn says_more(older: &Cert, newer: &Cert) -> bool
     };
     older.slots == newer.slots
         && are_same(older.units.as_slice(), newer.units.as_slice())
-        && (shows_more(older.level, level) || costs_less(&older.best, &newer.best))
+        && (shows_more(older.level, level)
+            || costs_less(&older.best, &newer.best)
+            || has_more_nodes(older, newer))
 }
 
 /// The certificate that stands at the path of a file; none where there is no file that is one.
@@ -95,7 +119,10 @@ pub(crate) fn reason_to_stay<F: Files>(
         return None;
     }
     match standing_cert(alloc, late) {
-        Ok(Some(older)) if says_more(&older, newer) => Some(KeepReason::SaysMore),
+        Ok(Some(older)) if says_more(&older, newer) => Some(match older.level {
+            Some(_) => KeepReason::SaysMore,
+            None => KeepReason::IsProof,
+        }),
         Ok(_) => None,
         Err(_) => Some(KeepReason::Unreadable),
     }
