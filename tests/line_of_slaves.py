@@ -1,7 +1,7 @@
 #!/usr/bin/env python3
 """A line of slaves behind an Ethernet interface, for tests of a master.
 
-    tests/line_of_slaves.py INTERFACE SLAVES [--away PLACE --after FRAMES]
+    tests/line_of_slaves.py INTERFACE SLAVES [--away PLACE | --spoil lose|bend|swap] [--after FRAMES]
 
 takes each EtherCAT frame that comes to the interface, passes it through so many slaves, one after the other, and sends it
 back. It is a model of its own, written from ETG.1000.4 alone: the frame (clause 5.3), datagrams, addressing and working
@@ -11,7 +11,8 @@ write by one slave (BRW, ARMW and FRMW pass).
 
 A slave has a small application: after each frame each byte of its inputs is the byte of its outputs at the same place, turned
 around at their end, and one more; of a slave without outputs it counts the reads. With --away the slave at PLACE, from 0,
-passes frames on and does nothing, once so many frames have come.
+passes frames on and does nothing, once so many frames have come. With --spoil the frame after so many is lost, comes back with
+another address, or behind the next one.
 
 SIGTERM ends it. It then tells how many frames came, and of each slave the outputs that it holds and the inputs that were read
 last: `frames N`, `outputs STATION HEX`, `inputs STATION HEX`.
@@ -22,6 +23,8 @@ import socket
 import sys
 
 ETHERCAT = 0x88A4
+# Where the address of the first datagram stands.
+ADDRESS = 18
 MEMORY = 65536
 STATION, FMMUS, RECORD, RECORDS = 0x0010, 0x0600, 16, 4
 APRD, APWR, APRW, FPRD, FPWR, FPRW, BRD, BWR = 1, 2, 3, 4, 5, 6, 7, 8
@@ -209,8 +212,9 @@ def main():
     words.add_argument("slaves", type=int)
     words.add_argument("--away", type=int)
     words.add_argument("--after", type=int, default=0)
+    words.add_argument("--spoil", choices=("lose", "bend", "swap"))
     told = words.parse_args()
-    slaves, count = [Slave() for _ in range(told.slaves)], 0
+    slaves, count, behind = [Slave() for _ in range(told.slaves)], 0, None
     line = socket.socket(socket.AF_PACKET, socket.SOCK_RAW, socket.htons(ETHERCAT))
     line.bind((told.interface, ETHERCAT))
     signal.signal(signal.SIGTERM, end)
@@ -220,7 +224,15 @@ def main():
             frame = bytearray(line.recv(2048))
             is_away = told.away is not None and told.after <= count
             there = [it for place, it in enumerate(slaves) if not (is_away and place == told.away)]
-            line.send(passed(there, frame))
+            spoilt = told.spoil if count == told.after else None
+            passed(there, frame)
+            if spoilt == "bend":
+                frame[ADDRESS] ^= 1
+            if spoilt in (None, "bend"):
+                line.send(frame)
+            if behind is not None:
+                line.send(behind)
+            behind = frame if spoilt == "swap" else None
             count += 1
     except Ended:
         tell(slaves, count)

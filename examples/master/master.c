@@ -224,7 +224,7 @@ int main(int count, char **words)
     if (count < 3)
         return fprintf(stderr, "usage: master --print | master INTERFACE TICKS [MS]\n"), 2;
     unsigned long ticks = strtoul(words[2], NULL, 10);
-    int64_t wait = count < 4 ? ECPLAN_TICK_NS : (int64_t)strtoul(words[3], NULL, 10) * 1000000;
+    int64_t wait = count < 4 ? ECPLAN_TICK_NS / 8 * 7 : (int64_t)strtoul(words[3], NULL, 10) * 1000000;
     struct sockaddr_ll place = { .sll_family = AF_PACKET, .sll_protocol = htons(ETHERCAT) };
     place.sll_ifindex = (int)if_nametoindex(words[1]);
     if (place.sll_ifindex == 0)

@@ -36,9 +36,11 @@ fn add_lengths(text: &mut Draft, mapping: &Mapping, laid: &Laid<'_>, trips: &[Tr
     let (slaves, groups) = (laid.seats.len(), mapping.groups.as_slice().len());
     let (sent, frames) = (laid.sends.groups.len(), laid.sends.frames.len());
     let (starts, bytes) = (trips.len(), start_bytes(trips));
-    text.add(format_args!("#define ECPLAN_SLAVES {slaves}\n"));
-    text.add(format_args!("#define ECPLAN_GROUPS {groups}\n"));
-    text.add(format_args!("#define ECPLAN_SENT {sent}\n"));
+    text.add(format_args!("#define ECPLAN_SLAVES {slaves} /* slaves, in file order */\n"));
+    text.add(format_args!(
+        "#define ECPLAN_GROUPS {groups} /* groups, each a datagram of a tick */\n"
+    ));
+    text.add(format_args!("#define ECPLAN_SENT {sent} /* groups of all frames */\n"));
     text.add(format_args!("#define ECPLAN_FRAMES {frames} /* frames of all ticks */\n"));
     text.add(format_args!("#define ECPLAN_STARTS {starts} /* frames before the first tick */\n"));
     text.add(format_args!("#define ECPLAN_START_BYTES {bytes} /* bytes of these frames */\n"));
