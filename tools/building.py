@@ -1,8 +1,8 @@
 """Proving and building the program, and where it is kept.
 
-Only the crates that the program stands on are proved, in a folder of the user's cache: as many side by side as processors
-and memory allow, and then those at the top, which wait for each other, one at a time with several jobs each. An
-interrupted run goes on there.
+Only the crates that the program stands on are proved, in the user's cache: as many side by side as processors and memory
+allow, each in a folder of its own, since a check waits for others in its folder. What was proved in one of them serves in the
+others. An interrupted run goes on there.
 """
 import fcntl
 import os
@@ -18,14 +18,14 @@ from placing import bytes_at, write_whole
 from sources import PARTS, PROGRAM, TOP, hash_of_tree, is_source, lines_of_crates, sources, stands_on, sum_of
 from symbols import without_symbols
 
-# The lowest of the crates at the top: each that stands on it waits for the one before, or has only that one beside it.
-FIRST_OF_LAST = "ec_crew"
 # How the line begins that says that the program is proved, now or by an earlier run over the same sources.
 PROVED = (b"logic=proved", b"rt: nothing has changed since the last proved build")
 # What is said before the path of what the provers said.
 NOT_BUILT = "the program could not be built; what was said of it is in "
 # Memory that one prover may take, in KiB.
 PROVER_KIB = 2 << 20
+# How many crates are proved at once at most: more rarely wait for no other one, and each takes some gigabytes of the disk.
+MOST_AT_ONCE = 4
 # Where the seconds of processor stand that each crate's proof takes, roughly, and what serves where a crate isn't in it.
 # They only serve the guess of what is left.
 TABLE, USUAL = os.path.join(TOP, "bench", "gate-seconds.txt"), 30
@@ -78,14 +78,13 @@ def make_same(folder, found):
 
 
 def provers():
-    """How many crates may be handed to provers at once: two for each processor, since some wait for others, as far as
-    memory allows."""
+    """How many crates are proved at once: one for each processor, as far as memory allows."""
     free = PROVER_KIB
     with open("/proc/meminfo", encoding="ascii") as told:
         for line in told:
             if line.startswith("MemAvailable:"):
                 free = int(line.split()[1])
-    return max(1, min(2 * len(os.sched_getaffinity(0)), free // PROVER_KIB))
+    return max(1, min(MOST_AT_ONCE, len(os.sched_getaffinity(0)), free // PROVER_KIB))
 
 
 def usual_seconds():
@@ -132,29 +131,46 @@ class Progress:
             self.tell()
 
 
-def follow(words, folder, log, progress):
-    """Runs a command in the folder, with what it prints in the log, and tells what has ended; its status."""
-    child = subprocess.Popen(words, cwd=folder, stdin=subprocess.DEVNULL, stdout=log, stderr=log, start_new_session=True)
+class Children:
+    """Commands that run, each by the folder in which it does. A signal that ends this run ends them too."""
 
-    def give_up(*_):
-        os.killpg(child.pid, signal.SIGTERM)
+    def __init__(self):
+        self.running = {}
+        for it in (signal.SIGINT, signal.SIGTERM, signal.SIGHUP):
+            signal.signal(it, self.give_up)
+
+    def give_up(self, *_):
+        self.end()
         say("stopped; started again, it goes on from here")
         os._exit(4)
 
-    old = [(it, signal.signal(it, give_up)) for it in (signal.SIGINT, signal.SIGTERM, signal.SIGHUP)]
-    with open(log.name, encoding="utf-8", errors="replace") as told:
-        while True:
-            ended = child.poll() is not None
-            for line in told:
-                if line.startswith("== "):
-                    progress.ended(line[3:].strip())
-            if ended:
-                break
-            progress.waited()
-            time.sleep(0.5)
-    for it, before in old:
-        signal.signal(it, before)
-    return child.returncode
+    def start(self, words, folder, log):
+        with open(log, "wb") as told:
+            self.running[folder] = subprocess.Popen(words, cwd=folder, stdin=subprocess.DEVNULL, stdout=told, stderr=told,
+                                                    start_new_session=True)
+
+    def ended(self):
+        """The folders of those that have ended since, with their status."""
+        found = {folder: child.returncode for folder, child in self.running.items() if child.poll() is not None}
+        for folder in found:
+            del self.running[folder]
+        return found
+
+    def end(self):
+        for child in self.running.values():
+            os.killpg(child.pid, signal.SIGTERM)
+
+
+def follow(words, folder, log, progress):
+    """Runs a command in the folder, with what it prints in the log, and tells how far all is; its status."""
+    children = Children()
+    children.start(words, folder, log)
+    while True:
+        ended = children.ended()
+        if ended:
+            return ended[folder]
+        progress.waited()
+        time.sleep(0.5)
 
 
 def need_kit():
@@ -168,8 +184,9 @@ def build_here():
     home = os.path.join(TOP, "crates", PROGRAM)
     say("proving what changed, in this tree")
     with tempfile.NamedTemporaryFile(prefix="ecplan-", suffix=".log", delete=False) as log:
-        progress = Progress([PROGRAM], 1)
-        follow(["rt", "run"], home, log, progress)
+        pass
+    progress = Progress([PROGRAM], 1)
+    follow(["rt", "run"], home, log.name, progress)
     return bytes_at(built_in(home, log.name, progress))
 
 
@@ -184,68 +201,77 @@ def built_in(home, log, progress):
     return built
 
 
-def last_crates():
-    """The crates at the top, each after those below it."""
-    lines = lines_of_crates()
-    return [crate for crate in stands_on(lines) if FIRST_OF_LAST in stands_on(lines, crate)]
-
-
-def without(last, found):
-    """These sources without those of the last crates."""
-    lower = {path: content for path, content in found.items() if path.split("/")[:2][-1] not in last}
-    listed = found["crates.txt"].decode().splitlines(keepends=True)
-    lower["crates.txt"] = "".join(it for it in listed if it.partition(":")[0] not in last).encode()
-    return lower
-
-
-def move_out(crate, at, to):
-    """Moves what is kept of a crate's proof from one folder of crates to another, where it is there."""
-    source, place = os.path.join(at, crate, "out"), os.path.join(to, crate, "out")
-    if os.path.isdir(source):
-        shutil.rmtree(place, ignore_errors=True)
-        os.makedirs(os.path.dirname(place), exist_ok=True)
-        os.rename(source, place)
-
-
-def drop(*folders):
-    """Removes folders, of a hundred thousand files, without letting anybody wait for it; and what an earlier run left of
+def drop(folder):
+    """Removes a folder, of a hundred thousand files, without letting anybody wait for it; and what an earlier run left of
     such ones."""
-    for folder in folders:
-        if os.path.isdir(folder):
-            os.rename(folder, "%s-gone-%d" % (folder, os.getpid()))
-    at = os.path.dirname(folders[0])
+    if os.path.isdir(folder):
+        os.rename(folder, "%s-gone-%d" % (folder, os.getpid()))
+    at = os.path.dirname(folder)
     gone = [os.path.join(at, it) for it in os.listdir(at) if "-gone-" in it]
     nowhere = {"stdin": subprocess.DEVNULL, "stdout": subprocess.DEVNULL, "stderr": subprocess.DEVNULL}
     subprocess.Popen(["rm", "-rf", *gone], start_new_session=True, **nowhere)
 
 
+class Order:
+    """In which order the crates are proved: one that is ready before the others where more is left to be proved above it."""
+
+    def __init__(self, crates):
+        lines, usual = lines_of_crates(), usual_seconds()
+        self.below = {crate: set(stands_on(lines, crate)) - {crate} for crate in crates}
+        self.left, self.done, self.above = list(crates), set(), {}
+        for crate in sorted(crates, key=lambda it: -len(self.below[it])):
+            users = (self.above[it] for it in crates if crate in self.below[it])
+            self.above[crate] = usual.get(crate, USUAL) + max(users, default=0)
+
+    def ready(self):
+        """The crates that can be proved now, the first one first."""
+        found = [crate for crate in self.left if self.below[crate] <= self.done]
+        return sorted(found, key=lambda crate: -self.above[crate])
+
+
+def prove(folder, homes, crates, progress):
+    """Proves the crates, but for the program, as many at once as there are homes; ends where one isn't proved."""
+    order, children, at = Order(crates), Children(), {}
+    while order.left or children.running:
+        for home in homes:
+            ready = order.ready()
+            if home in at.values() or not ready:
+                continue
+            crate = ready[0]
+            order.left.remove(crate)
+            # Where no other one can be proved beside it, it gets all processors.
+            jobs = 1 if children.running or ready[1:] else len(homes)
+            at[os.path.join(home, "crates", crate)] = home
+            children.start(["rt", "lib", "--jobs", str(jobs)], os.path.join(home, "crates", crate), log_of(folder, crate))
+        for place, status in children.ended().items():
+            crate = os.path.basename(place)
+            if status:
+                children.end()
+                stop(NOT_BUILT + log_of(folder, crate))
+            del at[place]
+            order.done.add(crate)
+            progress.ended(crate)
+        progress.waited()
+        time.sleep(0.5)
+
+
+def log_of(folder, crate):
+    return os.path.join(folder, "log-of-" + crate)
+
+
 def build(folder, crates, found):
-    """Proves the crates in the folder, and builds the program. Its bytes."""
-    at_once = provers()
-    progress = Progress(crates, min(at_once, len(os.sched_getaffinity(0))))
+    """Proves the crates below the folder, and builds the program. Its bytes."""
+    homes = [os.path.join(folder, "prover-%d" % number) for number in range(1, 1 + provers())]
+    progress = Progress(crates, len(homes))
     say("proving the %d crates that the program stands on; this is done once" % len(crates))
     progress.tell()
-    inside, aside, last = os.path.join(folder, "crates"), folder + "-aside", last_crates()
-    home = {crate: os.path.join(inside, crate) for crate in last}
-    for crate in last:
-        # What an interrupted run kept of them; no check goes by a file of a crate that crates.txt doesn't name.
-        move_out(crate, inside, aside)
-    make_same(folder, without(last, found))
-    with open(os.path.join(folder, "log"), "wb") as log:
-        is_proved = follow(["rt", "all", "check", "--jobs", str(at_once)], folder, log, progress) == 0
-        make_same(folder, found)
-        for crate in last:
-            move_out(crate, aside, inside)
-        for crate in last[:-1]:
-            is_proved = is_proved and follow(["rt", "lib"], home[crate], log, progress) == 0
-            if is_proved:
-                progress.ended(crate)
-    if not is_proved:
-        stop(NOT_BUILT + log.name)
-    with open(os.path.join(folder, "log-of-the-program"), "wb") as log:
-        # With no words the program only names the words that it knows, so this run builds it and does no job.
-        follow(["rt", "run"], home[PROGRAM], log, progress)
-    return bytes_at(built_in(home[PROGRAM], log.name, progress))
+    for home in homes:
+        make_same(home, found)
+    prove(folder, homes, [it for it in crates if it != PROGRAM], progress)
+    home = os.path.join(homes[0], "crates", PROGRAM)
+    # With no words the program only names the words that it knows, so this run builds it and does no job.
+    follow(["rt", "run"], home, log_of(folder, PROGRAM), progress)
+    return bytes_at(built_in(home, log_of(folder, PROGRAM), progress))
 
 
 class Tree:
@@ -290,7 +316,7 @@ class Tree:
             return
         folder = os.path.join(self.cache, "build")
         self.keep(build(folder, self.crates, self.found))
-        drop(folder, folder + "-aside")
+        drop(folder)
 
     def need_built(self, kit=None):
         """Proves and builds the program, unless one is kept; where a kit's line is given, one that this kit proved."""
