@@ -24,6 +24,8 @@ PROVED = (b"logic=proved", b"rt: nothing has changed since the last proved build
 NOT_BUILT = "the program could not be built; what was said of it is in "
 # Memory that one prover may take, in KiB.
 PROVER_KIB = 2 << 20
+# Each job reads all libraries, so that with more than one most crates take longer, also where nothing runs beside them.
+ONE_JOB = ("--jobs", "1")
 # How many crates are proved at once at most: more rarely wait for no other one, and each takes some gigabytes of the disk.
 MOST_AT_ONCE = 4
 # Where the seconds of processor stand that each crate's proof takes, roughly, and what serves where a crate isn't in it.
@@ -239,10 +241,9 @@ def prove(folder, homes, crates, progress):
                 continue
             crate = ready[0]
             order.left.remove(crate)
-            # Where no other one can be proved beside it, it gets all processors.
-            jobs = 1 if children.running or ready[1:] else len(homes)
-            at[os.path.join(home, "crates", crate)] = home
-            children.start(["rt", "lib", "--jobs", str(jobs)], os.path.join(home, "crates", crate), log_of(folder, crate))
+            place = os.path.join(home, "crates", crate)
+            at[place] = home
+            children.start(["rt", "lib", *ONE_JOB], place, log_of(folder, crate))
         for place, status in children.ended().items():
             crate = os.path.basename(place)
             if status:
@@ -270,7 +271,7 @@ def build(folder, crates, found):
     prove(folder, homes, [it for it in crates if it != PROGRAM], progress)
     home = os.path.join(homes[0], "crates", PROGRAM)
     # With no words the program only names the words that it knows, so this run builds it and does no job.
-    follow(["rt", "run"], home, log_of(folder, PROGRAM), progress)
+    follow(["rt", "run", *ONE_JOB], home, log_of(folder, PROGRAM), progress)
     return bytes_at(built_in(home, log_of(folder, PROGRAM), progress))
 
 
