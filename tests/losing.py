@@ -403,7 +403,8 @@ def try_older_that_says_more(longer, shorter, trial):
     before = trial.seen()
     done = trial.run(*shorter.line("c"))
     trial.ends(done, 4, REFUSED_WRITE)
-    trial.tells(done, *shorter.text.split("\n")[:1], "c.part", "the same units")
+    says = "a proof for the same units" if longer.code == 0 else "a certificate of the same units that says more"
+    trial.tells(done, *shorter.text.split("\n")[:1], "c.part", says)
     trial.left(before, {"c.part": shorter.whole})
 
 

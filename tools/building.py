@@ -26,7 +26,7 @@ NOT_BUILT = "the program could not be built; what was said of it is in "
 PROVER_KIB = 2 << 20
 # Each job reads all libraries, so that with more than one most crates take longer, also where nothing runs beside them.
 ONE_JOB = ("--jobs", "1")
-# How many crates are proved at once at most: more rarely wait for no other one, and each takes some gigabytes of the disk.
+# How many crates are proved at once at most. With more, most would wait for others, and each takes some gigabytes of the disk.
 MOST_AT_ONCE = 4
 # Where the seconds of processor stand that each crate's proof takes, roughly, and what serves where a crate isn't in it.
 # They only serve the guess of what is left.
