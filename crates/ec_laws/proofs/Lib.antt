@@ -1,0 +1,5 @@
+pub mod WireLemmas
+pub mod StampLemmas
+pub mod PlayLemmas
+pub mod KeptLemmas
+pub mod MapLemmas

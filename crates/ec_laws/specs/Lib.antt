@@ -1,0 +1,4 @@
+pub mod Settings
+pub mod Maps
+pub mod Stamps
+pub mod Examples

@@ -1,0 +1,40 @@
+//! What plays through modelled slaves answer.
+
+ghost use Rattle.std.specs.Prelude.{◌≡◌, ℕ, ◌<◌, List, length, map, Err};
+ghost use Rattle.ec_units.specs.declared.slave.Place.{Place};
+ghost use Rattle.ec_units.specs.declared.units.Units.{Units};
+ghost use Rattle.ec_units.specs.Views.{unit_view};
+ghost use Rattle.ec_fmmu.specs.declared.mapping.Mapping.{Mapping};
+ghost use Rattle.ec_fmmu.specs.Seats.{seats_of};
+ghost use Rattle.ec_slave.specs.Step.{memory_after, frame_after};
+ghost use Rattle.ec_outcome.specs.declared.play.PlayFault.{PlayFault};
+ghost use Rattle.ec_play.specs.declared.playing.Played.{Played};
+ghost use Rattle.ec_play.specs.Lines.{IsMemory};
+ghost use Rattle.ec_play.specs.Plays.{IsAnswer, IsPlayed};
+ghost use Rattle.ec_play_threads.specs.Plays.{IsLack};
+ghost use Rattle.ec_replies.specs.Arrivals.{OutputsArrived, InputsArrived, InputsAreAbsent};
+ghost use Rattle.ec_laws.specs.Settings.{IsLine};
+
+/// A play through modelled slaves that fails lacked what it needs, and no frame of it was faulty: it lacked memory, and with a thread
+/// for each slave also a ring or a thread.
+pub fn plays_lack()
+    ensures alone { (us : Units) (ps : List Place) (m : Mapping) (image : List ℕ) (n : ℕ) (slaves : List (List ℕ)) (f : PlayFault) → IsLine us ps m slaves →
+        length image ≡ m.total → IsAnswer frame_after memory_after IsMemory us m image n slaves (Err f) → IsMemory f }
+    ensures threads { (us : Units) (ps : List Place) (m : Mapping) (image : List ℕ) (n : ℕ) (slaves : List (List ℕ)) (f : PlayFault) → IsLine us ps m slaves →
+        length image ≡ m.total → IsAnswer frame_after memory_after IsLack us m image n slaves (Err f) → IsLack f }
+{}
+
+/// What a play through modelled slaves hands back, in one thread or with a thread for each slave, has what travelled: each output of
+/// the units in the memory of its slave, and each input in the image; an input of a unit that didn't travel is 0 (own profile, after
+/// ETG.1000.4, clause 6.6).
+pub fn plays_arrive()
+    ensures outputs { (us : Units) (ps : List Place) (m : Mapping) (image : List ℕ) (n t : ℕ) (slaves : List (List ℕ)) (p : Played (List ℕ)) → IsLine us ps m slaves →
+        length image ≡ m.total → IsPlayed frame_after memory_after us m image n slaves p → t < n →
+        OutputsArrived (seats_of (map unit_view us.units) ps) image t p.slaves.items }
+    ensures inputs { (us : Units) (ps : List Place) (m : Mapping) (image : List ℕ) (n t : ℕ) (slaves : List (List ℕ)) (p : Played (List ℕ)) → IsLine us ps m slaves →
+        length image ≡ m.total → IsPlayed frame_after memory_after us m image n slaves p → t < n →
+        InputsArrived (seats_of (map unit_view us.units) ps) p.image.items t p.slaves.items }
+    ensures others { (us : Units) (ps : List Place) (m : Mapping) (image : List ℕ) (n : ℕ) (slaves : List (List ℕ)) (p : Played (List ℕ)) → IsLine us ps m slaves →
+        length image ≡ m.total → IsPlayed frame_after memory_after us m image n slaves p →
+        InputsAreAbsent (seats_of (map unit_view us.units) ps) p.image.items n }
+{}
