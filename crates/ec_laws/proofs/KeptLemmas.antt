@@ -130,7 +130,7 @@ steps-kept k at (d ∷ ds) memory l fits shut =
     kept-on k l s.1 (datagrams_step (at + (length d.bytes + 12)) ds s).1 here (steps-kept k (at + (length d.bytes + 12)) ds s.0 s.1 (omega (arith, fits, more, n)) parts.1)
 
 -- no byte in front of the datagrams may change
-and-none : (b : Bool) → (b && false) ≡ false
+pub and-none : (b : Bool) → (b && false) ≡ false
 and-none true = refl
 and-none false = refl
 
@@ -141,7 +141,7 @@ shut-before k at d l =
     let f : nat_le (at + 10) k ≡ false = grind (arith, nat_tests) in
     (λ i. (r && (e i && nat_lt k (at + 4))) || (f i && nat_lt k (at + 12 + length d.bytes))) ∙ ap (λ b. b || false) (and-none r)
 
-front-shut : (k at : ℕ) (ds : List Entry) → k < at → may_change at ds k ≡ false
+pub front-shut : (k at : ℕ) (ds : List Entry) → k < at → may_change at ds k ≡ false
 front-shut k at [] l = refl
 front-shut k at (d ∷ ds) l = λ i. shut-before k at d l i || front-shut k (at + (length d.bytes + 12)) ds (omega (arith, l)) i
 

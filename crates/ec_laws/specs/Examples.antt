@@ -1,10 +1,14 @@
--- Worked examples, which the definitions compute by themselves: two frames of a tick, and a record as a slave reads it.
+-- Worked examples, which the definitions compute by themselves: two frames of a tick, a record as a slave reads it, and a datagram that
+-- comes back.
 use Rattle.std.specs.Prelude.{◌≡◌, ℕ, true, false, List, [], ◌∷◌, replicate, refl}
+use Rattle.ec_frames.specs.declared.command.Command.TheVariants as command
+use Rattle.ec_frames.specs.Reading.{Entry}
 use Rattle.ec_fmmu.specs.Records.{reads, writes, record_bytes}
 use Rattle.ec_fmmu.specs.Mappings.{fmmu_for}
 use Rattle.ec_slave.specs.Fmmus.{fmmu_at, has}
 use Rattle.ec_frame_lines.specs.Captures.{stamp}
 use Rattle.ec_laws.specs.Maps.{side_of}
+use Rattle.ec_laws.specs.Replies.{IsBackOf}
 use Rattle.ec_laws.specs.Stamps.{passed_at}
 
 -- a frame of 60 bytes takes 84 on the wire, one of 100 bytes 124, and a byte 80 ns
@@ -38,3 +42,10 @@ written = refl
 
 not_read : has (fmmu_at memory 0) (side_of reads) ≡ false
 not_read = refl
+
+-- of a logical read-write datagram other data and another counter come back
+abbrev datagram : ℕ → List ℕ → Entry
+datagram counter bytes = record { command = command.Lrw; index = 0; address = 0x00010000; circulating = false; event = 0; counter = counter; bytes = bytes }
+
+came_back : IsBackOf (datagram 0 (1 ∷ 2 ∷ [])) (datagram 3 (1 ∷ 9 ∷ []))
+came_back = record { command = refl; index = refl; address = λ h. refl; circulating = refl; event = refl; size = refl }

@@ -1,4 +1,5 @@
 pub mod Settings
+pub mod Replies
 pub mod Maps
 pub mod Stamps
 pub mod Examples
