@@ -1,6 +1,6 @@
 //! What plays through modelled slaves answer.
 
-ghost use Rattle.std.specs.Prelude.{◌≡◌, ℕ, ◌<◌, List, length, map, Err};
+ghost use Rattle.std.specs.Prelude.{◌≡◌, ℕ, ◌<◌, Bool, true, List, length, map, Err};
 ghost use Rattle.ec_units.specs.declared.slave.Place.{Place};
 ghost use Rattle.ec_units.specs.declared.units.Units.{Units};
 ghost use Rattle.ec_units.specs.Views.{unit_view};
@@ -9,17 +9,16 @@ ghost use Rattle.ec_fmmu.specs.Seats.{seats_of};
 ghost use Rattle.ec_slave.specs.Step.{memory_after, frame_after};
 ghost use Rattle.ec_outcome.specs.declared.play.PlayFault.{PlayFault};
 ghost use Rattle.ec_play.specs.declared.playing.Played.{Played};
-ghost use Rattle.ec_play.specs.Lines.{IsMemory};
 ghost use Rattle.ec_play.specs.Plays.{IsAnswer, IsPlayed};
 ghost use Rattle.ec_play_threads.specs.Plays.{IsLack};
 ghost use Rattle.ec_replies.specs.Arrivals.{OutputsArrived, InputsArrived, InputsAreAbsent};
 ghost use Rattle.ec_laws.specs.Settings.{IsLine};
 
-/// A play through modelled slaves that fails lacked what it needs, and no frame of it was faulty: it lacked memory, and with a thread
-/// for each slave also a ring or a thread.
+/// A play through modelled slaves that fails lacked what it needs, whatever that may be, and no frame of it was faulty. With a thread
+/// for each slave it lacked memory, a ring or a thread.
 pub fn plays_lack()
-    ensures alone { (us : Units) (ps : List Place) (m : Mapping) (image : List ℕ) (n : ℕ) (slaves : List (List ℕ)) (f : PlayFault) → IsLine us ps m slaves →
-        length image ≡ m.total → IsAnswer frame_after memory_after IsMemory us m image n slaves (Err f) → IsMemory f }
+    ensures any { (lacks : PlayFault → Bool) (us : Units) (ps : List Place) (m : Mapping) (image : List ℕ) (n : ℕ) (slaves : List (List ℕ)) (f : PlayFault) → IsLine us ps m slaves →
+        length image ≡ m.total → IsAnswer frame_after memory_after (λ g. lacks g ≡ true) us m image n slaves (Err f) → lacks f ≡ true }
     ensures threads { (us : Units) (ps : List Place) (m : Mapping) (image : List ℕ) (n : ℕ) (slaves : List (List ℕ)) (f : PlayFault) → IsLine us ps m slaves →
         length image ≡ m.total → IsAnswer frame_after memory_after IsLack us m image n slaves (Err f) → IsLack f }
 {}

@@ -1,10 +1,10 @@
-use Rattle.ec_play.specs.Lines.{IsMemory}
+use Rattle.std.proofs.Common.{◌≡◌, true}
 use Rattle.ec_play_threads.specs.Plays.{IsLack}
 use Rattle.ec_laws.proofs.PlayLemmas.{only-lacks}
 use Rattle.ec_laws.proofs.plays.plays_lack.Goals as goal
 
-pub returns-clause-alone : goal.returns-clause-alone
-returns-clause-alone c = only-lacks IsMemory
+pub returns-clause-any : goal.returns-clause-any
+returns-clause-any c = λ lacks. only-lacks (λ g. lacks g ≡ true)
 
 pub returns-clause-threads : goal.returns-clause-threads
 returns-clause-threads c = only-lacks IsLack
