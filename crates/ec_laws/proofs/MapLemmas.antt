@@ -2,8 +2,9 @@
 -- The memory holds the bytes of the record, so the numbers and the bits that are read from there are the record's own.
 use Rattle.std.proofs.Common.{◌≡◌, ◌⊎◌, inl, inr, ℕ, zero, suc, ◌+◌, ◌*◌, ◌/◌, ◌%◌, ◌^◌, ◌<◌, ◌==◌, ◌&&◌, Bool, true, false, cond, List, [], ◌∷◌, ◌++◌, length, map, drop, get_or, replicate, refl, ap, sym, ◌∙◌, subst, arith}
 use Rattle.std.specs.Prelude.{◌↔◌, Any}
+use Rattle.std.specs.List.{range_with_len}
 use Rattle.std.proofs.lemmas.Bool.{false≢true, and_parts, cases_eq, eq-eqb, eqb-true, ne_eqb}
-use Rattle.std.proofs.lemmas.List.{get_or-drop, get_or-append-add, length-replicate}
+use Rattle.std.proofs.lemmas.List.{get_or-drop, get_or-append-add}
 use Rattle.std.proofs.Math.ListN.{get_or-append}
 use Rattle.byteorder.specs.Endian.{little_number}
 use Rattle.ec_units.specs.declared.slave.Place.{Place}
@@ -19,12 +20,13 @@ use Rattle.ec_fmmu.specs.Records.{Direction, reads, writes, Triple, HasKind, IsM
 use Rattle.ec_fmmu.specs.Mappings.{fmmu_for, records_of, IsWanted}
 use Rattle.ec_slave.specs.Fmmus.{fmmu_at, fmmus_in, has}
 use Rattle.ec_slave.specs.Step.{memory_after, frame_after}
-use Rattle.ec_play.specs.Sent.{start_sents}
+use Rattle.ec_play.specs.Sent.{start_sents, ticks_sents, all_sents}
 use Rattle.ec_play.specs.Lines.{slaves_after}
 use Rattle.ec_replies.specs.Ready.{IsReady, AreReady}
 use Rattle.ec_replies.specs.Started.{started}
 use Rattle.ec_replies.proofs.FmmuLemmas.{Fits}
-use Rattle.ec_replies.proofs.PlayLemmas.{IsSet, seats_in, fits-in, ready-in}
+use Rattle.ec_replies.proofs.PlayLemmas.{IsSet, seats_in, fits-in, ticks-pass, ready-in}
+use Rattle.ec_replies.proofs.RunLemmas.{runs-append}
 use Rattle.ec_replies.proofs.StartLaw.{length-record, start-runs}
 use Rattle.ec_laws.specs.Settings.{IsLine}
 use Rattle.ec_laws.specs.Maps.{IsNarrow, HoldsRecord, side_of, MapsAt, SlaveMaps}
@@ -256,16 +258,32 @@ ready-at seats (s ∷ ss) [] i d h l = absurd h
 ready-at seats (s ∷ ss) (m ∷ ms) zero d h l = h.0
 ready-at seats (s ∷ ss) (m ∷ ms) (suc i) d h l = ready-at seats ss ms i d h.1 (omega (arith, l))
 
-pub slaves-map : (us : Units) (ps : List Place) (m : Mapping) (slaves : List (List ℕ)) (i : ℕ) (s : Seat) (t : Triple) → IsLine us ps m slaves → i < length (seats_of (map unit_view us.units) ps) →
-    IsWanted (seats_of (map unit_view us.units) ps) (get_or (seats_of (map unit_view us.units) ps) i s) t ↔ SlaveMaps (get_or (slaves_after frame_after memory_after slaves (start_sents us m)) i []) t
-slaves-map us ps m slaves i s t line l =
+-- the slaves before tick n: they are ready once the start frames went through them, and the frames of ticks leave them so
+record AreSet (us : Units) (ps : List Place) (m : Mapping) (image : List ℕ) (n : ℕ) (slaves : List (List ℕ)) : Type 0 where
+  after : List (List ℕ)
+  left : slaves_after frame_after memory_after slaves (all_sents us m image n) ≡ after
+  ready : AreReady (seats_in us ps) (seats_in us ps) after
+
+are-set : (us : Units) (ps : List Place) (m : Mapping) (image : List ℕ) (n : ℕ) (slaves : List (List ℕ)) → IsLine us ps m slaves → length image ≡ m.total → AreSet us ps m image n slaves
+are-set us ps m image n slaves line sized =
+    let set : IsSet us ps m image = record { laid = line.layout; sized = sized } in
+    let now = started (stations_of us.units) m.fmmus slaves in
+    let ticks = ticks-pass us ps m image (range_with_len 0 n) now set (ready-in us ps m image slaves set line.memories line.each) in
+    record {
+      after = ticks.after;
+      left = (runs-append slaves now ticks.after (start_sents us m) (ticks_sents us m image n) (start-runs us m slaves (ps, line.layout) line.memories line.each line.fit) ticks.runs).left;
+      ready = ticks.ready;
+    }
+
+pub slaves-map : (us : Units) (ps : List Place) (m : Mapping) (image : List ℕ) (n : ℕ) (slaves : List (List ℕ)) (i : ℕ) (s : Seat) (t : Triple) → IsLine us ps m slaves → length image ≡ m.total →
+    i < length (seats_of (map unit_view us.units) ps) →
+    IsWanted (seats_of (map unit_view us.units) ps) (get_or (seats_of (map unit_view us.units) ps) i s) t ↔ SlaveMaps (get_or (slaves_after frame_after memory_after slaves (all_sents us m image n)) i []) t
+slaves-map us ps m image n slaves i s t line sized l =
     let seats = seats_in us ps in
-    let image : List ℕ = replicate m.total 0 in
-    let set : IsSet us ps m image = record { laid = line.layout; sized = length-replicate {A = ℕ} m.total 0 } in
     let x = get_or seats i s in
+    let play = are-set us ps m image n slaves line sized in
     let wanted = line.layout.layout.wanted i s l t in
     let fits = fits-in us ps i s l in
-    let ready = ready-at seats seats (started (stations_of us.units) m.fmmus slaves) i s (ready-in us ps m image slaves set line.memories line.each) l in
-    let left = (start-runs us m slaves (ps, line.layout) line.memories line.each line.fit).left in
-    subst (λ ms. IsWanted seats x t ↔ SlaveMaps (get_or ms i []) t) (sym left)
-    ((λ w. records-seen seats x (get_or (started (stations_of us.units) m.fmmus slaves) i []) t fits ready (wanted.1 w)), (λ p. wanted.0 (records-map seats x (get_or (started (stations_of us.units) m.fmmus slaves) i []) t fits ready p)))
+    let ready = ready-at seats seats play.after i s play.ready l in
+    subst (λ ms. IsWanted seats x t ↔ SlaveMaps (get_or ms i []) t) (sym play.left)
+    ((λ w. records-seen seats x (get_or play.after i []) t fits ready (wanted.1 w)), (λ p. wanted.0 (records-map seats x (get_or play.after i []) t fits ready p)))

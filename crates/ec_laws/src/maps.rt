@@ -11,18 +11,19 @@ ghost use Rattle.ec_fmmu.specs.Seats.{seats_of};
 ghost use Rattle.ec_fmmu.specs.Records.{Triple, IsMappedBy};
 ghost use Rattle.ec_fmmu.specs.Mappings.{IsWanted};
 ghost use Rattle.ec_slave.specs.Step.{memory_after, frame_after};
-ghost use Rattle.ec_play.specs.Sent.{start_sents};
+ghost use Rattle.ec_play.specs.Sent.{all_sents};
 ghost use Rattle.ec_play.specs.Lines.{slaves_after};
 ghost use Rattle.ec_laws.specs.Settings.{IsLine};
 ghost use Rattle.ec_laws.specs.Maps.{IsNarrow, HoldsRecord, MapsAt, SlaveMaps};
 
 /// A slave maps by a record in its memory the bytes that the record maps (ETG.1000.4, clause 6.6). So each slave of a layout, once the
-/// start frames went through the line, maps its process bytes to the addresses that they have, and no other byte.
+/// start frames went through the line, maps its process bytes to the addresses that they have, and no other byte. The frames of the
+/// ticks leave that so.
 pub fn maps_are_one()
     ensures record { (f : Fmmu) (memory : List ℕ) (at : ℕ) (t : Triple) → IsNarrow f → length memory ≡ 65536 → HoldsRecord memory at f →
         IsMappedBy f t ↔ MapsAt memory at t }
-    ensures slaves { (us : Units) (ps : List Place) (m : Mapping) (slaves : List (List ℕ)) (i : ℕ) (s : Seat) (t : Triple) → IsLine us ps m slaves →
-        i < length (seats_of (map unit_view us.units) ps) →
+    ensures slaves { (us : Units) (ps : List Place) (m : Mapping) (image : List ℕ) (n : ℕ) (slaves : List (List ℕ)) (i : ℕ) (s : Seat) (t : Triple) → IsLine us ps m slaves →
+        length image ≡ m.total → i < length (seats_of (map unit_view us.units) ps) →
         IsWanted (seats_of (map unit_view us.units) ps) (get_or (seats_of (map unit_view us.units) ps) i s) t
-        ↔ SlaveMaps (get_or (slaves_after frame_after memory_after slaves (start_sents us m)) i []) t }
+        ↔ SlaveMaps (get_or (slaves_after frame_after memory_after slaves (all_sents us m image n)) i []) t }
 {}
