@@ -8,7 +8,6 @@ pub mod DrawLemmas
 pub mod PartLemmas
 pub mod KeepLemmas
 pub mod ShareLemmas
-pub mod PlanLemmas
 pub mod ClosedLemmas
 pub mod FinishLemmas
 pub mod OpenLemmas

@@ -3,10 +3,7 @@ use Rattle.std.specs.Prelude.{◌≡◌, ◌≢◌, ◌⊎◌, ℕ, Bool, true, 
 use Rattle.ec_units.specs.declared.slave.Place.{Place}
 use Rattle.ec_units.specs.declared.unit.Load.{Load}
 use Rattle.ec_loads.specs.Cost.{plan_items, IsBusiest}
-use Rattle.ec_loads.specs.Legal.{IsLegal, IsIllegalBy, IsFirstFull}
-use Rattle.ec_loads.specs.declared.item.Item.{Item}
-use Rattle.ec_loads.specs.declared.plan.Illegal.{Illegal}
-use Rattle.ec_loads.specs.declared.plan.Illegal.TheVariants as illegal
+use Rattle.ec_loads.specs.Legal.{IsLegal, IsIllegalBy}
 use Rattle.ec_loads.specs.Line.{line_by}
 use Rattle.ec_loads.specs.Search.{IsAtMost}
 use Rattle.ec_symmetry.specs.Orders.{IsReachedPrefix}
@@ -104,11 +101,6 @@ IsReportFault pieces prefixes value worker p prefix threshold nodes fault.OverGr
     (g : ℕ) × IsTakenBy pieces worker p g × (slice_get prefixes p ≡ Some prefix) × IsAtMost value threshold × (g < nodes)
 IsReportFault pieces prefixes value worker p prefix threshold nodes fault.OutOfMemory = (g : ℕ) × IsWelcome pieces prefixes value worker p prefix threshold nodes g
 IsReportFault pieces prefixes value worker p prefix threshold nodes _ = ⊥
-
--- the least tick, and in it the least slot, with too large a payload
-abbrev pub IsFullFault : List Item → ℕ → Illegal → Type 0
-IsFullFault xs n (illegal.Full t s b) = IsFirstFull xs n t s b
-IsFullFault xs n _ = ⊥
 
 -- the plan is legal, and its busiest tick costs v
 abbrev pub IsPlanOf : List Load → ℕ → List Place → ℕ → Type 0

@@ -27,11 +27,10 @@ ghost use Rattle.ec_book.specs.declared.taken.Taken.TheVariants.{Later, Done};
 use crate::counted::Counted;
 use crate::fault::BookFault;
 use crate::finish::{assembled, open_leaves};
-use crate::judge::{grant_of, judged};
+use crate::judge::{grant_of, judged, not_below};
 use crate::open::opened_by;
 use crate::ours::is_of_part;
 use crate::piece::Piece;
-use crate::plans::{not_below, plan_cost};
 use crate::report::Report;
 use crate::step::{Step, Steps};
 use crate::taken::{Taken, Took};
@@ -459,12 +458,11 @@ impl Book {
     }
 
     /// What the busiest tick of a plan costs, where it is legal. Takes no memory.
-    fn cost_of(&mut self, plan: &Plan) -> Result<u64, Illegal>
-        ensures same { self.new ≡ self.old }
-        ensures ok { IfOk result (λ v. IsPlanOf self.old.loads self.old.slots plan.now.places v) }
-        ensures err { IfErr result (IsIllegalBy self.old.loads self.old.slots plan.now.places) }
+    fn cost_of(&self, plan: &Plan) -> Result<u64, Illegal>
+        ensures ok { IfOk result (λ v. IsPlanOf self.now.loads self.now.slots plan.now.places v) }
+        ensures err { IfErr result (IsIllegalBy self.now.loads self.now.slots plan.now.places) }
     {
-        plan_cost(&mut self.loads, plan.places.as_slice())
+        self.loads.plan_cost(plan.places.as_slice())
     }
 
     /// Offers a plan that is known to be legal, with what its busiest tick costs. It becomes the best one where that is

@@ -1,9 +1,10 @@
-//! Whether a reported subtree is welcome.
+//! Whether a reported subtree or an offered plan is welcome.
 
-ghost use Rattle.std.specs.Prelude.{◌≡◌, ◌≢◌, ℕ, ◌+◌, ◌<◌, ◌≤◌, ◌^◌, length, slice_get, Some, IfOk, IfErr, OnOk, IsTrue, ◌↔◌};
+ghost use Rattle.std.specs.Prelude.{◌≡◌, ◌≢◌, ℕ, ◌+◌, ◌<◌, ◌≤◌, ◌^◌, length, slice_get, Some, IfOk, IfErr, OnOk, MatchOption, IsTrue, ◌↔◌};
 ghost use Rattle.ec_loads.specs.Search.{IsAtMost, node_count as node_count_of};
 ghost use Rattle.ec_cert.specs.Shapes.{shape_of};
 ghost use Rattle.ec_book.specs.Faults.{IsTakenBy, IsHoldFault, IsWelcome, IsReportFault};
+ghost use Rattle.ec_book.specs.Steps.{IsBelow};
 
 use crate::counted::Counted;
 use crate::fault::BookFault;
@@ -89,4 +90,14 @@ pub(crate) fn judged(
         return Err(BookFault::OverGrant);
     }
     Ok(grant)
+}
+
+/// The best value, where there is one and the given value is not below it.
+pub(crate) fn not_below(value: u64, best: Option<u64>) -> Option<u64>
+    ensures { MatchOption result (IsBelow value best) (λ w. (best ≡ Some w) × (w ≤ value)) }
+{
+    match best {
+        None => None,
+        Some(best) => { if value < best { None } else { Some(best) } }
+    }
 }

@@ -10,7 +10,6 @@ mod law;
 mod open;
 mod ours;
 mod piece;
-mod plans;
 mod report;
 mod step;
 mod taken;

@@ -27,7 +27,7 @@ use crate::search::Search;
 use crate::seat::Seat;
 use ec_book::{Book, BookFault, Counted, Step, Taken, empty_logs_spend_nothing};
 use ec_cert::{Best, Subtree};
-use ec_loads::{Loads, Plan, busiest, is_legal};
+use ec_loads::{Loads, Plan};
 use ec_symmetry::Rules;
 use ec_units::{Place, Units};
 use std::alloc::{AllocError, Global};
@@ -204,10 +204,10 @@ impl<S: Search> Shared<S> {
         if !self.is_for(seat) {
             return Err((BookFault::Stranger, plan));
         }
-        if let Err(illegal) = is_legal(seat.units, &plan) {
-            return Err((BookFault::Illegal(illegal), plan));
-        }
-        let (busiest, _) = busiest(seat.units, &plan);
+        let busiest = match self.loads.plan_cost(plan.places.as_slice()) {
+            Ok(busiest) => busiest,
+            Err(illegal) => return Err((BookFault::Illegal(illegal), plan)),
+        };
         match self.improve(rt, seat, Best { busiest, plan }) {
             Ok(()) => Ok(()),
             Err((fault, Best { plan, .. })) => Err((fault, plan)),
