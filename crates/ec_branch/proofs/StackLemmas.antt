@@ -5,7 +5,7 @@
 -- adds. The measure is `left * 2^65`, `2 * children left + 1` for each level, and 1 for `Enter`. At an early exit a
 -- lemma by `subst` of the turn takes the later facts from the substituted record.
 use Rattle.std.proofs.Common.{rules, ◌≡◌, ℕ, zero, suc, ◌+◌, ◌-◌, ◌*◌, ◌<◌, ◌≤◌, ◌++◌, Box, Vec, Global, vec_capacity, ◌⊎◌, inl, inr, Bool, true, false, List, [], ◌∷◌, length, set, get_or, take, drop, reverse, replicate, Option, Some, None, refl, sym, ap, ◌∙◌, subst, arith, take_all, length-drop}
-use Rattle.std.proofs.lemmas.List.{append_assoc, append-nil, reverse-append, length-reverse, length-set, length-append}
+use Rattle.std.proofs.lemmas.List.{append_assoc, append-nil, reverse-append, length-reverse, reverse-reverse, length-set, length-append}
 use Rattle.std.proofs.lemmas.Option.{slice_get_within}
 use Rattle.ec_units.specs.declared.slave.Place.{Place}
 use Rattle.ec_loads.specs.Held.{Held}
@@ -17,6 +17,7 @@ use Rattle.ec_bounds.proofs.HeldLemmas.{with_place, with_flag, restored, rest_fo
 use Rattle.ec_cert.proofs.TreeLemmas.{shape_of-Split}
 use Rattle.ec_cert.specs.declared.tree.Tree.{Tree, Split, OpenLeaf, the_lemmas}
 use Rattle.ec_cert.specs.Shapes.{shape_of}
+use Rattle.ec_symmetry.specs.Latest.{IsLastChild}
 use Rattle.ec_symmetry.specs.Reached.{In}
 use Rattle.ec_symmetry.proofs.InLemmas.{children-In}
 use Rattle.ec_branch.specs.declared.level.Level.{Level}
@@ -249,6 +250,20 @@ line_slots rules held line e = ap (λ (l : Line). l.slots) e
 -- one unit more or less has a place
 pub line_after : (rules : Rules) (held placed : Held) (u : ℕ) (o : Option Place) (line : Line) → line_of rules held ≡ line → placed ≡ with_place held u o → line_of rules placed ≡ line
 line_after rules held placed u o line e made = ap (λ (h : Held). line_of rules h) made ∙ e
+
+-- the unit of the innermost level got a child
+stack_last : (task : Task) (rs ls : List Level) (ps : Prefix) (later : List ℕ) (now : State) (last : Option ℕ) → reverse ls ≡ rs → IsStack task rs ps later now →
+    (length ls ≡ 0 → last ≡ None) → ((before : List Level) (l : Level) → ls ≡ before ++ l ∷ [] → last ≡ Some l.unit) → IsLastChild task.line ps last
+stack_last task [] ls ps later now last e stack none some = subst (IsLastChild task.line ps) (sym (none (sym (length-reverse ls) ∙ ap length e))) tt
+stack_last task (l ∷ rs) ls ps later now last e (before, from, top, stack) none some =
+    let at : ls ≡ reverse rs ++ l ∷ [] = sym (reverse-reverse ls) ∙ ap reverse e ∙ reverse-append (l ∷ []) rs in
+    subst (IsLastChild task.line ps) (sym (some (reverse rs) l at))
+    (before, top.place, top.ready.0, subst (In top.place) top.kids (In-mid top.done top.place l.places), top.made)
+
+pub on_last : (rules : Rules) (task : Task) (ls : Vec Level Global) (held : Held) (left : Left) (now : State) (turn : Turn) (last : Option ℕ) → IsOn rules task ls held left now turn →
+    (length ls.items ≡ 0 → last ≡ None) → ((before : List Level) (l : Level) → ls.items ≡ before ++ l ∷ [] → last ≡ Some l.unit) → IsLastChild (line_of rules held) held.places last
+on_last rules task ls held left now turn last on none some =
+    subst (λ line. IsLastChild line held.places last) (sym on.line) (stack_last task (reverse ls.items) ls.items held.places on.later on.from last refl on.stack none some)
 
 -- a walk that is ready at a node
 pub on_ready : (rules : Rules) (task : Task) (ls : Vec Level Global) (held : Held) (left : Left) (now : State) (turn : Turn) (order : List ℕ) → (on : IsOn rules task ls held left now turn) → order ≡ on.later → IsReadyFor held.loads held.slots held.places order

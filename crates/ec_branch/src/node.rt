@@ -2,6 +2,7 @@
 
 ghost use Rattle.std.specs.Prelude.{◌≡◌, IfOk, true};
 ghost use Rattle.ec_loads.specs.Line.{line_of};
+ghost use Rattle.ec_symmetry.specs.Latest.{IsLastChild};
 ghost use Rattle.ec_symmetry.specs.Ruled.{line_rules};
 ghost use Rattle.ec_bounds.specs.Left.{IsRestOf};
 ghost use Rattle.ec_branch.specs.Frames.{Frame};
@@ -18,7 +19,7 @@ use crate::value::Search;
 use ec_bounds::Rest;
 use ec_cert::Tree;
 use ec_loads::Loads;
-use ec_symmetry::{Rules, children_by};
+use ec_symmetry::{Rules, children_after_last};
 use std::alloc::{AllocError, Global};
 
 /// What became of a node.
@@ -31,7 +32,8 @@ pub(crate) enum Entered {
 }
 
 /// Closes the node at the places so far, for which the guide was asked, or tells the guide of the plan that they make,
-/// or splits the node by the next unit, all by these rules. The node stays open where the guide then stops.
+/// or splits the node by the next unit, all by these rules. The node stays open where the guide then stops. The unit that got
+/// its place last is named, if one got it on the way here.
 pub(crate) fn enter<G: Guide>(
     alloc: Global,
     loads: &Loads,
@@ -41,12 +43,14 @@ pub(crate) fn enter<G: Guide>(
     guide: &mut G,
     search: &mut Search,
     above: bool,
+    last: Option<usize>,
     tops: &mut Tops,
 ) -> Result<Entered, AllocError>
     requires ready { IsReadyFor loads.now.loads loads.now.slots loads.now.places order.now }
     requires left { IsRestOf rest.now loads.now }
     requires units { (G.frame guide.old).loads ≡ loads.now.loads }
     requires slots { (G.frame guide.old).slots ≡ loads.now.slots }
+    requires last { IsLastChild (line_of (line_rules rules) loads.now) loads.now.places last }
     requires asked { (from : State) × IsAsked (G.frame guide.old).floor from (state_of search.old (G.halted guide.old) (G.known guide.old)) }
     ensures frame { G.frame guide.new ≡ G.frame guide.old }
     ensures stays { G.halted guide.old ≡ true → G.halted guide.new ≡ true }
@@ -73,7 +77,7 @@ pub(crate) fn enter<G: Guide>(
         Some((unit, _)) => {
             let unit = usize::from(*unit);
             search.left -= 1;
-            let places = children_by(loads, unit, rules);
+            let places = children_after_last(loads, last, unit, rules);
             let trees = Vec::with_capacity(alloc, places.len())?;
             let room = Box::new(alloc, Vec::new(alloc))?;
             Ok(Entered::Split(Level {

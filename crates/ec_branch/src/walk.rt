@@ -1,10 +1,11 @@
 //! The walk over the prefixes.
 
-ghost use Rattle.std.specs.Prelude.{◌≡◌, ℕ, ◌<◌, IfOk, IfErr, true, reverse};
+ghost use Rattle.std.specs.Prelude.{◌≡◌, ℕ, ◌<◌, ◌++◌, IfOk, IfErr, true, List, [], ◌∷◌, length, reverse, Some, None};
 ghost use Rattle.ec_loads.specs.Line.{Rules as LineRules, line_of};
 ghost use Rattle.ec_symmetry.specs.Ruled.{line_rules};
 ghost use Rattle.ec_bounds.specs.Left.{IsRestOf};
 ghost use Rattle.ec_cert.specs.Shapes.{shape_of};
+ghost use Rattle.ec_branch.specs.declared.level.Level.{Level as LevelSpec};
 ghost use Rattle.ec_branch.specs.Frames.{Frame};
 ghost use Rattle.ec_branch.specs.Stacks.{Task, IsFor, IsOn, IsWithin, IsBack, IsStepped, effort, state_of, is_less};
 ghost use Rattle.ec_branch.specs.Walks.{IsReadyFor, IsWalked, FollowsGuide};
@@ -66,6 +67,15 @@ fn is_any_above(loads: &Loads, rules: Rules, levels: &[Level]) -> bool {
     }
 }
 
+/// The unit of the innermost split that is under way, the one that got its place last.
+fn last_unit(levels: &[Level]) -> Option<usize>
+    ensures none { length levels.now ≡ 0 → result ≡ None }
+    ensures some { (before : List LevelSpec) (l : LevelSpec) → levels.now ≡ before ++ l ∷ [] → result ≡ Some l.unit }
+{
+    let level = levels.last()?;
+    Some(level.unit)
+}
+
 /// One step of the walk: a node is closed or split, or its tree is added to the split above, which goes on with its
 /// next child or is closed itself. Where memory is refused, all stays as it was.
 fn step<G: Guide>(
@@ -101,6 +111,7 @@ fn step<G: Guide>(
             guide,
             search,
             is_any_above(loads, rules, levels.as_slice()),
+            last_unit(levels.as_slice()),
             tops,
         )? {
             Entered::Leaf(tree) => Ok(Stepped::On(Turn::Up(tree))),

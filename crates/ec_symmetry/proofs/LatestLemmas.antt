@@ -19,7 +19,7 @@ use Rattle.ec_symmetry.proofs.GcdLemmas.{gcd-only}
 use Rattle.ec_symmetry.proofs.ShiftRule.{placed-pos}
 
 -- two tests that hold together are one
-same-bool : (a b : Bool) → (a ≡ true → b ≡ true) → (b ≡ true → a ≡ true) → a ≡ b
+pub same-bool : (a b : Bool) → (a ≡ true → b ≡ true) → (b ≡ true → a ≡ true) → a ≡ b
 same-bool true true f g = refl
 same-bool true false f g = sym (f refl)
 same-bool false true f g = g refl
@@ -63,7 +63,7 @@ below-itself p =
     ])) (λ e. absurd (true≢false (sym e)))
 
 -- what is below a place that isn't above q is below q
-below-least : (p q r : Place) → is_below q r ≡ false → is_below p r ≡ true → is_below p q ≡ true
+pub below-least : (p q r : Place) → is_below q r ≡ false → is_below p r ≡ true → is_below p q ≡ true
 below-least p q r e f =
     below-of p q (elim (lower-of p r f) [
       | inl a ↦ elim (cases_lt p.phase q.phase) [

@@ -25,3 +25,4 @@ pub mod StrongLemmas
 pub mod MergeLemmas
 pub mod LatestLemmas
 pub mod CountLemmas
+pub mod LastLemmas

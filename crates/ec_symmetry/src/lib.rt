@@ -15,6 +15,6 @@ pub use law::{
     strong_children_reach,
 };
 pub use rename::canonical;
-pub use rules::{Rules, children_by, next_children};
+pub use rules::{Rules, children_after_last, children_by, next_children};
 pub use slots::used_slots;
 pub use strong::strong_choices;

@@ -3,11 +3,12 @@
 ghost use Rattle.std.specs.Prelude.{◌≡◌, ◌<◌, length, get_or};
 ghost use Rattle.ec_loads.specs.Line.{line_of};
 ghost use Rattle.ec_loads.specs.Search.{children};
+ghost use Rattle.ec_symmetry.specs.Latest.{IsLastChild};
 ghost use Rattle.ec_symmetry.specs.Orders.{IsOrder, prefix_of};
 ghost use Rattle.ec_symmetry.specs.Ruled.{line_rules};
 
 use crate::child::{Children, children_after, children_of};
-use crate::strong::{strong_after, strong_choices};
+use crate::strong::{strong_after, strong_after_last};
 use ec_loads::Loads;
 use ec_units::Place;
 
@@ -25,10 +26,25 @@ pub fn children_by(loads: &Loads, unit: usize, rules: Rules) -> Children
     requires { unit < length loads.now.places }
     ensures { result ≡ children (line_of (line_rules rules) loads.now) loads.now.places unit }
 {
+    children_after_last(loads, None, unit, rules)
+}
+
+/// What `children_by` gives, where the unit that got its place last, if it is named, got one of the places that it can take by
+/// these rules. By the strong rules that spares looking for the greatest place of an equal unit. Takes no memory.
+pub fn children_after_last(
+    loads: &Loads,
+    last: Option<usize>,
+    unit: usize,
+    rules: Rules,
+) -> Children
+    requires unit { unit < length loads.now.places }
+    requires last { IsLastChild (line_of (line_rules rules) loads.now) loads.now.places last }
+    ensures { result ≡ children (line_of (line_rules rules) loads.now) loads.now.places unit }
+{
     match rules {
         Rules::Plain => children_of(loads, unit, false),
         Rules::Turned => children_of(loads, unit, true),
-        Rules::Strong => strong_choices(loads, unit),
+        Rules::Strong => strong_after_last(loads, last, unit),
     }
 }
 

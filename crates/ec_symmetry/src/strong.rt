@@ -1,13 +1,13 @@
 //! The places that a unit can take by the strong rules: fewer than by slots alone, since a shift of time and equal units
 //! leave the others to these.
 
-ghost use Rattle.std.specs.Prelude.{◌≡◌, ℕ, ◌<◌, ◌≤◌, IsTrue, All, length, take, get_or};
+ghost use Rattle.std.specs.Prelude.{◌≡◌, ℕ, ◌<◌, ◌≤◌, IsTrue, IfSome, All, length, take, get_or};
 ghost use Rattle.ec_hyper.specs.Lcm.{lcm_of};
 ghost use Rattle.ec_loads.specs.Held.{AreLoads};
 ghost use Rattle.ec_loads.specs.Line.{strong, line_of};
-ghost use Rattle.ec_loads.specs.Search.{children};
+ghost use Rattle.ec_loads.specs.Search.{children, nobody};
 ghost use Rattle.ec_loads.specs.Strong.{gcd, placed_periods, strong_phases, same_load, is_below, strong_children};
-ghost use Rattle.ec_symmetry.specs.Latest.{IsLatest, IsLater};
+ghost use Rattle.ec_symmetry.specs.Latest.{IsLatest, IsLater, IsLastChild};
 ghost use Rattle.ec_symmetry.specs.Orders.{IsOrder, with_places, prefix_of};
 
 use crate::child::{Children, choices_from};
@@ -60,6 +60,33 @@ fn latest_equal(loads: &[Load], places: &[Option<Place>], load: Load) -> Place
         latest = later_of(latest, load, loads[i], places[i]);
     }
     latest
+}
+
+/// The place of the unit that got its place last, if it is named and equal to the load. It is the greatest of the equal units'
+/// places, since children below one of these are left out.
+fn last_equal(loads: &Loads, last: Option<usize>, load: Load) -> Option<Place>
+    requires { IsLastChild (line_of strong loads.now) loads.now.places last }
+    ensures { IfSome result (IsLatest load loads.now.loads loads.now.places) }
+{
+    let all = loads.loads();
+    let unit = last?;
+    let place = loads.places()[unit]?;
+    if is_equal(all[unit], load) {
+        Some(place)
+    } else {
+        None
+    }
+}
+
+/// What `latest_equal` gives for the places so far, where the unit that got its place last, if it is named, got a child.
+fn latest_after(loads: &Loads, last: Option<usize>, load: Load) -> Place
+    requires { IsLastChild (line_of strong loads.now) loads.now.places last }
+    ensures { IsLatest load loads.now.loads loads.now.places result }
+{
+    match last_equal(loads, last, load) {
+        Some(place) => place,
+        None => latest_equal(loads.loads(), loads.places(), load),
+    }
 }
 
 /// Writes the periods of the units that have a place, in ticks, into a table, and says how many.
@@ -143,18 +170,29 @@ fn phases_of(loads: &Loads, places: &[Option<Place>], period: u16) -> u16
     common_divisor(ticks_so_far(loads, places), u32::from(period)) as u16
 }
 
-/// The places that a unit can take after these places of the units, in file order, by the strong rules, in child order.
-fn strong_among(loads: &Loads, places: &[Option<Place>], unit: usize) -> Children
+/// The places that a unit can take after these places of the units, in file order, by the strong rules, in child order,
+/// where this is the greatest place of the units that are equal to it.
+fn strong_among(loads: &Loads, places: &[Option<Place>], unit: usize, latest: Place) -> Children
     requires each { length places.now ≡ length loads.now.loads }
     requires unit { unit < length loads.now.loads }
+    requires latest { IsLatest (get_or loads.now.loads unit nobody) loads.now.loads places.now latest }
     ensures { result ≡ strong_children loads.now.loads loads.now.slots places.now unit }
 {
     let all = loads.loads();
     let used = used_among(places, loads.slots().max(1));
-    let load = all[unit];
-    let latest = latest_equal(all, places, load);
-    let phases = phases_of(loads, places, load.period);
+    let phases = phases_of(loads, places, all[unit].period);
     choices_from(latest, phases, loads.slots(), used)
+}
+
+/// What `strong_choices` gives, where the unit that got its place last, if it is named, got a child.
+pub(crate) fn strong_after_last(loads: &Loads, last: Option<usize>, unit: usize) -> Children
+    requires unit { unit < length loads.now.places }
+    requires last { IsLastChild (line_of strong loads.now) loads.now.places last }
+    ensures { result ≡ children (line_of strong loads.now) loads.now.places unit }
+{
+    let all = loads.loads();
+    let places = loads.places();
+    strong_among(loads, places, unit, latest_after(loads, last, all[unit]))
 }
 
 /// The places that a unit can take after the places so far by the strong rules, in child order: a phase below the greatest
@@ -165,7 +203,7 @@ pub fn strong_choices(loads: &Loads, unit: usize) -> Children
     requires { unit < length loads.now.places }
     ensures { result ≡ children (line_of strong loads.now) loads.now.places unit }
 {
-    strong_among(loads, loads.places(), unit)
+    strong_after_last(loads, None, unit)
 }
 
 /// The places that the first units of an order make, each unit's in file order.
@@ -196,5 +234,7 @@ pub(crate) fn strong_after(loads: &Loads, order: &[u8], before: &[Place]) -> Chi
     let mut table = [None; MOST_UNITS];
     fill_prefix(order, before, &mut table, units);
     let unit = usize::from(order[before.len()]);
-    strong_among(loads, &table[..units], unit)
+    let places = &table[..units];
+    let all = loads.loads();
+    strong_among(loads, places, unit, latest_equal(all, places, all[unit]))
 }

@@ -29,8 +29,8 @@ returns-in-None-clause-entered g c =
       stays = λ k. absurd (let no : true ≡ false = sym k ∙ asked.runs in cc);
     }
 
-pub children_by-places-requires : goal.children_by-places-requires
-children_by-places-requires g c =
+pub children_after_last-places-requires-clause-unit : goal.children_after_last-places-requires-clause-unit
+children_after_last-places-requires-clause-unit g c =
     let h = c.args.loads.now in
     let u = c.from-unit.result in
     let ready = ready_at h.loads h.slots h.places c.args.order.now c.in-Some-split_first.field-0-1.now c.in-Some-split_first.unit.now u c.requires.ready c.in-Some-split_first.ensures.cases.0 c.from-unit.ensures in
@@ -48,7 +48,7 @@ returns-clause-entered g c =
     record {
       later = later;
       next = c.in-Some-split_first.ensures.cases.0 ∙ ap (λ w. w ∷ later) (sym c.from-unit.ensures);
-      places = c.children_by-places.ensures;
+      places = c.children_after_last-places.ensures;
       under = under_first (line_of (line_rules c.args.rules) h) (g.G.Guide.frame c.args.guide.now).floor h.places u later from now (c.args.search.now.left - 1) made.trees.items asked left made.ensures.items;
       none = made.ensures.items;
       room = omega (arith, made.ensures.exact, c.len.ensures.value);

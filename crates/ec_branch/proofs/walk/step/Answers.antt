@@ -1,9 +1,9 @@
-use Rattle.std.proofs.Common.{◌<◌, ap, sym, subst, ◌∙◌, arith}
+use Rattle.std.proofs.Common.{◌<◌, length, ap, sym, subst, ◌∙◌, arith}
 use Rattle.ec_bounds.proofs.HeldLemmas.{flags_count}
 use Rattle.ec_symmetry.specs.Ruled.{line_rules}
 use Rattle.ec_branch.specs.Stacks.{IsOn, state_of, efforts, effort}
 use Rattle.ec_branch.specs.Frames.{Frame}
-use Rattle.ec_branch.proofs.StackLemmas.{on_later, on_ready, on_asked, on_leaf, on_split, on_rise, on_within, within_unit, efforts-push}
+use Rattle.ec_branch.proofs.StackLemmas.{on_later, on_ready, on_last, on_asked, on_leaf, on_split, on_rise, on_within, within_unit, efforts-push}
 use Rattle.ec_branch.proofs.walk.step.Goals as goal
 
 pub slice_bounds-enter-count : goal.slice_bounds-enter-count
@@ -24,6 +24,13 @@ enter-requires-clause-ready g c =
     let now = state_of c.args.search.now (g.G.Guide.halted c.args.guide.now) (g.G.Guide.known c.args.guide.now) in
     let later = on_later (line_rules c.args.rules) task c.args.levels.now c.args.loads.now c.args.rest.now now c.args.turn c.args.order.now c.len.result c.requires.on.2 c.requires.on.1.units (omega (arith, c.len.ensures, c.args.levels.now.ok.0)) in
     on_ready (line_rules c.args.rules) task c.args.levels.now c.args.loads.now c.args.rest.now now c.args.turn _ c.requires.on.2 later.1
+
+pub enter-requires-clause-last : goal.enter-requires-clause-last
+enter-requires-clause-last g c =
+    let task = c.requires.on.0 in
+    let now = state_of c.args.search.now (g.G.Guide.halted c.args.guide.now) (g.G.Guide.known c.args.guide.now) in
+    on_last (line_rules c.args.rules) task c.args.levels.now c.args.loads.now c.args.rest.now now c.args.turn c.last_unit.result c.requires.on.2
+    (λ e. c.last_unit.ensures.none (ap length c.as_slice-in-Enter.ensures.value ∙ e)) (λ before l e. c.last_unit.ensures.some before l (c.as_slice-in-Enter.ensures.value ∙ e))
 
 pub enter-requires-clause-asked : goal.enter-requires-clause-asked
 enter-requires-clause-asked g c =
