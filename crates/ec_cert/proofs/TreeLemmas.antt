@@ -40,6 +40,13 @@ opens_suc (t ∷ ts) (suc i) x h is = let rest = opens_suc ts i x (le_of_suc-le-
 pub opens_step : (ts : List Tree) (i : ℕ) (x : Tree) → i < length ts → x ≡ get_or ts i x → open_counts (shapes_of (take (i + 1) ts)) ≡ open_counts (shapes_of (take i ts)) + open_count (shape_of x)
 opens_step ts i x h is = rw add-one (opens_suc ts i x h is)
 
+-- some trees have no more open leaves than all
+pub opens_part : (ts : List Tree) (i : ℕ) → open_counts (shapes_of (take i ts)) ≤ open_counts (shapes_of ts)
+opens_part [] zero = omega arith
+opens_part [] (suc i) = omega arith
+opens_part (t ∷ ts) zero = omega arith
+opens_part (t ∷ ts) (suc i) = let rest = opens_part ts i in omega (arith, rest)
+
 -- and its own nodes more
 nodes_suc : (ts : List Tree) (i : ℕ) (x : Tree) → i < length ts → x ≡ get_or ts i x → node_counts (shapes_of (take (suc i) ts)) ≡ node_counts (shapes_of (take i ts)) + node_count (shape_of x)
 nodes_suc [] i x h is = absurd (not-suc-le-zero h)

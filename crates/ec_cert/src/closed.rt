@@ -6,17 +6,23 @@ ghost use Rattle.ec_cert.specs.Shapes.{shape_of};
 
 use crate::tree::Tree;
 
-/// Whether no leaf of a tree is open. It looks from the last child on, where a search that was cut short has left its
-/// open leaves: each node is visited once at most, and no recursion is deeper than the tree.
+/// Whether no leaf of a tree is open. It looks at the last child first, where a search that was cut short has left its open
+/// leaves, and then at the others in order, as they lie in memory: each node is visited once at most, and no recursion is
+/// deeper than the tree.
 pub fn is_closed(tree: &Tree) -> bool
     ensures { IsTrue result ↔ (open_count (shape_of tree.now) ≡ 0) }
 {
     match tree {
         Tree::Split(trees) => {
             let trees = trees.as_ref();
-            let mut i = trees.len();
-            while i > 0 {
-                i -= 1;
+            let count = trees.len();
+            if count == 0 {
+                return true;
+            }
+            if !is_closed(&trees[count - 1]) {
+                return false;
+            }
+            for i in 0..count - 1 {
                 if !is_closed(&trees[i]) {
                     return false;
                 }

@@ -1,4 +1,4 @@
-use Rattle.std.proofs.Common.{◌≡◌, ◌≤◌, take, length}
+use Rattle.std.proofs.Common.{◌≡◌, take}
 use Rattle.ec_loads.specs.Search.{open_counts}
 use Rattle.ec_cert.specs.Shapes.{shapes_of}
 use Rattle.ec_cert.proofs.closed.+is_closed.Given as goal
@@ -6,13 +6,6 @@ use Rattle.ec_cert.proofs.closed.+is_closed.Given as goal
 abbrev pub decreases-is_closed : goal.decreases-is_closed
 decreases-is_closed l = goal.size-is_closed l
 
-abbrev pub decreases-loop-i : goal.decreases-loop-i
-decreases-loop-i l = l.i
-
 -- the trees that were looked at have no open leaf
 abbrev pub invariant-loop-i : goal.invariant-loop-i
-invariant-loop-i l =
-    record {
-      within : l.i ≤ length l.trees.items;
-      closed : open_counts (shapes_of (take l.i l.trees.items)) ≡ open_counts (shapes_of l.trees.items);
-    }
+invariant-loop-i l = open_counts (shapes_of (take l.i l.trees.items)) ≡ 0
