@@ -1,8 +1,8 @@
 -- What a worker is handed, and what becomes of it.
-use Rattle.std.specs.Prelude.{◌≡◌, ◌≢◌, ℕ, ◌≤◌, List, Option, false}
+use Rattle.std.specs.Prelude.{◌≡◌, ◌≢◌, ℕ, ◌≤◌, List, Option, Some, false}
 use Rattle.ec_units.specs.declared.unit.Load.{Load}
 use Rattle.ec_loads.specs.Line.{Rules, line_by}
-use Rattle.ec_loads.specs.Search.{IsAtMost}
+use Rattle.ec_loads.specs.Search.{BoundsAll, IsAtMost}
 use Rattle.ec_loads.specs.Shape.{Shape}
 use Rattle.ec_symmetry.specs.Orders.{IsReachedPrefix}
 use Rattle.ec_cert.specs.declared.part.Part.{Part}
@@ -31,3 +31,8 @@ LeavesPiece steps piece (became.Stopped e) = e ≢ ended.Refused → holds steps
 abbrev pub FindsValue : List Load → ℕ → List ℕ → Rules → Shape → Option ℕ → ℕ → Part → Option ℕ → Turn → Type 0
 FindsValue loads n order rules given value nodes part threshold (became.Again v) = HasBook loads n order rules given value nodes part (λ b. (v ≡ value_of b.best) × (¬ (IsAtMost v threshold)))
 FindsValue loads n order rules given value nodes part threshold _ = Unit {0}
+
+-- the value of a guide is below none of these: a value that it began with, one that was published, and what the busiest tick of each legal plan costs. No number
+-- that is at most the first two and bounds every legal plan is above it
+abbrev pub IsTied : List Load → ℕ → Option ℕ → Option ℕ → Option ℕ → Type 0
+IsTied loads n first published value = (x v : ℕ) → IsAtMost (Some x) first → IsAtMost (Some x) published → BoundsAll loads n (Some x) → value ≡ Some v → x ≤ v

@@ -144,6 +144,7 @@ impl<'u, 'o, 'b, S: Search> Post<'u, 'o, 'b, S> {
     pub(crate) fn read(&mut self) -> Option<u64>
         ensures same { self.new.seat ≡ self.old.seat }
         ensures falls { IsAtMost result self.old.reader.known }
+        ensures known { self.new.reader.known ≡ result }
     {
         self.bound.read(&mut self.reader)
     }
@@ -152,6 +153,7 @@ impl<'u, 'o, 'b, S: Search> Post<'u, 'o, 'b, S> {
     pub(crate) fn lower(&mut self, value: u64)
         ensures same { self.new.seat ≡ self.old.seat }
         ensures lowered { value ≤ 12304 → IsLowered self.old.reader value self.new.reader }
+        ensures falls { IsAtMost self.new.reader.known self.old.reader.known }
     {
         if value <= MOST_VALUE {
             self.bound.lower(&mut self.reader, value);
@@ -160,7 +162,8 @@ impl<'u, 'o, 'b, S: Search> Post<'u, 'o, 'b, S> {
 
     /// Publishes the value of the worker's last step, if it is a better plan.
     fn publish(&mut self)
-        ensures { self.new.seat ≡ self.old.seat }
+        ensures same { self.new.seat ≡ self.old.seat }
+        ensures falls { IsAtMost self.new.reader.known self.old.reader.known }
     {
         if let Some(value) = published(self.seat.receipts()) {
             self.lower(value);
@@ -195,6 +198,7 @@ impl<'u, 'o, 'b, S: Search> Post<'u, 'o, 'b, S> {
     ) -> Result<u64, Ended>
         requires plan { IsPlanOf S.loads S.slots best.plan.places best.busiest }
         ensures value { IfOk result (λ v. v ≤ best.busiest) }
+        ensures falls { IsAtMost self.new.reader.known self.old.reader.known }
         ensures known { IfOk result (λ v. ((v ≡ best.busiest) × (self.new.seat ≡ noted self.old.seat (Better self.old.seat.worker v)))
             ⊎ (HasSeatBook self.old.seat S.rules S.given S.given_value S.nodes S.part (λ b. value_of b.best ≡ Some v) × (self.new.seat ≡ self.old.seat))) }
         ensures ended { IfErr result (λ e. e ≢ Done) }

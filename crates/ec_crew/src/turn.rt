@@ -107,6 +107,7 @@ fn explored<'a, S: Search, R: Wait, G: Gate>(
         post,
         gate,
         piece: took.piece,
+        first: value,
         value,
         reads,
         stop: None,

@@ -1,6 +1,7 @@
 //! The guide of a worker beside others.
 
 ghost use Rattle.std.specs.Option.{is_some};
+ghost use Rattle.ec_crew.specs.Turns.{IsTied};
 
 use crate::bounds::lesser;
 use crate::copying::copy_of;
@@ -14,8 +15,8 @@ use ec_seats::{Search, Shared};
 use std::alloc::Global;
 use std::sync::Wait;
 
-/// What a worker watches while it explores a piece: the value, in wire bytes, that of the piece at first and then that
-/// of the last plan that it was told, or that of the book or the published one where these were lower; whether it looks
+/// What a worker watches while it explores a piece: the value that it began with, in wire bytes; the value, at first that one and
+/// then that of the last plan that it was told, or that of the book or the published one where these were lower; whether it looks
 /// at the published one; and why it is to stop, if it is.
 #[derive(Drop)]
 pub(crate) struct CrewWatch<'a, 'u, 'o, 'b, S: Search, R: Wait, G: Gate> {
@@ -25,9 +26,11 @@ pub(crate) struct CrewWatch<'a, 'u, 'o, 'b, S: Search, R: Wait, G: Gate> {
     pub post: &'a mut Post<'u, 'o, 'b, S>,
     pub gate: &'a G,
     pub piece: u64,
+    pub first: Option<u64>,
     pub value: Option<u64>,
     pub reads: bool,
     pub stop: Option<Ended>,
+    pub ghost tied: { IsTied S.loads S.slots first post.now.reader.known value },
 }
 
 impl<'a, 'u, 'o, 'b, S: Search, R: Wait, G: Gate> Guide for CrewWatch<'a, 'u, 'o, 'b, S, R, G> {

@@ -28,6 +28,7 @@ use Rattle.ec_checker.proofs.HeadLemmas.{order_ready}
 use Rattle.ec_book.specs.Finishing.{GrowsFrom}
 use Rattle.ec_book.specs.declared.book.Finished.{Finished}
 use Rattle.ec_crew.specs.Crews.{IsCrewed}
+use Rattle.ec_crew.proofs.TieLemmas.{least-at, at_most-best}
 use Rattle.ec_outcome.specs.declared.search.Outcome.{Outcome}
 use Rattle.ec_outcome.specs.declared.search.Outcome.TheVariants as outcome
 use Rattle.ec_outcome.specs.declared.search.SolveFault.{SolveFault}
@@ -80,17 +81,6 @@ crewed-nodes us n order rules given value nodes part f (b, of, began, is) =
     omega (arith, all, spent, given_is)
 
 -- ---- the level doesn't fall
-
-least-at : (loads : List Load) (n l : ℕ) (plan : List Place) (b : ℕ) → BoundsAll loads n (Some l) → IsLegal loads n plan → IsBusiest (plan_items loads plan) n b → l ≤ b
-least-at loads n l plan b bounds legal busiest =
-    let found = bounds plan legal in
-    let is : l ≡ found.0 = some_same found.1 in
-    let most = busiest.most found.2 in
-    omega (arith, is, found.3, most)
-
-at_most-best : (loads : List Load) (n l : ℕ) (best : Option Best) → BoundsAll loads n (Some l) → IsBestPlan loads n best → IsAtMost (Some l) (value_of best)
-at_most-best loads n l None bounds h = tt
-at_most-best loads n l (Some x) bounds h = least-at loads n l x.plan.places x.busiest bounds h.0 h.1
 
 -- an outcome whose tree grows from that of a certificate shows at least its level
 pub level-rises : LevelsBound → (us : List SyncUnit) (n : ℕ) (asked : Asked) (c : CertView) (l : ℕ) (o : Outcome) → IsPartialCert us n c → c.level ≡ Some l → asked.strong ≡ is_strong c → IsOutcome us n asked o → HasOrder c.order o → GrowsFrom c.tree (tree_in o) → HasLevelFrom us n l o

@@ -114,6 +114,7 @@ pub(crate) fn take_turn<G: Gate>(
         gate,
         worker: ALONE,
         piece: took.piece,
+        first: value,
         value,
         kept: None,
         stopped: false,

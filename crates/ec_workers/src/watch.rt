@@ -1,9 +1,10 @@
 //! The guide of a worker that works alone.
 
-ghost use Rattle.std.specs.Prelude.{◌≡◌};
+ghost use Rattle.std.specs.Prelude.{◌≡◌, None};
 ghost use Rattle.std.specs.Option.{ForSome};
 ghost use Rattle.ec_units.specs.Load.{loads_of};
 ghost use Rattle.ec_loads.specs.Legal.{IsLegal};
+ghost use Rattle.ec_crew.specs.Turns.{IsTied};
 
 use ec_branch::Guide;
 use ec_crew::{Gate, copy_of};
@@ -11,8 +12,8 @@ use ec_loads::Plan;
 use ec_units::Units;
 use std::alloc::Global;
 
-/// What a worker watches while it explores a piece: the value, in wire bytes, that of the piece at first and then that
-/// of the last plan that it was told, and that plan.
+/// What a worker watches while it explores a piece: the value that it began with, in wire bytes; the value, at first that one and
+/// then that of the last plan that it was told; and that plan.
 #[derive(Drop)]
 pub(crate) struct Watch<'a, G: Gate> {
     pub alloc: Global,
@@ -20,9 +21,11 @@ pub(crate) struct Watch<'a, G: Gate> {
     pub gate: &'a G,
     pub worker: usize,
     pub piece: u64,
+    pub first: Option<u64>,
     pub value: Option<u64>,
     pub kept: Option<Plan>,
     pub stopped: bool,
+    pub ghost tied: { IsTied (loads_of units.now.units) units.now.slots first None value },
     pub ghost legal: { ForSome kept (λ plan. IsLegal (loads_of units.now.units) units.now.slots plan.places) },
 }
 
