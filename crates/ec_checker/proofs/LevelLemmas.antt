@@ -1,20 +1,22 @@
 -- The level at an open leaf, and the greatest one of all open leaves.
-use Rattle.std.proofs.Common.{◌≡◌, ◌↔◌, ℕ, ◌+◌, ◌<◌, ◌≤◌, min, max, is_some, MatchOption, List, [], ◌∷◌, length, set, drop, get_or, Option, Some, None, Vec, Global, refl, sym, subst, inl, inr, arith, rules}
+use Rattle.std.proofs.Common.{◌≡◌, ◌⊎◌, ◌↔◌, ℕ, ◌+◌, ◌<◌, ◌≤◌, min, max, is_some, MatchOption, List, [], ◌∷◌, length, set, drop, get_or, All, Option, Some, None, Vec, Global, refl, sym, subst, inl, inr, arith, rules}
 use Rattle.std.proofs.lemmas.Bool.{cases_lt, false_from_ne_true}
 use Rattle.std.proofs.lemmas.List.{drop_all}
+use Rattle.std.proofs.lemmas.List.Elements.{All-head, All-tail}
 use Rattle.ec_units.specs.declared.slave.Place.{Place}
 use Rattle.ec_units.specs.declared.unit.Load.{Load}
 use Rattle.ec_loads.specs.Cost.{IsFirstBusiest}
 use Rattle.ec_loads.specs.Held.{Held, AreLoads, items_of, no_places}
 use Rattle.ec_loads.specs.Line.{Rules, Line, line_of, line_by}
-use Rattle.ec_loads.specs.Search.{Prefix, children, TickHolds, AverageHolds, LevelHolds, TreeWith, TreesWith, IsPartialTree, IsAtMost, open_count, open_counts}
+use Rattle.ec_loads.specs.Search.{Prefix, nobody, children, TickHolds, AverageHolds, LevelHolds, TreeWith, TreesWith, IsPartialTree, IsAtMost, open_count, open_counts}
 use Rattle.ec_loads.specs.Shape.{Shape, Shapes, split, leaf, open_leaf, no_shapes, more}
 use Rattle.ec_bounds.proofs.HeldLemmas.{with_place}
 use Rattle.ec_cert.specs.declared.tree.Tree.{Tree, OpenLeaf, the_lemmas}
 use Rattle.ec_cert.specs.Shapes.{shape_of, shapes_of}
 use Rattle.ec_cert.proofs.TreeLemmas.{shapes_of-drop}
-use Rattle.ec_checker.specs.Judged.{tick_reaches}
-use Rattle.ec_checker.specs.Levels.{IsGreatestLevel, IsLowered}
+use Rattle.ec_checker.specs.Judged.{tick_reaches, IsReady}
+use Rattle.ec_checker.specs.Levels.{IsGreatestLevel, IsLowered, AreIn}
+use Rattle.ec_checker.proofs.BelowLemmas.{level-below, level-next, slots-set}
 use Rattle.ec_checker.proofs.FoundLemmas.{reaches_from, reaches_to}
 
 -- ---- the test of an open leaf
@@ -114,6 +116,33 @@ lowered_skip rules held ts u order ps rest p i most least t h is first none two 
     let line = line_of rules held in
     let below = with_place held u (Some p) in
     let same : IsLowered line (shape_of t) below.places order most most = λ v all m. (λ low. (low, tree_closed (λ _ _. Unit {0}) (λ qs _. LevelHolds line (Some m) qs) line v (shape_of t) below.places order none all), λ q. q.0) in
+    lowered_step rules held below ts u order ps rest p i most most most least t h is first refl refl same two
+
+-- nor does a tree below places at which the level holds, or one with no open leaf
+pub lowered_kept : (rules : Rules) (held : Held) (t : Shape) (order : List ℕ) (most own : ℕ) → AreLoads held.loads → IsReady held.places order → AreIn held.slots held.loads held.places → All (λ u. u < length held.loads) order
+    → ((m : ℕ) → (m ≤ own) ↔ LevelHolds (line_of rules held) (Some m) held.places) → (most ≤ own) ⊎ (open_count t ≡ 0) → IsLowered (line_of rules held) t held.places order most most
+lowered_kept rules held t order most own within ready slots units all (inl low) v h m =
+    (λ under. (under, level-below (line_of rules held) (Some m) within v t held.places order ready slots units ((all m).0 (omega (arith, under, low))) h), λ q. q.0)
+lowered_kept rules held t order most own within ready slots units all (inr none) v h m =
+    (λ low. (low, tree_closed (λ _ _. Unit {0}) (λ qs _. LevelHolds (line_of rules held) (Some m) qs) (line_of rules held) v t held.places order none h), λ q. q.0)
+
+-- so a child of such places lowers no level either
+pub lowered_pass : (rules : Rules) (held : Held) (ts : List Tree) (u : ℕ) (order : List ℕ) (ps rest : List Place) (p : Place) (i most own least : ℕ) (t : Tree) → i < length ts → t ≡ get_or ts i t → ps ≡ p ∷ rest
+    → AreLoads held.loads → IsReady held.places (u ∷ order) → AreIn held.slots held.loads held.places → All (λ w. w < length held.loads) (u ∷ order) → p.phase < (get_or held.loads u nobody).period → p.slot < held.slots
+    → ((m : ℕ) → (m ≤ own) ↔ LevelHolds (line_of rules held) (Some m) held.places) → (most ≤ own) ⊎ (open_count (shape_of t) ≡ 0)
+    → lowered_from rules held (drop (i + 1) ts) u order rest most least → lowered_from rules held (drop i ts) u order ps most least
+lowered_pass rules held ts u order ps rest p i most own least t h is first within ready slots units phase slot all (inr none) two = lowered_skip rules held ts u order ps rest p i most least t h is first none two
+lowered_pass rules held ts u order ps rest p i most own least t h is first within ready slots units phase slot all (inl low) two =
+    let line = line_of rules held in
+    let below = with_place held u (Some p) in
+    let same : IsLowered line (shape_of t) below.places order most most = λ v h2 m. (
+      λ under. (
+        under,
+        level-below line (Some m) within v (shape_of t) below.places order (ready.1 p) (slots-set held.slots held.loads held.places u p ready.0 slot slots) (All-tail (λ w. w < length held.loads) u order units)
+            (level-next line (Some m) held.places u p within (All-head (λ w. w < length held.loads) u order units) ready.0 phase slot slots ((all m).0 (omega (arith, under, low)))) h2,
+      ),
+      λ q. q.0,
+    ) in
     lowered_step rules held below ts u order ps rest p i most most most least t h is first refl refl same two
 
 -- no child is left

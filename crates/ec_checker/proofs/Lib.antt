@@ -3,3 +3,4 @@ pub mod FoundLemmas
 pub mod HeadLemmas
 pub mod LevelLemmas
 pub mod WalkLemmas
+pub mod BelowLemmas

@@ -1,5 +1,7 @@
 -- The greatest level that a tree with open leaves shows.
-use Rattle.std.specs.Prelude.{ℕ, ◌≤◌, ◌↔◌, List, Option, Some}
+use Rattle.std.specs.Prelude.{ℕ, ◌<◌, ◌≤◌, ◌↔◌, All, List, Option, Some}
+use Rattle.ec_units.specs.declared.unit.Load.{Load}
+use Rattle.ec_loads.specs.Cost.{items}
 use Rattle.ec_loads.specs.Held.{no_places}
 use Rattle.ec_loads.specs.Line.{Line}
 use Rattle.ec_loads.specs.Search.{Prefix, IsTreeAbove, TreeWith, ShowsLevel}
@@ -15,3 +17,7 @@ pub record IsGreatestLevel (line : Line) (v : Option ℕ) (tree : Shape) (order 
 abbrev pub IsLowered : Line → Shape → Prefix → List ℕ → ℕ → ℕ → Type 0
 IsLowered line tree ps order most least =
     (v : Option ℕ) → TreeWith (λ _ _. Unit {0}) line v tree ps order → (m : ℕ) → ((m ≤ least) ↔ ((m ≤ most) × IsTreeAbove line v (Some m) tree ps order))
+
+-- the slots of a prefix are below the slot count
+abbrev pub AreIn : ℕ → List Load → Prefix → Type 0
+AreIn n ls ps = All (λ x. x.slot < n) (items ls ps)

@@ -1,17 +1,17 @@
 //! The greatest level that a tree with open leaves shows.
 
-ghost use Rattle.std.specs.Prelude.{◌≡◌, ℕ, ◌≤◌, ◌↔◌, Some, IfOk, length, MatchOption};
+ghost use Rattle.std.specs.Prelude.{◌≡◌, ◌⊎◌, ℕ, ◌<◌, ◌≤◌, ◌↔◌, IsTrue, All, Some, IfOk, length, MatchOption};
 ghost use Rattle.ec_units.specs.Load.{loads_of};
 ghost use Rattle.ec_loads.specs.Held.{no_places};
 ghost use Rattle.ec_loads.specs.Line.{Rules as LineRules, line_of, line_by};
-ghost use Rattle.ec_loads.specs.Search.{LevelHolds, IsPartialTree, IsAtMost};
+ghost use Rattle.ec_loads.specs.Search.{LevelHolds, IsPartialTree, IsAtMost, open_count};
 ghost use Rattle.ec_bounds.specs.Left.{IsRestOf};
 ghost use Rattle.ec_cert.specs.BestPlan.{value_of, IsBestPlan};
 ghost use Rattle.ec_cert.specs.Shapes.{shape_of};
 ghost use Rattle.ec_symmetry.specs.Orders.{IsOrder};
 ghost use Rattle.ec_symmetry.specs.Ruled.{line_rules};
 ghost use Rattle.ec_checker.specs.Judged.{IsReady};
-ghost use Rattle.ec_checker.specs.Levels.{IsGreatestLevel, IsLowered};
+ghost use Rattle.ec_checker.specs.Levels.{IsGreatestLevel, IsLowered, AreIn};
 
 use ec_bounds::{Rest, average_level};
 use ec_cert::{Best, Tree, is_closed};
@@ -43,9 +43,28 @@ fn open_level(loads: &Loads, rest: &Rest) -> u64
     most.max(average_level(loads, rest))
 }
 
+/// Whether it is seen without a look inside that no leaf of a tree lowers a level, where this level holds at the places that lead
+/// to the tree, or at those that they extend.
+fn is_passed(level: u64, here: u64, tree: &Tree) -> bool
+    ensures { IsTrue result → (level ≤ here) ⊎ (open_count (shape_of tree.now) ≡ 0) }
+{
+    match tree {
+        Tree::Split(_) | Tree::OpenLeaf => level <= here,
+        _ => true,
+    }
+}
+
+/// Whether no leaf of a tree lowers a level, where this level holds at the places that lead to the tree: the level isn't above
+/// it, or no leaf is open.
+fn is_kept(level: u64, here: u64, tree: &Tree) -> bool
+    ensures { IsTrue result → (level ≤ here) ⊎ (open_count (shape_of tree.now) ≡ 0) }
+{
+    level <= here || is_closed(tree)
+}
+
 /// The greatest level of at most this one that holds at each open leaf of a tree for the places so far, its children
-/// by these rules. The places are as before afterwards. No place is tried where no leaf is open, and no recursion
-/// is deeper than the order is long.
+/// by these rules. The places are as before afterwards. Where the level holds at the places themselves it holds below them, so
+/// nothing is looked at there. No recursion is deeper than the order is long.
 fn lowered(
     loads: &mut Loads,
     rest: &mut Rest,
@@ -56,6 +75,8 @@ fn lowered(
 ) -> u64
     requires ready { IsReady loads.old.places order.now }
     requires left { IsRestOf rest.old loads.old }
+    requires slots { AreIn loads.old.slots loads.old.loads loads.old.places }
+    requires units { All (λ u. u < length loads.old.loads) order.now }
     ensures same { loads.new ≡ loads.old }
     ensures left { IsRestOf rest.new loads.new }
     ensures lowered { IsLowered (line_of (line_rules rules) loads.old) (shape_of tree.now) loads.old.places order.now level result }
@@ -64,6 +85,11 @@ fn lowered(
         Tree::Split(trees) => match order.split_first() {
             None => level,
             Some((unit, later)) => {
+                let _ticks = loads.ticks();
+                let here = open_level(loads, rest);
+                if is_kept(level, here, tree) {
+                    return level;
+                }
                 let trees = trees.as_ref();
                 let unit = usize::from(*unit);
                 let mut places = children_by(loads, unit, rules);
@@ -72,7 +98,7 @@ fn lowered(
                     let Some(place) = places.next() else {
                         return least;
                     };
-                    if !is_closed(&trees[i]) {
+                    if !is_passed(least, here, &trees[i]) {
                         loads.place(unit, place);
                         rest.placed(unit);
                         least = lowered(loads, rest, rules, least, later, &trees[i]);

@@ -1,12 +1,12 @@
 -- What would be too much with one item more.
-use Rattle.std.proofs.Common.{◌≡◌, ℕ, ◌+◌, ◌*◌, ◌%◌, ◌<◌, ◌≤◌, min, List, length, get_or, Option, Some, None, MatchOption, IfSome, refl, sym, ap, ◌∙◌, subst, arith, inl, inr}
+use Rattle.std.proofs.Common.{◌≡◌, ℕ, ◌+◌, ◌%◌, ◌<◌, ◌≤◌, min, List, get_or, Option, Some, None, MatchOption, IfSome, refl, sym, ap, ◌∙◌, subst, arith, inl, inr}
 use Rattle.std.proofs.lemmas.Bool.{eq-eqb}
 use Rattle.ec_loads.specs.declared.item.Item.{Item}
 use Rattle.ec_loads.specs.declared.excess.Excess.{Excess}
 use Rattle.ec_loads.specs.declared.excess.Excess.TheVariants.{Payload, Cost}
 use Rattle.ec_loads.specs.Cost.{payload, tick_cost}
 use Rattle.ec_loads.specs.Table.{cell_cost, group_at, HoldsItems, IsOneMore}
-use Rattle.ec_loads.specs.Excess.{IsExcess, IsTableExcess, IsFirstRaised, StaysBelow, Reaches, cell_at}
+use Rattle.ec_loads.specs.Excess.{IsExcess, IsTableExcess, IsFirstRaised, StaysBelow, cell_at}
 use Rattle.ec_loads.proofs.CellLemmas.{one_remainder}
 use Rattle.ec_loads.proofs.StepLemmas.{lt_or_le}
 use Rattle.ec_loads.proofs.MoreLemmas.{payload-more, added-sent}

@@ -30,7 +30,8 @@ use Rattle.ec_checker.specs.Certified.{IsLevelIn, IsShown}
 use Rattle.ec_checker.specs.Judged.{IsReady}
 use Rattle.ec_checker.proofs.HeadLemmas.{order_ready}
 use Rattle.ec_book.proofs.TreeLemmas.{tree-lower, tree-weaker, tree-closed, no-open}
-use Rattle.ec_workers.proofs.RiseLemmas.{AreIn, slots-set, slots-none, children-are, level-below}
+use Rattle.ec_checker.specs.Levels.{AreIn}
+use Rattle.ec_checker.proofs.BelowLemmas.{slots-set, slots-none, children-are, level-below}
 use Rattle.ec_merge.specs.Certs.{IsProven, FitTogether, version_by, IsLesserBest, IsLevelOfBoth}
 use Rattle.ec_merge.specs.Merged.{AreAlike, IsMerged}
 use Rattle.ec_merge.proofs.BothLemmas.{both, merged-is, one-closed}

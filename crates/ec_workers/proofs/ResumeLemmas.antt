@@ -36,7 +36,8 @@ use Rattle.ec_workers.specs.Answers.{Asked, GoesBeyond, HasLevelFrom, HasOrder, 
 use Rattle.ec_outcome.specs.Searched.{searched_by}
 use Rattle.ec_workers.specs.Outcomes.{IsPartialCert}
 use Rattle.ec_workers.specs.Answers.{is_strong}
-use Rattle.ec_workers.proofs.RiseLemmas.{slots-none, tree-rises}
+use Rattle.ec_checker.proofs.BelowLemmas.{slots-none}
+use Rattle.ec_workers.proofs.RiseLemmas.{tree-rises}
 use Rattle.ec_workers.proofs.LevelLemmas.{tree-partial, tree-short}
 
 -- from version 3 on the rules are those of a search

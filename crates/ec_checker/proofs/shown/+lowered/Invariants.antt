@@ -1,6 +1,8 @@
 use Rattle.std.proofs.Common.{◌≡◌, length}
 use Rattle.ec_bounds.specs.Left.{IsRestOf}
+use Rattle.ec_loads.specs.Line.{line_of}
 use Rattle.ec_symmetry.specs.Ruled.{line_rules}
+use Rattle.ec_checker.proofs.BelowLemmas.{AreChildren}
 use Rattle.ec_checker.proofs.LevelLemmas.{Lowers}
 use Rattle.ec_checker.proofs.shown.+lowered.Given as goal
 
@@ -12,5 +14,6 @@ invariant-loop-i l =
     record {
       same : l.loads ≡ l.initial.loads;
       left : IsRestOf l.rest l.loads;
+      each : AreChildren (line_of (line_rules l.rules) l.initial.loads) l.unit l.places;
       lowers : Lowers (line_rules l.rules) l.initial.loads l.trees.items l.unit l.later l.places l.i l.level l.least;
     }

@@ -7,6 +7,8 @@ use Rattle.ec_cert.specs.BestPlan.{value_of}
 use Rattle.ec_cert.specs.Shapes.{shape_of}
 use Rattle.ec_symmetry.specs.Ruled.{line_rules}
 use Rattle.ec_checker.specs.Judged.{IsReady}
+use Rattle.ec_checker.specs.Levels.{AreIn}
+use Rattle.ec_checker.proofs.BelowLemmas.{slots-none}
 use Rattle.ec_checker.proofs.HeadLemmas.{order_ready}
 use Rattle.ec_checker.proofs.LevelLemmas.{greatest_from}
 use Rattle.ec_checker.proofs.shown.level_in.Goals as goal
@@ -18,6 +20,9 @@ lowered-requires-clause-ready c =
 
 pub lowered-requires-clause-left : goal.lowered-requires-clause-left
 lowered-requires-clause-left c = empty_rest (loads_of c.args.units.now.units) c.args.units.now.slots c.args.loads.now c.all-rest.result c.requires.loads c.all-rest.ensures
+
+pub lowered-requires-clause-slots : goal.lowered-requires-clause-slots
+lowered-requires-clause-slots c = subst (λ (h : Held). AreIn h.slots h.loads h.places) (sym c.requires.loads) (slots-none c.args.units.now.slots (loads_of c.args.units.now.units))
 
 pub returns-clause-level : goal.returns-clause-level
 returns-clause-level c =

@@ -1,4 +1,4 @@
-use Rattle.std.proofs.Common.{length, ◌-◌, ◌≡◌, ℕ, ◌+◌, ◌*◌, ◌%◌, ◌<◌, ◌≤◌, min}
+use Rattle.std.proofs.Common.{length, ◌-◌, ◌≡◌, ℕ, ◌+◌, ◌%◌, ◌<◌, ◌≤◌, min}
 use Rattle.ec_loads.specs.Excess.{cell_at, IsFirstRaised}
 use Rattle.ec_loads.proofs.excess.first_excess.Given as goal
 

@@ -1,4 +1,4 @@
-use Rattle.std.proofs.Common.{arith, sym, ◌∙◌, ap}
+use Rattle.std.proofs.Common.{arith, sym, ◌∙◌}
 use Rattle.ec_symmetry.proofs.LatestLemmas.{phases_whole}
 use Rattle.ec_symmetry.proofs.strong.is_period_placed.Goals as goal
 
