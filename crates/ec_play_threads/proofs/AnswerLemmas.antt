@@ -1,5 +1,5 @@
 -- What a play answers once all threads are joined.
-use Rattle.std.proofs.Common.{◌≡◌, ◌⊎◌, ℕ, List, [], ◌++◌, Some, None, Result, Ok, Err, length, map, inl, inr, refl, sym, ap, ◌∙◌, append-nil}
+use Rattle.std.proofs.Common.{◌≡◌, ℕ, List, [], Some, Result, Ok, Err, length, map, inl, inr, sym, ap, ◌∙◌, append-nil}
 use Rattle.std.specs.Prelude.{IfOk}
 use Rattle.std.specs.List.{range_with_len}
 use Rattle.ec_units.specs.declared.slave.Place.{Place}
@@ -12,11 +12,11 @@ use Rattle.ec_outcome.specs.declared.play.PlayFault.{PlayFault}
 use Rattle.ec_play.specs.declared.playing.Played.{Played}
 use Rattle.ec_play.specs.declared.rows.TickRow.{TickRow}
 use Rattle.ec_play.specs.Lines.{IsMemory}
-use Rattle.ec_play.specs.Plays.{IsPlayed, IsAnswer}
+use Rattle.ec_play.specs.Plays.{IsAnswer}
 use Rattle.ec_play.specs.Sent.{start_sents}
 use Rattle.ec_play.proofs.TickLemmas.{rows-cost}
 use Rattle.ec_play_threads.specs.Frames.{IsFront}
-use Rattle.ec_play_threads.specs.Plays.{IsLack, AreSame, SameAnswers}
+use Rattle.ec_play_threads.specs.Plays.{IsLack, SameAnswers}
 use Rattle.ec_play_threads.proofs.FrontLemmas.{parts_same}
 
 -- a front that is as long as the whole

@@ -2,7 +2,7 @@
 -- While the threads run, nothing is known of what comes back but the list of it. So rows, image and faults are said for
 -- all slaves under the premise that what came back is what these make of what was sent (`ArePlayed`); `all-came` proves
 -- it once, after the joins. The lemmas of `ec_play` on ticks serve as they are.
-use Rattle.std.proofs.Common.{◌≡◌, ◌⊎◌, ℕ, ◌+◌, ◌<◌, List, ◌++◌, length, map, get_or, unwrap_or, inl, inr, sym, ap, ◌∙◌, arith}
+use Rattle.std.proofs.Common.{◌≡◌, ◌⊎◌, ℕ, ◌+◌, ◌<◌, List, length, map, get_or, unwrap_or, inl, inr, sym, ap, ◌∙◌, arith}
 use Rattle.std.proofs.lemmas.List.{length-map}
 use Rattle.std.specs.List.{range_with_len}
 use Rattle.ec_units.specs.declared.units.Units.{Units}

@@ -1,5 +1,5 @@
 -- What a play with threads may lack, and what it says of its answer.
-use Rattle.std.specs.Prelude.{◌≡◌, ◌⊎◌, ℕ, List, Result, Ok, Err}
+use Rattle.std.specs.Prelude.{◌≡◌, ◌⊎◌, Result, Ok, Err}
 use Rattle.ec_outcome.specs.declared.play.PlayFault.{PlayFault}
 use Rattle.ec_outcome.specs.declared.play.PlayFault.TheVariants as fault
 use Rattle.ec_play.specs.declared.playing.Played.{Played}

@@ -1,6 +1,6 @@
 //! Frames that are sent ahead of the tick that is due.
 
-ghost use Rattle.std.specs.Prelude.{◌≡◌, ℕ, ◌+◌, ◌*◌, ◌<◌, ◌≤◌, ◌^◌, true, List, [], ◌∷◌, ◌++◌, length, map, OnOk};
+ghost use Rattle.std.specs.Prelude.{◌≡◌, ℕ, ◌+◌, ◌*◌, ◌<◌, ◌≤◌, ◌^◌, true, false, List, [], ◌∷◌, ◌++◌, length, map, OnOk};
 ghost use Rattle.rtrb.specs.Ring.{sent as sent_by, SameProducer};
 ghost use Rattle.ec_player.specs.Frames.{HasLayout};
 ghost use Rattle.ec_play.specs.Sent.{tick_sents};
@@ -8,10 +8,10 @@ ghost use Rattle.ec_play.specs.Lines.{bytes_of};
 ghost use Rattle.ec_play_threads.specs.Frames.{bytes_in};
 ghost use Rattle.ec_play_threads.specs.Windows.{sents_in, IsAhead};
 
+use crate::boxes::BoxedFrame;
 use crate::rounds::send_all;
 use crate::seats::Seat;
 use ec_fmmu::Mapping;
-use ec_frames::Frame;
 use ec_play::{Trip, tick_trips};
 use ec_units::Units;
 use rtrb::Producer;
@@ -20,7 +20,10 @@ use std::collections::VecDeque;
 use std::sync::Wait;
 
 /// So many frames are under way at most.
-pub(crate) const WINDOW: u32 = 64;
+pub(crate) const WINDOW: u32 = 128;
+
+/// Frames are sent once no more than so many are under way, so that threads find many at a time.
+const LOW: u32 = WINDOW / 2;
 
 /// A tick has at most so many frames, one in each slot.
 const MOST_IN_TICK: u32 = 8;
@@ -53,12 +56,20 @@ impl Ahead {
         !self.trips.is_empty() && WINDOW - MOST_IN_TICK < self.frames.saturating_sub(number)
     }
 
+    /// Whether so few frames are under way that more are to be sent, of which so many came back.
+    fn is_low(&self, number: u32) -> bool
+        ensures { result ≡ false → 0 < length self.now.trips.items }
+    {
+        self.trips.is_empty() || self.frames.saturating_sub(number) <= LOW
+    }
+
     /// Sends the frames of one more tick.
     fn send_tick<R: Wait>(
         &mut self,
         rt: &R,
         alloc: Global,
-        first: &mut Producer<Frame>,
+        first: &mut Producer<BoxedFrame>,
+        spare: &mut Vec<BoxedFrame>,
         seat: Seat<'_>,
         units: &Units,
         mapping: &Mapping,
@@ -74,7 +85,7 @@ impl Ahead {
         ensures frames { OnOk result (self.new.frames ≤ self.old.frames + 8) }
     {
         let trips = tick_trips(alloc, units, mapping, image, self.tick)?;
-        send_all(rt, first, seat, trips.as_slice());
+        send_all(rt, alloc, first, spare, seat, trips.as_slice())?;
         self.frames += trips.len() as u32;
         self.tick += 1;
         let Ok(()) = self.trips.push_back(trips) else {
@@ -83,13 +94,14 @@ impl Ahead {
         Ok(())
     }
 
-    /// Sends frames of ticks below `ticks`, as long as at most 64 are under way, and those of one tick in any case. So many frames
+    /// Sends frames of ticks below `ticks`, as long as at most 128 are under way, and those of one tick in any case. So many frames
     /// came back.
-    pub(crate) fn send<R: Wait>(
+    fn fill<R: Wait>(
         &mut self,
         rt: &R,
         alloc: Global,
-        first: &mut Producer<Frame>,
+        first: &mut Producer<BoxedFrame>,
+        spare: &mut Vec<BoxedFrame>,
         seat: Seat<'_>,
         units: &Units,
         mapping: &Mapping,
@@ -105,8 +117,40 @@ impl Ahead {
             IsAhead units.now mapping.now image.now ticks t self.new (bytes_in (sent_by first.new)) × (t < self.new.tick)) }
     {
         while self.tick < ticks && !self.is_full(number) {
-            self.send_tick(rt, alloc, first, seat, units, mapping, image)?;
+            self.send_tick(rt, alloc, first, spare, seat, units, mapping, image)?;
         }
+        Ok(())
+    }
+
+    /// Sends frames of ticks below `ticks` where few are under way, and then wakes the thread behind the ring. Those of one tick are
+    /// sent in any case. So many frames came back.
+    pub(crate) fn send<R: Wait>(
+        &mut self,
+        rt: &R,
+        alloc: Global,
+        first: &mut Producer<BoxedFrame>,
+        spare: &mut Vec<BoxedFrame>,
+        seat: Seat<'_>,
+        units: &Units,
+        mapping: &Mapping,
+        image: &[u8],
+        ticks: u32,
+        number: u32,
+    ) -> Result<(), AllocError>
+        requires layout { HasLayout units.now mapping.now }
+        requires image { length image.now ≡ mapping.now.total }
+        requires few { (ticks ≤ 65536) × (self.old.frames ≤ 769 + 8 * self.old.tick) }
+        ensures ring { SameProducer first.old first.new }
+        ensures ahead { OnOk result ((t : ℕ) → t < ticks → IsAhead units.now mapping.now image.now ticks t self.old (bytes_in (sent_by first.old)) →
+            IsAhead units.now mapping.now image.now ticks t self.new (bytes_in (sent_by first.new)) × (t < self.new.tick)) }
+    {
+        if !self.is_low(number) {
+            return Ok(());
+        }
+        self.fill(
+            rt, alloc, first, spare, seat, units, mapping, image, ticks, number,
+        )?;
+        seat.wake();
         Ok(())
     }
 }

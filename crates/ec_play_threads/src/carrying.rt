@@ -6,8 +6,8 @@ ghost use Rattle.rtrb.specs.Ring.{sent, received, all_sent, known_free, SameProd
 ghost use Rattle.ec_slave.specs.Journey.{outs, final};
 ghost use Rattle.ec_play_threads.specs.Frames.{bytes_in};
 
-use crate::seats::Seat;
-use ec_frames::Frame;
+use crate::boxes::BoxedFrame;
+use crate::seats::{Seat, is_over};
 use ec_slave::Pass;
 use rtrb::{Consumer, Finished, Producer};
 use std::snapshot::Snapshot;
@@ -19,16 +19,16 @@ use std::thread::Promise;
 #[derive(Drop)]
 pub(crate) struct Back<X> {
     pub(crate) slave: X,
-    pub(crate) taken: Consumer<Frame>,
-    pub(crate) put: Option<Finished<Frame>>,
+    pub(crate) taken: Consumer<BoxedFrame>,
+    pub(crate) put: Option<Finished<BoxedFrame>>,
 }
 
 /// What the thread of a slave was given. It promises that what it put is its slave's pass over what it took.
 #[derive(Drop)]
 pub(crate) struct Carried<X> {
     pub(crate) slave: Snapshot<X>,
-    pub(crate) taken: Snapshot<Consumer<Frame>>,
-    pub(crate) put: Snapshot<Producer<Frame>>,
+    pub(crate) taken: Snapshot<Consumer<BoxedFrame>>,
+    pub(crate) put: Snapshot<Producer<BoxedFrame>>,
 }
 
 impl<X: Pass> Promise<Back<X>> for Carried<X> {
@@ -38,7 +38,7 @@ impl<X: Pass> Promise<Back<X>> for Carried<X> {
 }
 
 /// Waits until there is room for a frame.
-fn wait_for_room<R: Wait>(rt: &R, producer: &mut Producer<Frame>)
+fn wait_for_room<R: Wait>(rt: &R, producer: &mut Producer<BoxedFrame>)
     ensures ring { SameProducer producer.old producer.new }
     ensures sent { sent producer.new ≡ sent producer.old }
     ensures room { 0 < known_free producer.new }
@@ -53,7 +53,7 @@ fn wait_for_room<R: Wait>(rt: &R, producer: &mut Producer<Frame>)
 }
 
 /// Puts a frame, once there is room for it.
-fn put_waiting<R: Wait>(rt: &R, producer: &mut Producer<Frame>, frame: Frame)
+fn put_waiting<R: Wait>(rt: &R, producer: &mut Producer<BoxedFrame>, frame: BoxedFrame)
     ensures ring { SameProducer producer.old producer.new }
     ensures sent { sent producer.new ≡ sent producer.old ++ frame ∷ [] }
 {
@@ -61,12 +61,22 @@ fn put_waiting<R: Wait>(rt: &R, producer: &mut Producer<Frame>, frame: Frame)
     producer.push_reserved(frame);
 }
 
+/// Lets a frame pass a slave, in its box.
+fn let_pass<X: Pass>(slave: &mut X, came: BoxedFrame) -> BoxedFrame
+    ensures frame { result.value.items ≡ X.out slave.old came.value.items }
+    ensures state { slave.new ≡ X.next slave.old came.value.items }
+{
+    let mut frame = came;
+    slave.pass(&mut frame);
+    frame
+}
+
 /// Lets each frame that comes pass the slave, and puts it to the next ring, until no more can come.
 pub(crate) fn carry<X: Pass, R: Wait>(
     rt: &R,
     mut slave: X,
-    mut taken: Consumer<Frame>,
-    mut put: Producer<Frame>,
+    mut taken: Consumer<BoxedFrame>,
+    mut put: Producer<BoxedFrame>,
     seat: Seat<'_>,
 ) -> Back<X>
     requires { (received taken ≡ []) × (sent put ≡ []) }
@@ -75,16 +85,14 @@ pub(crate) fn carry<X: Pass, R: Wait>(
     ensures put { IfSome result.put (λ f. SameRing put.end f.end × (bytes_in (all_sent f) ≡ outs X.out X.next slave (bytes_in (received result.taken)))) }
 {
     for _ in rt.forever() {
-        let gone = taken.is_abandoned();
         if taken.is_empty() {
-            if gone {
+            if is_over(rt, &mut taken, seat) {
                 break;
             }
-            seat.wait(rt);
             continue;
         }
-        let mut frame = taken.pop_known();
-        slave.pass(&mut frame);
+        let came = taken.pop_known();
+        let frame = let_pass(&mut slave, came);
         put_waiting(rt, &mut put, frame);
         seat.behind().wake();
     }

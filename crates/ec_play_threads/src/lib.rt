@@ -3,6 +3,7 @@
 #![tactic(auto)]
 
 mod ahead;
+mod boxes;
 mod carrying;
 mod laws;
 mod line;

@@ -1,17 +1,16 @@
 //! The threads of a line of slaves: they are started, and joined.
 
 ghost use Rattle.std.specs.Prelude.{◌≡◌, ◌⊎◌, [], ◌++◌, ℕ, List, map, IfOk, OnOk, IfErr, IfSome};
-ghost use Rattle.arrayvec.specs.ArrayVec.{ArrayVec};
 ghost use Rattle.rtrb.specs.Ring.{sent as sent_by, received, all_sent, SameConsumer};
 ghost use Rattle.ec_slave.specs.Journey.{line_outs, line_finals};
 ghost use Rattle.ec_play.specs.Lines.{IsMemory};
-ghost use Rattle.ec_play_threads.specs.Frames.{bytes_in, IsFront};
+ghost use Rattle.ec_play_threads.specs.Frames.{Boxed, bytes_in, IsFront};
 ghost use Rattle.ec_play_threads.specs.Threads.{Linked};
 ghost use Rattle.ec_play_threads.specs.Plays.{IsLack};
 
+use crate::boxes::BoxedFrame;
 use crate::carrying::{Back, Carried, carry};
-use crate::seats::Seat;
-use ec_frames::Frame;
+use crate::seats::{Seat, is_over};
 use ec_play::PlayFault;
 use ec_slave::Pass;
 use rtrb::{Consumer, Finished, Producer, RingBuffer};
@@ -21,7 +20,7 @@ use std::sync::Wait;
 use std::thread::{PromisedHandle, Scope, Threads};
 
 /// Frames that a ring has room for: all that are under way, so that sending never waits for what comes back.
-pub(crate) const RING: usize = 64;
+pub(crate) const RING: usize = 128;
 
 /// The thread of a slave, with what it promises.
 pub(crate) type Handle<X> = PromisedHandle<Back<X>, Carried<X>>;
@@ -31,8 +30,8 @@ fn start<'s, E, X: Pass + Send + Drop + 's, R: Wait + Sync>(
     rt: &'s R,
     scope: &Scope<'s, E>,
     slave: X,
-    taken: Consumer<Frame>,
-    put: Producer<Frame>,
+    taken: Consumer<BoxedFrame>,
+    put: Producer<BoxedFrame>,
     seat: Seat<'s>,
 ) -> Option<Handle<X>>
     requires { (received taken ≡ []) × (sent_by put ≡ []) }
@@ -55,10 +54,10 @@ pub(crate) fn start_all<'s, E, X: Pass + Send + Drop + 's, R: Wait + Sync>(
     scope: &Scope<'s, E>,
     alloc: Global,
     slaves: Vec<X>,
-    first: Consumer<Frame>,
+    first: Consumer<BoxedFrame>,
     seat: Seat<'s>,
     handles: &mut Vec<Handle<X>>,
-) -> Result<Consumer<Frame>, PlayFault>
+) -> Result<Consumer<BoxedFrame>, PlayFault>
     requires { (received first ≡ []) × (handles.old.items ≡ []) }
     ensures linked { IfOk result (λ last. Linked first.end (map (λ h. h.promise) handles.new.items) last.end) }
     ensures slaves { OnOk result (map (λ h. h.promise.slave.value) handles.new.items ≡ slaves.items) }
@@ -86,7 +85,7 @@ pub(crate) fn start_all<'s, E, X: Pass + Send + Drop + 's, R: Wait + Sync>(
 /// Ends the threads of a line through which nothing was sent.
 pub(crate) fn give_up<X: Pass + Send + Drop, R: Threads>(
     rt: &R,
-    first: Producer<Frame>,
+    first: Producer<BoxedFrame>,
     seat: Seat<'_>,
     handles: Vec<Handle<X>>,
 ) {
@@ -98,17 +97,13 @@ pub(crate) fn give_up<X: Pass + Send + Drop, R: Threads>(
 }
 
 /// Takes what is still under way, until nothing more can come.
-fn drain<R: Wait>(rt: &R, last: &mut Consumer<Frame>, own: Seat<'_>)
+fn drain<R: Wait>(rt: &R, last: &mut Consumer<BoxedFrame>, own: Seat<'_>)
     ensures ring { SameConsumer last.old last.new }
-    ensures more { (frames : List (ArrayVec ℕ)) × (received last.new ≡ received last.old ++ frames) }
+    ensures more { (frames : List Boxed) × (received last.new ≡ received last.old ++ frames) }
 {
     for _ in rt.forever() {
-        let gone = last.is_abandoned();
-        if last.pop().is_err() {
-            if gone {
-                return;
-            }
-            own.wait(rt);
+        if last.pop().is_err() && is_over(rt, last, own) {
+            return;
         }
     }
     unreachable!()
@@ -119,8 +114,8 @@ fn join_all<X: Pass + Send + Drop, R: Threads>(
     rt: &R,
     alloc: Global,
     handles: Vec<Handle<X>>,
-    first: Finished<Frame>,
-    last: Consumer<Frame>,
+    first: Finished<BoxedFrame>,
+    last: Consumer<BoxedFrame>,
 ) -> Result<Vec<X>, PlayFault>
     requires { Linked first.end (map (λ h. h.promise) handles.items) last.end }
     ensures frames { OnOk result (bytes_in (received last) ≡ line_outs X.out X.next (map (λ h. h.promise.slave.value) handles.items) (bytes_in (all_sent first))) }
@@ -159,8 +154,8 @@ fn join_all<X: Pass + Send + Drop, R: Threads>(
 pub(crate) fn close<X: Pass + Send + Drop, R: Threads + Wait>(
     rt: &R,
     alloc: Global,
-    first: Producer<Frame>,
-    last: Consumer<Frame>,
+    first: Producer<BoxedFrame>,
+    last: Consumer<BoxedFrame>,
     seat: Seat<'_>,
     own: Seat<'_>,
     handles: Vec<Handle<X>>,

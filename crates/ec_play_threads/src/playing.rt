@@ -11,8 +11,9 @@ ghost use Rattle.ec_play.specs.Plays.{IsAnswer};
 ghost use Rattle.ec_play_threads.specs.Plays.{IsLack};
 
 use crate::line::{RING, close, give_up, start_all};
-use crate::seats::{Seat, places_of};
+use crate::seats::{Seat, Spot, places_of};
 use crate::ticks::{Outcome, play_line};
+use crossbeam_utils::CachePadded;
 use ec_fmmu::Mapping;
 use ec_play::{PlayFault, Played, Rows};
 use ec_slave::Pass;
@@ -21,14 +22,14 @@ use rtrb::RingBuffer;
 use std::alloc::Global;
 use std::sync::Wait;
 use std::thread;
-use std::thread::{Parker, Scope, Threads};
+use std::thread::{Scope, Threads};
 
 /// Starts the threads, plays, and joins them.
 fn play_in<'s, E, X: Pass + Send + Drop + 's, R: Threads + Wait + Sync>(
     rt: &'s R,
     scope: &Scope<'s, E>,
     alloc: Global,
-    places: &'s [Parker],
+    places: &'s [CachePadded<Spot>],
     units: &Units,
     mapping: &Mapping,
     image: &[u8],
@@ -49,6 +50,7 @@ fn play_in<'s, E, X: Pass + Send + Drop + 's, R: Threads + Wait + Sync>(
         return Err(PlayFault::Ring);
     };
     let mut first = first;
+    let mut spare = Vec::new(alloc);
     let mut last = match start_all(rt, scope, alloc, slaves, taken, seat, &mut handles) {
         Ok(last) => last,
         Err(fault) => {
@@ -57,7 +59,7 @@ fn play_in<'s, E, X: Pass + Send + Drop + 's, R: Threads + Wait + Sync>(
         }
     };
     let outcome = play_line::<X, R>(
-        rt, alloc, &mut first, &mut last, seat, own, units, mapping, image, ticks,
+        rt, alloc, &mut first, &mut last, &mut spare, seat, own, units, mapping, image, ticks,
     );
     let slaves = match close(rt, alloc, first, last, seat, own, handles) {
         Ok(slaves) => slaves,
@@ -78,7 +80,7 @@ fn play_in<'s, E, X: Pass + Send + Drop + 's, R: Threads + Wait + Sync>(
 }
 
 /// Plays a plan as `play_plain` does, with a thread for each slave (own profile, after ETG.1000.4, clause 5.4): rings lead from the
-/// calling thread through the slaves, in file order, and back. Ticks are sent ahead, so that up to 64 frames are under way, and each
+/// calling thread through the slaves, in file order, and back. Ticks are sent ahead, so that up to 128 frames are under way, and each
 /// frame is judged as it comes back. After the first faulty frame no more is sent. All threads are joined.
 ///
 /// # Errors

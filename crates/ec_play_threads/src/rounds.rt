@@ -1,37 +1,44 @@
 //! Frames are sent as there is room for them, and taken and judged as they come back.
 
-ghost use Rattle.std.specs.Prelude.{◌≡◌, ◌⊎◌, ℕ, ◌+◌, ◌<◌, ◌≤◌, ◌^◌, List, ◌++◌, length, map, take, get_or, IfOk, IfErr, None, vec_capacity};
-ghost use Rattle.arrayvec.specs.ArrayVec.{ArrayVec};
+ghost use Rattle.std.specs.Prelude.{◌≡◌, ◌⊎◌, ℕ, ◌+◌, ◌<◌, ◌≤◌, ◌^◌, List, ◌++◌, length, map, take, get_or, IfOk, OnOk, IfErr, None, vec_capacity};
 ghost use Rattle.rtrb.specs.Ring.{sent as sent_by, received, SameProducer, SameConsumer};
 ghost use Rattle.ec_play.specs.Faults.{first_fault};
 ghost use Rattle.ec_play.specs.Lines.{bytes_of, IsMemory};
 ghost use Rattle.ec_play.specs.Trips.{sent_in};
-ghost use Rattle.ec_play_threads.specs.Frames.{bytes_in};
+ghost use Rattle.ec_play_threads.specs.Frames.{Boxed, bytes_in};
 ghost use Rattle.ec_play_threads.specs.Rounds.{IsRound, IsStopped};
 
-use crate::seats::Seat;
-use ec_frames::Frame;
-use ec_play::{PlayFault, TickRow, Trip, bring, copy_of, judge_trip, row_of};
+use crate::boxes::{BoxedFrame, boxed, opened};
+use crate::seats::{Seat, is_over};
+use ec_play::{PlayFault, TickRow, Trip, bring, judge_trip, row_of};
 use rtrb::{Consumer, Producer};
-use std::alloc::Global;
+use std::alloc::{AllocError, Global};
 use std::sync::Wait;
 use std::thread;
 
 /// Sends the next of these frames, if one is left and there is room for it; so many were sent before, and so many are afterwards.
-fn send_next(first: &mut Producer<Frame>, trips: &[Trip], count: usize) -> usize
+fn send_next(
+    alloc: Global,
+    first: &mut Producer<BoxedFrame>,
+    spare: &mut Vec<BoxedFrame>,
+    trips: &[Trip],
+    count: usize,
+) -> Result<usize, AllocError>
     requires { count ≤ length trips.now }
     ensures ring { SameProducer first.old first.new }
-    ensures few { result ≤ length trips.now }
-    ensures sent { (base : List (List ℕ)) → bytes_in (sent_by first.old) ≡ base ++ take count (bytes_of (map sent_in trips.now)) →
-        bytes_in (sent_by first.new) ≡ base ++ take result (bytes_of (map sent_in trips.now)) }
+    ensures few { IfOk result (λ n. n ≤ length trips.now) }
+    ensures sent { IfOk result (λ n. (base : List (List ℕ)) → bytes_in (sent_by first.old) ≡ base ++ take count (bytes_of (map sent_in trips.now)) →
+        bytes_in (sent_by first.new) ≡ base ++ take n (bytes_of (map sent_in trips.now))) }
 {
     if count == trips.len() {
-        return count;
+        return Ok(count);
     }
-    match first.push(copy_of(&trips[count].frame)) {
-        Ok(()) => count + 1,
-        Err(_) => count,
+    if first.is_full() {
+        return Ok(count);
     }
+    let frame = boxed(alloc, spare, &trips[count].frame)?;
+    first.push_reserved(frame);
+    Ok(count + 1)
 }
 
 /// Lets the thread at a place and others run where nothing was sent.
@@ -42,18 +49,25 @@ fn make_room(seat: Seat<'_>, moved: bool) {
     }
 }
 
-/// Sends all of these frames, as there is room for them, to the thread at a place.
-pub(crate) fn send_all<R: Wait>(rt: &R, first: &mut Producer<Frame>, seat: Seat<'_>, trips: &[Trip])
+/// Sends all of these frames, as there is room for them. The thread at the place behind the ring is woken where there is none, and
+/// else by the caller.
+pub(crate) fn send_all<R: Wait>(
+    rt: &R,
+    alloc: Global,
+    first: &mut Producer<BoxedFrame>,
+    spare: &mut Vec<BoxedFrame>,
+    seat: Seat<'_>,
+    trips: &[Trip],
+) -> Result<(), AllocError>
     ensures ring { SameProducer first.old first.new }
-    ensures sent { bytes_in (sent_by first.new) ≡ bytes_in (sent_by first.old) ++ bytes_of (map sent_in trips.now) }
+    ensures sent { OnOk result (bytes_in (sent_by first.new) ≡ bytes_in (sent_by first.old) ++ bytes_of (map sent_in trips.now)) }
 {
     let mut count = 0;
     for _ in rt.forever() {
         let before = count;
-        count = send_next(first, trips, count);
+        count = send_next(alloc, first, spare, trips, count)?;
         if count == trips.len() {
-            seat.wake();
-            return;
+            return Ok(());
         }
         make_room(seat, count != before);
     }
@@ -62,10 +76,10 @@ pub(crate) fn send_all<R: Wait>(rt: &R, first: &mut Producer<Frame>, seat: Seat<
 
 /// Takes the next frame that comes back, if one is due and there, and judges it; `from` is the number of the first that is due.
 fn take_next(
-    last: &mut Consumer<Frame>,
+    last: &mut Consumer<BoxedFrame>,
     due: &[Trip],
     from: u32,
-    backs: &mut Vec<Frame>,
+    backs: &mut Vec<BoxedFrame>,
 ) -> Option<PlayFault>
     requires few { length backs.old.items ≤ length due.now }
     requires room { length due.now ≤ vec_capacity backs.old }
@@ -74,7 +88,7 @@ fn take_next(
     ensures ring { SameConsumer last.old last.new }
     ensures few { length backs.new.items ≤ length due.now }
     ensures room { vec_capacity backs.new ≡ vec_capacity backs.old }
-    ensures came { (base : List (ArrayVec ℕ)) → received last.old ≡ base ++ backs.old.items → received last.new ≡ base ++ backs.new.items }
+    ensures came { (base : List Boxed) → received last.old ≡ base ++ backs.old.items → received last.new ≡ base ++ backs.new.items }
     ensures fault { result ≡ first_fault from (map sent_in due.now) (bytes_in backs.new.items) }
 {
     let came = backs.len();
@@ -89,10 +103,13 @@ fn take_next(
     fault
 }
 
-/// Sleeps at a place where nothing came.
-fn rest<R: Wait>(rt: &R, own: Seat<'_>, moved: bool) {
+/// Waits at a place for a frame where none came.
+fn rest<R: Wait>(rt: &R, last: &mut Consumer<BoxedFrame>, own: Seat<'_>, moved: bool)
+    ensures ring { SameConsumer last.old last.new }
+    ensures received { received last.new ≡ received last.old }
+{
     if !moved {
-        own.wait(rt);
+        let _over = is_over(rt, last, own);
     }
 }
 
@@ -101,11 +118,11 @@ fn rest<R: Wait>(rt: &R, own: Seat<'_>, moved: bool) {
 pub(crate) fn take_all<R: Wait>(
     rt: &R,
     alloc: Global,
-    last: &mut Consumer<Frame>,
+    last: &mut Consumer<BoxedFrame>,
     own: Seat<'_>,
     due: &[Trip],
     from: u32,
-) -> Result<Vec<Frame>, PlayFault>
+) -> Result<Vec<BoxedFrame>, PlayFault>
     requires number { from + length due.now < 2 ^ 32 }
     ensures ring { SameConsumer last.old last.new }
     ensures came { IfOk result (λ v. received last.new ≡ received last.old ++ v.items) }
@@ -124,16 +141,18 @@ pub(crate) fn take_all<R: Wait>(
         if backs.len() == due.len() {
             return Ok(backs);
         }
-        rest(rt, own, backs.len() != before);
+        rest(rt, last, own, backs.len() != before);
     }
     unreachable!()
 }
 
-/// Takes the frames of a tick as they come back, and tells of them; notes in `came` the inputs that come.
+/// Takes the frames of a tick as they come back, and tells of them; notes in `came` the inputs that come, and keeps the boxes to
+/// spare.
 pub(crate) fn play_tick<R: Wait>(
     rt: &R,
     alloc: Global,
-    last: &mut Consumer<Frame>,
+    last: &mut Consumer<BoxedFrame>,
+    spare: &mut Vec<BoxedFrame>,
     own: Seat<'_>,
     due: &[Trip],
     from: u32,
@@ -150,8 +169,11 @@ pub(crate) fn play_tick<R: Wait>(
         Ok(backs) => backs,
         Err(fault) => return Err(fault),
     };
-    bring(came, backs.as_slice());
-    match row_of(alloc, due, backs.as_slice()) {
+    let Ok(frames) = opened(alloc, spare, backs) else {
+        return Err(PlayFault::OutOfMemory);
+    };
+    bring(came, frames.as_slice());
+    match row_of(alloc, due, frames.as_slice()) {
         Ok(row) => Ok(row),
         Err(_) => Err(PlayFault::OutOfMemory),
     }

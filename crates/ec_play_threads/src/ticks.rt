@@ -10,10 +10,10 @@ ghost use Rattle.ec_play_threads.specs.Frames.{bytes_in, IsFront};
 ghost use Rattle.ec_play_threads.specs.Rounds.{ArePlayed, IsLinePlayed, IsFirstFault};
 
 use crate::ahead::Ahead;
+use crate::boxes::BoxedFrame;
 use crate::rounds::{play_tick, send_all, take_all};
 use crate::seats::Seat;
 use ec_fmmu::Mapping;
-use ec_frames::Frame;
 use ec_play::{PlayFault, Rows, TickRow, image_of, start_trips};
 use ec_slave::Pass;
 use ec_units::Units;
@@ -39,8 +39,9 @@ struct Ticks {
 fn play_ticks<X: Pass, R: Wait>(
     rt: &R,
     alloc: Global,
-    first: &mut Producer<Frame>,
-    last: &mut Consumer<Frame>,
+    first: &mut Producer<BoxedFrame>,
+    last: &mut Consumer<BoxedFrame>,
+    spare: &mut Vec<BoxedFrame>,
     seat: Seat<'_>,
     own: Seat<'_>,
     units: &Units,
@@ -72,7 +73,9 @@ fn play_ticks<X: Pass, R: Wait>(
     let mut ahead = Ahead::new(alloc, start);
     let mut number = start;
     for tick in 0..ticks {
-        let Ok(()) = ahead.send(rt, alloc, first, seat, units, mapping, image, ticks, number) else {
+        let Ok(()) = ahead.send(
+            rt, alloc, first, spare, seat, units, mapping, image, ticks, number,
+        ) else {
             return Err(PlayFault::OutOfMemory);
         };
         let Some(due) = ahead.trips.pop_front() else {
@@ -82,6 +85,7 @@ fn play_ticks<X: Pass, R: Wait>(
             rt,
             alloc,
             last,
+            spare,
             own,
             due.as_slice(),
             number,
@@ -110,8 +114,9 @@ pub(crate) struct Outcome {
 pub(crate) fn play_line<X: Pass, R: Wait>(
     rt: &R,
     alloc: Global,
-    first: &mut Producer<Frame>,
-    last: &mut Consumer<Frame>,
+    first: &mut Producer<BoxedFrame>,
+    last: &mut Consumer<BoxedFrame>,
+    spare: &mut Vec<BoxedFrame>,
     seat: Seat<'_>,
     own: Seat<'_>,
     units: &Units,
@@ -134,14 +139,17 @@ pub(crate) fn play_line<X: Pass, R: Wait>(
     let Ok(starts) = start_trips(alloc, units, mapping) else {
         return Err(PlayFault::OutOfMemory);
     };
-    send_all(rt, first, seat, starts.as_slice());
+    let Ok(()) = send_all(rt, alloc, first, spare, seat, starts.as_slice()) else {
+        return Err(PlayFault::OutOfMemory);
+    };
+    seat.wake();
     match take_all(rt, alloc, last, own, starts.as_slice(), 0) {
         Ok(_) => {}
         Err(fault) => return Err(fault),
     }
     let start = starts.len() as u32;
     let played = play_ticks::<X, R>(
-        rt, alloc, first, last, seat, own, units, mapping, image, ticks, start,
+        rt, alloc, first, last, spare, seat, own, units, mapping, image, ticks, start,
     );
     let Ticks { rows, came } = match played {
         Ok(played) => played,

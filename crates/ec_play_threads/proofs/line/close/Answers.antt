@@ -1,10 +1,9 @@
 use Rattle.std.proofs.Common.{rules, ℕ, List, map, sym, ap, ◌∙◌}
 use Rattle.std.proofs.lemmas.List.{map-append}
 use Rattle.std.specs.declared.thread.PromisedHandle.{PromisedHandle}
-use Rattle.arrayvec.specs.ArrayVec.{ArrayVec}
 use Rattle.rtrb.specs.Ring.{received}
 use Rattle.ec_slave.specs.Journey.{line_outs}
-use Rattle.ec_play_threads.specs.Frames.{bytes_in}
+use Rattle.ec_play_threads.specs.Frames.{Boxed, bytes_in}
 use Rattle.ec_play_threads.specs.declared.carrying.Back.{Back}
 use Rattle.ec_play_threads.specs.declared.carrying.Carried.{Carried}
 use Rattle.ec_play_threads.proofs.LinkLemmas.{linked-from, linked-to, on_ok_map}
@@ -17,7 +16,7 @@ join_all-requires-after_bounds g c κs within =
 
 pub returns-in-Some-clause-frames : goal.returns-in-Some-clause-frames
 returns-in-Some-clause-frames g c =
-    let items : ArrayVec ℕ → List ℕ = λ f. f.items in
+    let items : Boxed → List ℕ = λ f. f.value.items in
     let slave = λ (h : PromisedHandle (Back g.row.X.Denot) (Carried g.row.X.Denot)). h.promise.slave.value in
     let more = c.drain.ensures.more in
     on_ok_map c.join_all.result

@@ -1,8 +1,8 @@
-use Rattle.std.proofs.Common.{◌∙◌, ◌++◌, ◌∷◌, [], ap, sym, refl, subst}
+use Rattle.std.proofs.Common.{◌∙◌, ◌++◌, ◌∷◌, [], ap, sym, subst}
 use Rattle.rtrb.specs.Ends.{SameRing}
 use Rattle.ec_play_threads.specs.Frames.{Link}
 use Rattle.ec_play_threads.specs.declared.carrying.Carried.{Carried}
-use Rattle.ec_play_threads.proofs.LinkLemmas.{same_ring, linked-push, map-push}
+use Rattle.ec_play_threads.proofs.LinkLemmas.{linked-push, map-push}
 use Rattle.ec_play_threads.proofs.line.start_all.Goals as goal
 
 pub loop-slave-preserved : goal.loop-slave-preserved

@@ -1,9 +1,8 @@
-use Rattle.std.proofs.Common.{◌≡◌, ℕ, List, length, map, refl, sym, ap, ◌∙◌, subst}
+use Rattle.std.proofs.Common.{ℕ, List, refl, ap, ◌∙◌, subst}
 use Rattle.std.proofs.lemmas.List.{length-map}
-use Rattle.arrayvec.specs.ArrayVec.{ArrayVec}
 use Rattle.rtrb.specs.Ring.{sent, received}
 use Rattle.ec_slave.specs.Journey.{line_outs, line_finals}
-use Rattle.ec_play_threads.specs.Frames.{bytes_in, IsFront}
+use Rattle.ec_play_threads.specs.Frames.{Boxed, bytes_in, IsFront}
 use Rattle.ec_play_threads.proofs.LinkLemmas.{same_ring-back, linked-from, linked-to}
 use Rattle.ec_play_threads.proofs.JoinLemmas.{all-came, joined, failed}
 use Rattle.ec_play_threads.proofs.playing.play_in.Goals as goal
@@ -24,7 +23,7 @@ returns-in-Ok-outcome g c =
     let m = c.args.mapping.now in
     let image = c.args.image.now in
     let slaves = c.args.slaves.items in
-    let items : ArrayVec ℕ → List ℕ = λ f. f.items in
+    let items : Boxed → List ℕ = λ f. f.value.items in
     let came = bytes_in (received c.play_line-outcome.new.last) in
     let went = bytes_in (sent c.play_line-outcome.new.first) in
     let ours = c.in-Ok-start_all.ensures.slaves in
@@ -36,8 +35,8 @@ returns-in-Ok-outcome g c =
           (e.played slaves whole) refl c.new-in-Ok-outcome.ensures refl (c.in-Ok-close.ensures.slaves ∙ ap (λ ss. line_finals out next ss went) ours) e.went;
     }
 
-pub returns-in-Err-outcome : goal.returns-in-Err-outcome
-returns-in-Err-outcome g c =
+pub returns : goal.returns
+returns g c =
     let out = g.X.Pass.out in
     let next = g.X.Pass.next in
     let slaves = c.args.slaves.items in

@@ -22,7 +22,7 @@ returns-in-Err-clause-fault g c =
     let went_out = bytes_in (sent c.send_all.new.first) in
     let all : map sent_in c.as_slice.result.now ≡ start_sents us m = ap (map sent_in) c.as_slice.ensures.value ∙ c.in-Ok.ensures.sents in
     let due : map sent_in c.as_slice-2.result.now ≡ start_sents us m = ap (map sent_in) c.as_slice-2.ensures.value ∙ c.in-Ok.ensures.sents in
-    let went : went_out ≡ bytes_of (start_sents us m) = c.send_all.ensures.sent ∙ (λ i. bytes_in (c.requires.new.0 i) ++ bytes_of (all i)) in
+    let went : went_out ≡ bytes_of (start_sents us m) = c.in-Ok-send_all.ensures.sent ∙ (λ i. bytes_in (c.requires.new.0 i) ++ bytes_of (all i)) in
     either c.in-Err.ensures.fault
     (λ r. λ slaves front.
     start-stopped g.X.Pass.out g.X.Pass.next us m c.args.image.now slaves c.args.ticks went_out old new c.in-Err.fault (ap bytes_in c.requires.new.1) went

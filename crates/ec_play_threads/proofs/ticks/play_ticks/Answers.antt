@@ -1,6 +1,5 @@
 use Rattle.std.proofs.Common.{rules, ◌≡◌, ℕ, ◌+◌, List, [], ◌++◌, get_or, length, length-append, map, refl, sym, ap, ◌∙◌, subst, arith, append-nil}
 use Rattle.std.proofs.lemmas.List.{length-drop, length-map, length-replicate, get_or-replicate}
-use Rattle.arrayvec.specs.ArrayVec.{ArrayVec}
 use Rattle.rtrb.specs.Ring.{sent, received}
 use Rattle.ec_slave.proofs.StepLemmas.{rewritten}
 use Rattle.ec_play.specs.declared.rows.TickRow.{TickRow}
@@ -8,7 +7,7 @@ use Rattle.ec_play.specs.Sent.{Sent, start_sents, tick_sents, all_sents}
 use Rattle.ec_play.specs.Lines.{came_back}
 use Rattle.ec_play.specs.Trips.{sent_in}
 use Rattle.ec_play.proofs.TickLemmas.{number-more, either}
-use Rattle.ec_play_threads.specs.Frames.{bytes_in}
+use Rattle.ec_play_threads.specs.Frames.{Boxed, bytes_in}
 use Rattle.ec_play_threads.specs.declared.ahead.Ahead.{Ahead}
 use Rattle.ec_play_threads.specs.Rounds.{IsRound, IsStopped, ArePlayed}
 use Rattle.ec_play_threads.proofs.LinkLemmas.{same_ring-trans}
@@ -57,7 +56,7 @@ returns-in-Err-clause-fault g c =
     let m = c.args.mapping.now in
     let image = c.args.image.now in
     let inv = c.loop-tick.invariant in
-    let items : ArrayVec ℕ → List ℕ = λ f. f.items in
+    let items : Boxed → List ℕ = λ f. f.value.items in
     let n = c.loop-tick.number in
     let t = c.loop-tick.tick in
     let old = bytes_in (received c.loop-tick.last) in
@@ -86,7 +85,7 @@ loop-tick-preserved g c =
     let n = c.loop-tick.number in
     let inv = c.loop-tick.invariant in
     let e = c.in-Ok-play_tick.ensures in
-    let items : ArrayVec ℕ → List ℕ = λ f. f.items in
+    let items : Boxed → List ℕ = λ f. f.value.items in
     let starts = start_sents us m in
     let own = tick_sents us m image t in
     let old = bytes_in (received c.loop-tick.last) in

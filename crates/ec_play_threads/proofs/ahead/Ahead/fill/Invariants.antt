@@ -2,7 +2,7 @@ use Rattle.std.proofs.Common.{◌<◌, ◌+◌, ◌*◌, ◌-◌, ◌≤◌, ℕ
 use Rattle.rtrb.specs.Ring.{sent, SameProducer}
 use Rattle.ec_play_threads.specs.Frames.{bytes_in}
 use Rattle.ec_play_threads.specs.Windows.{IsAhead}
-use Rattle.ec_play_threads.proofs.ahead.Ahead.send.Given as goal
+use Rattle.ec_play_threads.proofs.ahead.Ahead.fill.Given as goal
 
 abbrev pub invariant-loop-self : goal.invariant-loop-self
 invariant-loop-self g l = record {
