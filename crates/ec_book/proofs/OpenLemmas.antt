@@ -1,13 +1,13 @@
 -- The walk that collects the places of open leaves.
 -- `opened_first` gives the children of the path's prefix. A path that is pushed, walked and popped goes by `path_back`,
 -- with `c.pop.ensures.rest`, and `vec.ok.0` for the length.
-use Rattle.std.proofs.Common.{◌≡◌, ℕ, ◌+◌, ◌-◌, ◌<◌, ◌≤◌, List, [], ◌∷◌, ◌++◌, length, take, drop, get_or, Vec, Global, Option, refl, ap, sym, ◌∙◌, arith}
+use Rattle.std.proofs.Common.{◌≡◌, ℕ, ◌+◌, ◌-◌, ◌<◌, ◌≤◌, List, [], ◌∷◌, ◌++◌, length, take, drop, set, get_or, Vec, Global, Option, Some, refl, ap, sym, ◌∙◌, arith}
 use Rattle.std.proofs.lemmas.List.{drop_more, drop_all}
 use Rattle.ec_units.specs.declared.slave.Place.{Place}
 use Rattle.ec_units.specs.declared.unit.Load.{Load}
 use Rattle.ec_loads.specs.Line.{Line}
-use Rattle.ec_loads.specs.Search.{children}
-use Rattle.ec_loads.specs.Shape.{Shape, split, more}
+use Rattle.ec_loads.specs.Search.{Prefix, children, open_count, open_counts}
+use Rattle.ec_loads.specs.Shape.{Shape, Shapes, split, leaf, open_leaf, no_shapes, more}
 use Rattle.ec_cert.specs.declared.tree.Tree.{Tree}
 use Rattle.ec_cert.specs.Shapes.{shape_of, shapes_of}
 use Rattle.ec_cert.proofs.TreeLemmas.{shapes_of-drop}
@@ -91,3 +91,17 @@ pub added : (line : Line) (order : List ℕ) (t : Shape) (q : List Place) (known
 added line order t q known n old new are (v, is, count, stand) =
     let these : v.items ≡ open_places line order t q = rw is at are in
     (count ∙ ap length these, stand ∙ ap (λ w. old ++ w) these)
+
+-- a tree with no open leaf has none
+mutual
+  pub closed_places : (line : Line) (t : Shape) (ps : Prefix) (order : List ℕ) (q : List Place) → open_count t ≡ 0 → leaf_places line t ps order q ≡ []
+  closed_places line (split ts) ps [] q none = refl
+  closed_places line (split ts) ps (u ∷ order) q none = all_closed_places line ts ps u order q (children line ps u) none
+  closed_places line (leaf l) ps order q none = refl
+  closed_places line open_leaf ps order q none = absurd (omega (arith, none))
+
+  all_closed_places : (line : Line) (ts : Shapes) (ps : Prefix) (u : ℕ) (order : List ℕ) (q : List Place) (places : List Place) → open_counts ts ≡ 0 → all_leaf_places line ts ps u order q places ≡ []
+  all_closed_places line no_shapes ps u order q places none = refl
+  all_closed_places line (more t ts) ps u order q [] none = refl
+  all_closed_places line (more t ts) ps u order q (p ∷ rest) none =
+      (λ j. closed_places line t (set ps u (Some p)) order (q ++ p ∷ []) (omega (arith, none)) j ++ all_closed_places line ts ps u order q rest (omega (arith, none)) j)

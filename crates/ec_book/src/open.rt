@@ -7,15 +7,15 @@ ghost use Rattle.ec_symmetry.specs.Orders.{IsOrder};
 ghost use Rattle.ec_symmetry.specs.Ruled.{line_rules};
 ghost use Rattle.ec_book.specs.Open.{open_places};
 
-use crate::tree::is_closed_leaf;
-use ec_cert::Tree;
+use ec_cert::{Tree, is_closed};
 use ec_loads::{Loads, Places};
 use ec_symmetry::{Rules, next_children};
 use ec_units::Place;
 use std::alloc::{AllocError, Global};
 
 /// Adds the places that lead to each open leaf of a tree by these rules, in preorder, where `path` leads to the tree. The path is
-/// as before afterwards. Each node is visited once, and no recursion is deeper than the order is long.
+/// as before afterwards. The places of children are asked for only where a leaf below is open. No recursion is deeper than the
+/// order is long.
 pub(crate) fn add_open(
     loads: &Loads,
     order: &[u8],
@@ -41,7 +41,7 @@ pub(crate) fn add_open(
                 let Some(place) = places.next() else {
                     return Ok(());
                 };
-                if !is_closed_leaf(&trees[i]) {
+                if !is_closed(&trees[i]) {
                     path.push(place)?;
                     add_open(loads, order, rules, &trees[i], path, out)?;
                     path.pop();

@@ -11,7 +11,7 @@ use ec_cert::Tree;
 use std::mem;
 
 /// Whether a tree is a leaf that is closed.
-pub(crate) fn is_closed_leaf(tree: &Tree) -> bool
+fn is_closed_leaf(tree: &Tree) -> bool
     ensures { IsTrue result ↔ ((l : Leaf) × (shape_of tree.now ≡ leaf l)) }
 {
     match tree {

@@ -6,8 +6,8 @@ use Rattle.ec_symmetry.specs.Orders.{prefix_of}
 use Rattle.ec_symmetry.specs.Ruled.{line_rules}
 use Rattle.ec_book.specs.Open.{leaf_places, open_places}
 use Rattle.ec_book.proofs.DrawLemmas.{shape_of-OpenLeaf}
-use Rattle.ec_book.proofs.OpenLemmas.{opened_from, opened_all, opened_short, opened_first, split_opened, child_opened, opened_end, no_kids, append_none, opened_step, path_back}
-use Rattle.ec_book.proofs.open.+add_open.Goals.{then-not-is_closed_leaf+in_ok-push-in-Split+in_ok-add_open-in-Split, else-not-is_closed_leaf}
+use Rattle.ec_book.proofs.OpenLemmas.{closed_places, opened_from, opened_all, opened_short, opened_first, split_opened, child_opened, opened_end, no_kids, append_none, opened_step, path_back}
+use Rattle.ec_book.proofs.open.+add_open.Goals.{then-not-is_closed+in_ok-push-in-Split+in_ok-add_open-in-Split, else-not-is_closed}
 use Rattle.ec_book.proofs.open.+add_open.Goals as goal
 
 pub returns-then-len-order-clause-out : goal.returns-then-len-order-clause-out
@@ -80,25 +80,25 @@ loop-i-preserved t c =
     let all = opened_from line order (drop i ts) u q c.loop-i.places in
     let whole = c.args.out.now.items ++ opened_all line order ts u q in
     let within : i < length ts = omega (arith, c.loop-i-test.true, c.len-i-end.ensures) in
-    elim c.if-not-is_closed_leaf.branch [
-      | then-not-is_closed_leaf+in_ok-push-in-Split+in_ok-add_open-in-Split w ↦
+    elim c.if-not-is_closed.branch [
+      | then-not-is_closed+in_ok-push-in-Split+in_ok-add_open-in-Split w ↦
           let longer : w.push.new.self.items ≡ q ++ p ∷ [] = w.in_ok-push-in-Split.ensures.items ∙ ap (λ v. v ++ p ∷ []) c.loop-i.invariant.path in
-          let x = w.index-then-not-is_closed_leaf.result.now in
-          let child = child_opened line order ts u q c.loop-i.places c.next.new.self p i x short at within w.index-then-not-is_closed_leaf.ensures c.in-Some.ensures.steps in
+          let x = w.index-then-not-is_closed.result.now in
+          let child = child_opened line order ts u q c.loop-i.places c.next.new.self p i x short at within w.index-then-not-is_closed.ensures c.in-Some.ensures.steps in
           let made = w.in_ok-add_open-in-Split.ensures.out ∙ ap (λ v. c.loop-i.out.items ++ open_places line order (shape_of x) v) longer in
           record {
             path = (λ j. (w.path-is j).items) ∙ path_back q w.add_open.new.path.items w.pop.new.self.items p (vec_len w.add_open.new.path) (w.in_ok-add_open-in-Split.ensures.path ∙ longer) (omega (arith, w.add_open.new.path.ok.0)) w.pop.ensures.rest;
             out = (λ j. (w.out-is j).items ++ rest) ∙ opened_step c.loop-i.out.items w.add_open.new.out.items (open_places line order (shape_of x) (q ++ p ∷ [])) rest all whole made child c.loop-i.invariant.out;
           }
-      | else-not-is_closed_leaf w ↦
+      | else-not-is_closed w ↦
           let x = c.index.result.now in
-          let closed = w.if-not-is_closed_leaf.ensures.0 (search rules) in
+          let closed = w.if-not-is_closed.ensures.0 (search rules) in
           let child = child_opened line order ts u q c.loop-i.places c.next.new.self p i x short at within c.index.ensures c.in-Some.ensures.steps in
           record {
             path = (λ j. (w.path-is j).items) ∙ c.loop-i.invariant.path;
             out =
                 (λ j. (w.out-is j).items ++ rest)
-                ∙ opened_step c.loop-i.out.items c.loop-i.out.items [] rest all whole (sym (append_none c.loop-i.out.items)) (child ∙ ap (λ s. open_places line order s (q ++ p ∷ []) ++ rest) closed.1) c.loop-i.invariant.out;
+                ∙ opened_step c.loop-i.out.items c.loop-i.out.items [] rest all whole (sym (append_none c.loop-i.out.items)) (child ∙ ap (λ v. v ++ rest) (closed_places line (shape_of x) (prefix_of loads.loads order (q ++ p ∷ [])) (drop (length (q ++ p ∷ [])) order) (q ++ p ∷ []) closed)) c.loop-i.invariant.out;
           }
     ]
 
