@@ -63,12 +63,11 @@ impl<'a> Seat<'a> {
         }
     }
 
-    /// Wakes the thread where it says that it sleeps. What it is to see was done before.
+    /// Wakes the thread where it says that it sleeps. What it is to see was done before. Both exchange what the place says, so
+    /// that either the thread sees that, or this sees that it sleeps; a load alone may come before a store that was done earlier.
     pub(crate) fn wake(self) {
         if let Some(place) = self.places.get(self.at) {
-            if place.state.load(Ordering::SeqCst) == ASLEEP
-                && place.state.swap(AWAKE, Ordering::SeqCst) == ASLEEP
-            {
+            if place.state.swap(AWAKE, Ordering::SeqCst) == ASLEEP {
                 place.parker.unpark();
             }
         }
@@ -77,7 +76,7 @@ impl<'a> Seat<'a> {
     /// Says whether the thread sleeps. After it has said so it looks once more before it does.
     fn say(self, state: u64) {
         if let Some(place) = self.places.get(self.at) {
-            place.state.store(state, Ordering::SeqCst);
+            let _was = place.state.swap(state, Ordering::SeqCst);
         }
     }
 
