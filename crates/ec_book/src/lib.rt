@@ -18,7 +18,9 @@ mod tree;
 pub use book::{Book, Finished};
 pub use counted::Counted;
 pub use fault::BookFault;
-pub use law::{done_is_spent, empty_logs_spend_nothing, histories_replay, trees_fall};
+pub use law::{
+    law_done_is_spent, law_empty_logs_spend_nothing, law_histories_replay, law_trees_fall,
+};
 pub use ours::is_of_part;
 pub use piece::Piece;
 pub use step::{Step, Steps};

@@ -14,8 +14,8 @@ pub use bound::{average_bound, average_level, full_bound, tick_bound};
 pub use counted::count_bound;
 pub use grouped::groups_bound;
 pub use law::{
-    counted_units_bound, leaves_bound, leaves_fall, new_groups_bound, raw_at_most_cost,
-    room_suffices, rooms_fall,
+    law_counted_units_bound, law_leaves_bound, law_leaves_fall, law_new_groups_bound,
+    law_raw_at_most_cost, law_room_suffices, law_rooms_fall,
 };
 pub use merged::merge_bound;
 pub use rest::Rest;

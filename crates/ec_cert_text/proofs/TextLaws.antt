@@ -199,7 +199,7 @@ body_again c f =
     rw first (parts_again 2 c f)
 
 -- certificates with one text are one certificate
-pub one_text_each : (a b : CertView) → IsWellFormed a → IsWellFormed b → certificate_text a ≡ certificate_text b → a ≡ b
-one_text_each a b f g e =
+pub law_one_text_each : (a b : CertView) → IsWellFormed a → IsWellFormed b → certificate_text a ≡ certificate_text b → a ≡ b
+law_one_text_each a b f g e =
     let read : body (certificate_text a) ≡ Ok b = ap body e ∙ body_again b g in
     cc (body_again a f, read)

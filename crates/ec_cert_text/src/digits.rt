@@ -6,8 +6,8 @@ ghost use Rattle.ec_cert.specs.WellFormed.{IsUnitLine};
 ghost use Rattle.ec_cert_text.specs.Text.{unit_line as unit_line_spec, pair_words as pair_words_spec};
 
 use ec_cert::UnitLine;
-use ec_digits::{LineText, push_bytes, push_number};
 use ec_loads::Pair;
+use ec_text_line::{LineText, push_bytes, push_number};
 
 /// A space and a number.
 pub(crate) fn number_word(number: usize) -> LineText

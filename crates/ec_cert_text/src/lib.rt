@@ -18,6 +18,6 @@ mod words;
 mod writing;
 
 pub use fault::CertFault;
-pub use law::{faults_stay, fronts_are_early, one_text_each};
+pub use law::{law_faults_stay, law_fronts_are_early, law_one_text_each};
 pub use reading::{MOST_BYTES, read_cert};
 pub use writing::write_cert;

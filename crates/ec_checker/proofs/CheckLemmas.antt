@@ -1,5 +1,5 @@
 -- From what is found in a certificate to what the checker answers.
--- `refutes` and `plan_refutes` also serve `ec_jobs` (`OneCheck`), where each certificate has one answer.
+-- `refutes` and `plan_refutes` also serve `ec_cli_run` (`OneCheck`), where each certificate has one answer.
 use Rattle.std.proofs.Common.{◌≡◌, ℕ, List, length, Option, Some, None, Result, Ok, Err, refl, sym, subst, ◌∙◌, ◌<◌, arith}
 use Rattle.std.proofs.lemmas.List.{length-map}
 use Rattle.ec_units.specs.declared.unit.Unit.{Unit as SyncUnit}

@@ -20,7 +20,7 @@ use ec_bounds::Rest;
 use ec_cert::Cert;
 use ec_loads::Loads;
 use ec_symmetry::Rules;
-use ec_tree::{levels_bound, trees_bound};
+use ec_tree::{law_levels_bound, law_trees_bound};
 use ec_units::Units;
 use std::alloc::Global;
 
@@ -86,8 +86,8 @@ pub fn check_in(loads: &mut Loads, units: &Units, cert: &Cert) -> Result<Verdict
     // Memory is never what is wanting.
     ensures memory { result ≢ Err OutOfMemory }
 {
-    trees_bound();
-    levels_bound();
+    law_trees_bound();
+    law_levels_bound();
     if !is_for(units, cert) {
         return Err(CheckFault::OtherUnits);
     }

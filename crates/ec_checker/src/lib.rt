@@ -14,5 +14,5 @@ mod walk;
 pub use checking::{check, check_in, rules_for};
 pub use ec_symmetry::Rules;
 pub use fault::{CheckFault, Verdict};
-pub use law::faults_refute;
+pub use law::law_faults_refute;
 pub use shown::{level, level_in};

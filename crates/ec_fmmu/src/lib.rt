@@ -11,6 +11,6 @@ mod seat;
 
 pub use fmmu::{Fmmu, Fmmus, fmmu_bytes};
 pub use group::{Group, Groups};
-pub use law::addresses_in_order;
+pub use law::law_addresses_in_order;
 pub use mapping::{Mapping, layout};
 pub use seat::{FIRST_ADDRESS, Key, Seat, expected};

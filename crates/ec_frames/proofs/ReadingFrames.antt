@@ -184,5 +184,5 @@ pub fault_is : (frame : List ℕ) (f : FrameFault) → (frame_read frame ≡ Err
 fault_is frame f = (fault_found frame f, fault_reads frame f)
 
 -- one reading at most
-pub one_reading : (frame : List ℕ) (ds es : List Entry) → ReadsAs frame ds → ReadsAs frame es → ds ≡ es
-one_reading frame ds es a b = same_ok (frame_read frame) ds es (reads frame ds a) (reads frame es b)
+pub law_one_reading : (frame : List ℕ) (ds es : List Entry) → ReadsAs frame ds → ReadsAs frame es → ds ≡ es
+law_one_reading frame ds es a b = same_ok (frame_read frame) ds es (reads frame ds a) (reads frame es b)

@@ -1,7 +1,7 @@
 -- What is written is read again.
 -- The round trip is proved field by field of the relation, with no decoding: a lemma for each field, by
 -- `little_number-reads_back`, `take_at` and `drop_at`; then an induction over the datagrams, with the rest of the list
--- as what follows. That nothing else is read follows from `one_reading`.
+-- as what follows. That nothing else is read follows from `law_one_reading`.
 use Rattle.std.proofs.Common.{◌≡◌, ◌≢◌, ℕ, suc, ◌+◌, ◌-◌, ◌/◌, ◌%◌, ◌^◌, ◌<◌, ◌≤◌, max, Bool, true, false, ◌==◌, List, [], ◌∷◌, ◌++◌, length, take, drop, replicate, slice_index, sum_by, Some, refl, ap, sym, ◌∙◌, arith, length-drop, length-append, append_assoc, All}
 use Rattle.std.proofs.lemmas.List.{take_at, drop_at, drop-drop, length-replicate, length-take-le}
 use Rattle.std.proofs.lemmas.List.Sums.{sum_by-cons}
@@ -14,7 +14,7 @@ use Rattle.ec_frames.specs.Table.{command_with}
 use Rattle.ec_frames.specs.Written.{code_in, length_word, datagram_bytes, datagrams_bytes, more_than_none, total_of, ethernet_header, padded, written, AreBuildable}
 use Rattle.ec_frames.specs.Reading.{Entry, word_at, size_at, BeginsWith, AreDatagrams, header_at, length_at, type_at, payload_of, ReadsAs}
 use Rattle.ec_frames.specs.RoundTrip.{read_back, IsReadBack}
-use Rattle.ec_frames.proofs.ReadingFrames.{one_reading}
+use Rattle.ec_frames.proofs.ReadingFrames.{law_one_reading}
 
 code_again : (c : Command) → command_with (code_in c) ≡ Some c
 code_again command.Nop = refl
@@ -204,4 +204,4 @@ written_reads ds bytes buildable wide sum =
 pub read_again : (ds : List Datagram) (bytes : List ℕ) → AreBuildable ds → All (λ d. d.address < 2 ^ 32) ds → sum_by (λ d. d.len) ds ≡ length bytes → IsReadBack ds bytes
 read_again ds bytes buildable wide sum =
     let reads = written_reads ds bytes buildable wide sum in
-    (reads, λ es h. one_reading (written ds bytes) es (read_back 0 ds bytes) h reads)
+    (reads, λ es h. law_one_reading (written ds bytes) es (read_back 0 ds bytes) h reads)

@@ -6,12 +6,12 @@ ghost use Rattle.ec_frames.specs.Written.{AreBuildable};
 
 /// The frame of datagrams is read as the same datagrams, with indexes 0, 1, .. and every other field 0,
 /// and no other reading of its bytes exists.
-pub fn written_is_read()
+pub fn law_written_is_read()
     ensures { (ds : List Datagram) (bytes : List ℕ) → AreBuildable ds → All (λ d. d.address < 2 ^ 32) ds
         → sum_by (λ d. d.len) ds ≡ length bytes → IsReadBack ds bytes }
 {}
 
 /// No bytes are read in two ways.
-pub fn one_reading()
+pub fn law_one_reading()
     ensures { (frame : List ℕ) (ds es : List Entry) → ReadsAs frame ds → ReadsAs frame es → ds ≡ es }
 {}

@@ -11,6 +11,6 @@ mod writing;
 pub use command::{
     AddressKind, Command, address_kind, code_of, command_of, name_of, reads, writes,
 };
-pub use laws::{one_reading, written_is_read};
+pub use laws::{law_one_reading, law_written_is_read};
 pub use reading::{FrameFault, Parsed, View, Views, datagrams, parse};
 pub use writing::{BuildFault, Datagram, Frame, build};

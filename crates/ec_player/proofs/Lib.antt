@@ -1,4 +1,6 @@
-pub mod GoingLemmas
-pub mod FrameLemmas
-pub mod WithinLemmas
-pub mod StartLemmas
+pub mod FrameReading
+pub mod ReplyLemmas
+pub mod TripLemmas
+pub mod LineLemmas
+pub mod TickLemmas
+pub mod ImageLemmas

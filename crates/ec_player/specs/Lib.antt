@@ -1,4 +1,7 @@
-pub mod Frames
-pub mod Within
-pub mod Start
-pub mod Examples
+pub mod Sent
+pub mod Trips
+pub mod Faults
+pub mod Images
+pub mod Lines
+pub mod Rows
+pub mod Plays

@@ -1,10 +1,19 @@
-//! The frames that carry a plan over the wire: those that are sent before the first tick, and in each tick one for each slot that
-//! carries something.
+//! A plan is played: start frames and the frames of each tick go through a line of slaves, and each frame that comes back is judged
+//! (own profile, after ETG.1000.4, clause 5.4).
 #![tactic(auto)]
 
-mod frames;
-mod image;
-mod start;
+mod faults;
+mod images;
+mod journeys;
+mod judging;
+mod playing;
+mod rows;
+mod trips;
 
-pub use frames::{busy_slots, tick_frames};
-pub use start::start_frames;
+pub use ec_outcome::PlayFault;
+pub use faults::{Stage, Wrong};
+pub use images::{bring, image_of};
+pub use journeys::judge_trip;
+pub use playing::{Played, play_plain, row_of};
+pub use rows::{Counters, Rows, TickRow};
+pub use trips::{Trip, copy_of, start_trips, tick_trips};

@@ -14,6 +14,6 @@ mod slave;
 mod stretch;
 
 pub use fmmu::{Direction, Fmmu, Fmmus};
-pub use laws::{mapped_bytes, same_journey, what_passes};
+pub use laws::{law_mapped_bytes, law_same_journey, law_what_passes};
 pub use request::Request;
 pub use slave::{Pass, SlaveBox};

@@ -11,8 +11,8 @@ mod turn;
 
 pub use child::{Children, children_of, choices};
 pub use law::{
-    every_plan_is_reached, every_plan_is_reached_by, slots_have_no_gap, slots_merge,
-    strong_children_reach,
+    law_every_plan_is_reached, law_every_plan_is_reached_by, law_slots_have_no_gap,
+    law_slots_merge, law_strong_children_reach,
 };
 pub use rename::canonical;
 pub use rules::{Rules, children_after_last, children_by, next_children};

@@ -3,4 +3,4 @@
 
 mod law;
 
-pub use law::{levels_bound, trees_bound};
+pub use law::{law_levels_bound, law_trees_bound};

@@ -11,5 +11,5 @@ mod table;
 mod walk;
 
 pub use fault::{Key, Spot, UnitFault};
-pub use law::faults_in_order;
+pub use law::law_faults_in_order;
 pub use read::read_units;

@@ -33,7 +33,7 @@ use Rattle.ec_book.specs.Books.{IsBookOf}
 use Rattle.ec_book.specs.Finishing.{GrowsFrom, IsFinishedOf}
 use Rattle.ec_book.specs.Parts.{LeavesOthers, ClosesPart}
 use Rattle.ec_book.specs.declared.book.Finished.{Finished}
-use Rattle.ec_crew.specs.Crews.{IsCrewed}
+use Rattle.ec_search_threads.specs.Crews.{IsCrewed}
 use Rattle.std.specs.Prelude.{nat_lt, true, false}
 use Rattle.ec_workers.specs.Answers.{is_strong, Asked, asked_beyond, GoesBeyond, HasCut, IsCut, IsUnproved, IsOutcome, KeepsToPart, tree_in, value_in}
 use Rattle.ec_outcome.specs.Searched.{searched_by}

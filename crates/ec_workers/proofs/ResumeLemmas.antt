@@ -27,8 +27,8 @@ use Rattle.ec_checker.specs.Certified.{IsShown}
 use Rattle.ec_checker.proofs.HeadLemmas.{order_ready}
 use Rattle.ec_book.specs.Finishing.{GrowsFrom}
 use Rattle.ec_book.specs.declared.book.Finished.{Finished}
-use Rattle.ec_crew.specs.Crews.{IsCrewed}
-use Rattle.ec_crew.proofs.TieLemmas.{least-at, at_most-best}
+use Rattle.ec_search_threads.specs.Crews.{IsCrewed}
+use Rattle.ec_search_threads.proofs.TieLemmas.{least-at, at_most-best}
 use Rattle.ec_outcome.specs.declared.search.Outcome.{Outcome}
 use Rattle.ec_outcome.specs.declared.search.Outcome.TheVariants as outcome
 use Rattle.ec_outcome.specs.declared.search.SolveFault.{SolveFault}

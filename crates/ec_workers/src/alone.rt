@@ -10,7 +10,7 @@ ghost use Rattle.ec_workers.specs.Desks.{IsClear};
 use crate::desk::Desk;
 use crate::turn::{ALONE, Turn, take_turn};
 use ec_book::{Book, Taken, Took};
-use ec_crew::{Ended, Gate};
+use ec_search_threads::{Ended, Gate};
 use ec_units::Units;
 use std::alloc::Global;
 use std::sync::Wait;

@@ -16,8 +16,8 @@ mod watch;
 
 pub use begin::rules_by;
 pub use certify::lines_of;
-pub use ec_crew::{Gate, Quiet};
 pub use ec_outcome::{Cut, Outcome, SolveFault};
+pub use ec_search_threads::{Gate, Quiet};
 pub use resuming::solve_from;
 pub use solving::solve;
 pub use unfinished::partial;

@@ -9,7 +9,7 @@ ghost use Rattle.ec_cert.specs.BestPlan.{value_of};
 ghost use Rattle.ec_cert.specs.Parts.{IsPart};
 ghost use Rattle.ec_cert.specs.Shapes.{cert_view, shape_of};
 ghost use Rattle.ec_book.specs.Books.{IsBookOf, IsSameSearch};
-ghost use Rattle.ec_crew.specs.declared.ended.Ended.TheVariants.{Time as EndedTime};
+ghost use Rattle.ec_search_threads.specs.declared.ended.Ended.TheVariants.{Time as EndedTime};
 ghost use Rattle.ec_workers.specs.Answers.{Asked, asked_beyond, asked_for, GoesBeyond, HasCut, HasOrder, HasRules, HasSearchOrder, IsOutcome, is_strong as strong_spec, KeepsToPart, tree_in, value_in};
 ghost use Rattle.ec_outcome.specs.Searched.{searched_by};
 ghost use Rattle.ec_workers.specs.Outcomes.{IsFound, IsPartialCert};
@@ -25,10 +25,10 @@ use crate::room::{Room, copied};
 use crate::turn::offer;
 use ec_book::{Book, Finished};
 use ec_cert::{Best, Cert, Order, Part, Tree};
-use ec_checker::faults_refute;
-use ec_crew::{Ended, Gate, opening_plan};
+use ec_checker::law_faults_refute;
 use ec_outcome::{Cut, Outcome, SolveFault};
-use ec_tree::trees_bound;
+use ec_search_threads::{Ended, Gate, opening_plan};
+use ec_tree::law_trees_bound;
 use ec_units::Units;
 use std::alloc::Global;
 use std::sync::Wait;
@@ -100,8 +100,8 @@ pub(crate) fn proved(
     ensures order { HasOrder order result }
     ensures uncut { (why : Cut) → ¬ (HasCut why result) }
 {
-    faults_refute();
-    trees_bound();
+    law_faults_refute();
+    law_trees_bound();
     let Room { lines, places } = room;
     let Some(best) = best else {
         let cert = certificate(strong, units.slots, lines, order, None, tree);

@@ -10,9 +10,9 @@ ghost use Rattle.ec_workers.specs.Outcomes.{IsPartialCert};
 use crate::crewed::resume_by_crew;
 use crate::planning::resume_alone;
 use ec_cert::{Cert, Part, is_closed};
-use ec_crew::Gate;
 use ec_outcome::{Outcome, SolveFault};
-use ec_tree::levels_bound;
+use ec_search_threads::Gate;
+use ec_tree::law_levels_bound;
 use ec_units::Units;
 use std::alloc::Global;
 use std::sync::Wait;
@@ -55,7 +55,7 @@ pub fn solve_from<R: Threads + Wait + Sync, G: Gate + Sync>(
     ensures order { IfOk result (HasOrder cert.order) }
     ensures rules { IfOk result (HasRules (is_strong (cert_view cert))) }
 {
-    levels_bound();
+    law_levels_bound();
     if workers == 1 || is_closed(&cert.tree) {
         return resume_alone(rt, alloc, units, cert, part, nodes, gate);
     }

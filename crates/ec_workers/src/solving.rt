@@ -7,8 +7,8 @@ ghost use Rattle.ec_workers.specs.Answers.{asked_for, GoesBeyond, HasRules, HasS
 
 use crate::crewed::solve_by_crew;
 use crate::planning::solve_alone;
-use ec_crew::Gate;
 use ec_outcome::{Outcome, SolveFault};
+use ec_search_threads::Gate;
 use ec_units::Units;
 use std::alloc::Global;
 use std::sync::Wait;

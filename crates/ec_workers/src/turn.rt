@@ -9,7 +9,7 @@ ghost use Rattle.ec_cert.specs.Shapes.{shape_of};
 ghost use Rattle.ec_book.specs.Books.{IsBookOf, IsSameSearch};
 ghost use Rattle.ec_workers.specs.Desks.{IsClear};
 ghost use Rattle.ec_workers.specs.Turns.{IsLowered, FindsLower};
-ghost use Rattle.ec_crew.specs.declared.ended.Ended.{Ended};
+ghost use Rattle.ec_search_threads.specs.declared.ended.Ended.{Ended};
 ghost use Rattle.ec_workers.specs.declared.turn.Turn.TheVariants.{Stopped};
 
 use crate::desk::Desk;
@@ -17,8 +17,8 @@ use crate::watch::Watch;
 use ec_book::{Book, BookFault, Took};
 use ec_branch::explore_in;
 use ec_cert::Subtree;
-use ec_crew::{Ended, Gate, has_nodes};
 use ec_loads::Plan;
+use ec_search_threads::{Ended, Gate, has_nodes};
 use ec_units::Units;
 use std::alloc::Global;
 

@@ -15,7 +15,7 @@ ghost use Rattle.ec_outcome.specs.Searched.{searched_by};
 ghost use Rattle.ec_workers.specs.Outcomes.{partial_for, partial_version as version_spec, Shows};
 
 use ec_cert::{Best, Cert, Order, Tree, UnitLines};
-use ec_checker::faults_refute;
+use ec_checker::law_faults_refute;
 use ec_units::Units;
 
 /// The version of the certificate of a search that ended without a proof.
@@ -46,7 +46,7 @@ pub fn partial(
     ensures cert { cert_view result ≡ partial_for units.now.units units.now.slots strong order best level (shape_of tree) }
     ensures shows { Shows units.now.units units.now.slots (cert_view result) (AtLeast level) }
 {
-    faults_refute();
+    law_faults_refute();
     Cert {
         version: partial_version(strong),
         slots: units.slots,

@@ -4,11 +4,11 @@ ghost use Rattle.std.specs.Prelude.{◌≡◌, None};
 ghost use Rattle.std.specs.Option.{ForSome};
 ghost use Rattle.ec_units.specs.Load.{loads_of};
 ghost use Rattle.ec_loads.specs.Legal.{IsLegal};
-ghost use Rattle.ec_crew.specs.Turns.{IsTied};
+ghost use Rattle.ec_search_threads.specs.Turns.{IsTied};
 
 use ec_branch::Guide;
-use ec_crew::{Gate, copy_of};
 use ec_loads::Plan;
+use ec_search_threads::{Gate, copy_of};
 use ec_units::Units;
 use std::alloc::Global;
 

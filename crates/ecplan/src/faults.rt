@@ -2,7 +2,7 @@
 
 use crate::targets::Target;
 use crate::telling::{tell_path, tell_reason};
-use ec_files::{Content, FileFault, KeepReason};
+use ec_cli_files::{Content, FileFault, KeepReason};
 use std::alloc::{AllocError, Global};
 use std::io;
 

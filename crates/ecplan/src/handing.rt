@@ -3,12 +3,12 @@
 use crate::after::no_memory;
 use crate::faults::tell_fault;
 use crate::targets::{Target, targets_of};
-use ec_answers::Told;
 use ec_checker::Verdict;
-use ec_command::Line;
-use ec_files::{Content, write_whole};
-use ec_handover::{Claim, header_of, map_of, report_of};
+use ec_cli_answers::Told;
+use ec_cli_command::Line;
+use ec_cli_files::{Content, write_whole};
 use ec_loads::{Plan, is_legal};
+use ec_master_files::{Claim, header_of, map_of, report_of};
 use ec_unit_text::read_units;
 use std::alloc::{AllocError, Global};
 use std::rt::Files;

@@ -1,22 +1,22 @@
 //! Certificates that are merged.
 
 ghost use Rattle.std.specs.Prelude.{◌≡◌};
-ghost use Rattle.ec_words.specs.Merges.{MergingFits};
+ghost use Rattle.ec_cli_words.specs.Merges.{MergingFits};
 
 use crate::faults::tell_fault;
 use crate::kept::Kept;
 use crate::remark::{Left, filed_at, tell_refusal};
 use crate::targets::{Target, is_kept};
 use crate::telling::{UNTOLD, tell_reason, tell_text};
-use ec_answers::Told;
-use ec_command::Line;
-use ec_explain::{merged_advice, plain_text};
-use ec_files::Content;
-use ec_jobs::{MergeFault, MergeReport, do_merge, refuse};
-use ec_merge::Misfit;
-use ec_refusals::Refusal;
+use ec_cert_merge::Misfit;
+use ec_cli_answers::Told;
+use ec_cli_command::Line;
+use ec_cli_explain::{merged_advice, plain_text};
+use ec_cli_files::Content;
+use ec_cli_refusals::Refusal;
+use ec_cli_run::{MergeFault, MergeReport, do_merge, refuse};
+use ec_cli_words::Merging;
 use ec_wire::Io;
-use ec_words::Merging;
 use std::alloc::{AllocError, Global};
 use std::io::Read;
 use std::rt::Files;

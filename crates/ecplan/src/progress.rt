@@ -1,7 +1,7 @@
 //! The progress of a search, told on standard error while it runs.
 
 use crossbeam_utils::CachePadded;
-use ec_command::{Effort, Line};
+use ec_cli_command::{Effort, Line};
 use ec_workers::Gate;
 use std::alloc::{AllocError, Global};
 use std::io;

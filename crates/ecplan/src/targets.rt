@@ -1,8 +1,8 @@
 //! What a line writes to paths, looked at before the job.
 
 use crate::telling::{tell_path, tell_reason};
-use ec_command::Line;
-use ec_files::{Content, Late, are_one, reason_to_keep};
+use ec_cli_command::Line;
+use ec_cli_files::{Content, Late, are_one, reason_to_keep};
 use std::alloc::{AllocError, Global};
 use std::rt::Files;
 

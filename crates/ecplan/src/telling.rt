@@ -1,6 +1,6 @@
 //! What is told on standard error of a path.
 
-use ec_explain::plain_text;
+use ec_cli_explain::plain_text;
 use std::alloc::{AllocError, Global};
 
 /// What is told while the units are waited for.

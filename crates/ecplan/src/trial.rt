@@ -1,26 +1,26 @@
 //! A play that loses slaves, or whose frames are written as a capture file.
 
 ghost use Rattle.std.specs.Prelude.{◌≡◌};
-ghost use Rattle.ec_command.specs.Words.{JobFits, job_of};
+ghost use Rattle.ec_cli_command.specs.Words.{JobFits, job_of};
 
 use crate::faults::tell_fault;
 use crate::kept::Kept;
 use crate::progress::{Progress, Telling};
 use crate::remark::{Left, tell_refusal};
 use crate::targets::{Target, is_kept};
-use ec_answers::Told;
-use ec_files::{Content, FileFault, write_whole};
+use ec_cli_answers::Told;
+use ec_cli_files::{Content, FileFault, write_whole};
+use ec_cli_refusals::Refusal;
+use ec_cli_run::{do_line, refuse, refuse_words};
+use ec_cli_words::Words;
 use ec_fmmu::layout;
-use ec_frame_lines::stations_of;
-use ec_jobs::{do_line, refuse, refuse_words};
+use ec_frame_text::stations_of;
 use ec_loads::{Plan, is_legal};
 use ec_outcome::PlayFault;
-use ec_refusals::Refusal;
-use ec_trial::{Trial, trial_capture, trial_text, try_plan};
+use ec_play_trial::{Trial, trial_capture, trial_text, try_plan};
 use ec_unit_text::{UnitFault, read_units};
 use ec_units::Units;
 use ec_wire::Io;
-use ec_words::Words;
 use std::alloc::{AllocError, Global};
 use std::fmt::Write as _;
 use std::io;

@@ -3,11 +3,11 @@
 ghost use Rattle.std.specs.Prelude.{◌≡◌, ◌≤◌, ◌<◌, IfOk, length, vec_len, []};
 ghost use Rattle.ec_symmetry.specs.Orders.{IsOrder};
 ghost use Rattle.ec_book.specs.Books.{IsBookOf, BeganWith};
-ghost use Rattle.ec_seats.specs.Seats.{AreOf};
+ghost use Rattle.ec_book_shared.specs.Seats.{AreOf};
 
 use crate::turns::work;
 use ec_book::{Book, Finished};
-use ec_seats::{Search, Seat, Shared};
+use ec_book_shared::{Search, Seat, Shared};
 use ec_units::Units;
 use std::alloc::{AllocError, Global};
 use std::marker::Brand;

@@ -8,10 +8,10 @@ ghost use Rattle.ec_cert.specs.Shapes.{shape_of};
 ghost use Rattle.ec_symmetry.specs.Orders.{IsReachedPrefix};
 
 use ec_book::{Taken, Took};
+use ec_book_shared::{Search, Seat, Shared};
 use ec_branch::{Guide, explore};
 use ec_cert::Tree;
 use ec_loads::{Places, Plan};
-use ec_seats::{Search, Seat, Shared};
 use ec_units::{Place, Units};
 use std::alloc::Global;
 use std::sync::Wait;

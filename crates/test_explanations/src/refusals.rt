@@ -3,10 +3,10 @@
 use crate::words::Words;
 use ec_cert_text::CertFault;
 use ec_checker::CheckFault;
+use ec_cli_refusals::{Refusal, refusal_line};
 use ec_frames::FrameFault;
 use ec_loads::Illegal;
 use ec_outcome::{PlayFault, SolveFault};
-use ec_refusals::{Refusal, refusal_line};
 use ec_unit_text::UnitFault;
 
 /// The fault of a unit text.

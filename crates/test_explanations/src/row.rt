@@ -6,7 +6,7 @@
 //! where a certificate was wanted, `out PATH` and `bytes N`, and `missing` where it isn't there.
 
 use crate::refusals::refusal_of;
-use ec_explain::{Asked, Filed, Inputs, Written, advice, explain, merged_advice};
+use ec_cli_explain::{Asked, Filed, Inputs, Written, advice, explain, merged_advice};
 use ec_outcome::{Cut, Ending};
 use std::alloc::{AllocError, Global};
 

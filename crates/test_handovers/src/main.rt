@@ -1,8 +1,8 @@
 //! Does the rows of a table on standard input: headers, maps and reports. Tells each row whose text isn't as it says.
 #![tactic(auto)]
 
-use ec_handover::{Claim, header_of, map_of, report_of};
 use ec_loads::{Places, Plan, is_legal};
+use ec_master_files::{Claim, header_of, map_of, report_of};
 use ec_unit_text::read_units;
 use ec_units::{Place, Units};
 use std::alloc::{AllocError, Global};

@@ -1,11 +1,11 @@
 //! How a program of one's own makes the frames of the best plan for a unit text: the example of docs/INTEGRATING.md.
 #![tactic(auto)]
 
+use ec_cli_refusals::Refusal;
 use ec_fmmu::layout;
+use ec_frame_builder::tick_frames;
 use ec_frames::Frame;
 use ec_loads::is_legal;
-use ec_player::tick_frames;
-use ec_refusals::Refusal;
 use ec_unit_text::read_units;
 use ec_workers::{Outcome, Quiet, solve};
 use std::alloc::Global;

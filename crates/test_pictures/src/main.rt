@@ -1,8 +1,8 @@
 //! Does the rows of a table on standard input: pictures. Tells each row whose picture isn't as it says.
 #![tactic(auto)]
 
+use ec_cost_picture::picture;
 use ec_loads::{Places, Plan};
-use ec_picture::picture;
 use ec_unit_text::read_units;
 use ec_units::{Place, Units};
 use std::alloc::{AllocError, Global};

@@ -3,7 +3,7 @@
 ghost use Rattle.std.specs.Prelude.{◌≡◌, ◌≤◌, ◌++◌, length, map, IfOk, OnOk};
 ghost use Rattle.std.specs.Option.{ForSome};
 ghost use Rattle.ec_units.specs.Together.{stations_of as stations_in};
-ghost use Rattle.ec_player.specs.Frames.{HasLayout};
+ghost use Rattle.ec_frame_builder.specs.Frames.{HasLayout};
 
 use ec_fmmu::{Mapping, layout};
 use ec_loads::{Places, Plan, is_legal};

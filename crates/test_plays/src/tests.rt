@@ -3,7 +3,7 @@
 use crate::lines::{ONE, TWO, line_of};
 use crate::slaves::{Cutter, Eater, Tiring, Wire};
 use ec_frames::{Command, FrameFault, datagrams, parse};
-use ec_play::{PlayFault, Played, play_plain};
+use ec_player::{PlayFault, Played, play_plain};
 use ec_slave::{Pass, SlaveBox};
 use std::alloc::{AllocError, Global};
 use std::test::Fail;

@@ -1,11 +1,11 @@
 //! What the table can't hold: bytes that are no text, texts of a megabyte, readers that never end, files and words.
 
 ghost use Rattle.std.specs.Prelude.{Some};
-ghost use Rattle.ec_command.specs.Words.{IsPlain};
+ghost use Rattle.ec_cli_command.specs.Words.{IsPlain};
 
-use ec_command::Job;
-use ec_drafts::Draft;
-use ec_jobs::{run, run_plain};
+use ec_cli_command::Job;
+use ec_cli_run::{run, run_plain};
+use ec_text_builder::Draft;
 use ec_wire::Io;
 use ec_workers::Quiet;
 use std::alloc::{AllocError, Global};

@@ -8,7 +8,7 @@ mod slave;
 mod tickets;
 mod wire;
 
-use ec_cert_text::one_text_each;
+use ec_cert_text::law_one_text_each;
 use ec_unit_text::{UnitFault, read_units};
 use ec_units::{Name, Slaves, UnitList};
 use std::alloc::{AllocError, Global};
@@ -51,5 +51,5 @@ fn lists_go_in_and_out(rt: HostRuntime) -> Result<(), AllocError> {
 
 #[test]
 fn laws() {
-    one_text_each();
+    law_one_text_each();
 }

@@ -7,9 +7,9 @@ use ec_bounds::{
     Rest, average_bound, count_bound, full_bound, groups_bound, merge_bound, tick_bound,
     weight_bound,
 };
-use ec_drafts::Draft;
 use ec_loads::Loads;
 use ec_symmetry::strong_choices;
+use ec_text_builder::Draft;
 use ec_units::{Place, Units};
 use std::alloc::{AllocError, Global};
 use std::marker::Model;

@@ -1,7 +1,7 @@
 //! The words of a call.
 
-use ec_drafts::Draft;
 use ec_loads::Pair;
+use ec_text_builder::Draft;
 use ec_units::Place;
 use std::alloc::Global;
 

@@ -11,7 +11,7 @@ use crate::texts::{add_lines, add_unbarred};
 use ec_cert::{Cert, Tree, split_of, well_formed};
 use ec_cert_text::{read_cert, write_cert};
 use ec_checker::check;
-use ec_drafts::Draft;
+use ec_text_builder::Draft;
 use ec_units::Units;
 use ec_wire::Io;
 use std::alloc::{AllocError, Global};

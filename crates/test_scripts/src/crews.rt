@@ -6,7 +6,7 @@ use crate::call::Call;
 use crate::certs::{add_verdict, add_written};
 use crate::samples::add_places;
 use ec_cert::Cert;
-use ec_drafts::Draft;
+use ec_text_builder::Draft;
 use ec_units::Units;
 use ec_workers::{Gate, Outcome, SolveFault, solve};
 use std::alloc::{AllocError, Global};

@@ -1,13 +1,13 @@
 //! Layouts of plans in logical memory, and the frames that carry them.
 
-ghost use Rattle.ec_player.specs.Frames.{HasLayout};
+ghost use Rattle.ec_frame_builder.specs.Frames.{HasLayout};
 
 use crate::call::Call;
-use ec_drafts::Draft;
 use ec_fmmu::{Fmmu, Mapping, fmmu_bytes, layout};
+use ec_frame_builder::tick_frames;
 use ec_frames::Frame;
 use ec_loads::{Loads, Places, Plan, is_legal};
-use ec_player::tick_frames;
+use ec_text_builder::Draft;
 use ec_units::Units;
 use ec_wire::frame_wire;
 use std::alloc::Global;

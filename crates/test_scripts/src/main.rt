@@ -20,7 +20,7 @@ mod table;
 mod texts;
 
 use call::Call;
-use ec_drafts::Draft;
+use ec_text_builder::Draft;
 use script::Script;
 use std::alloc::Global;
 use std::io;

@@ -9,7 +9,7 @@ use crate::certs::{add_verdict, add_written, resumable};
 use crate::crews::{Crew, Told, add_outcome, crew_of};
 use ec_cert::{Cert, Part};
 use ec_checker::level;
-use ec_drafts::Draft;
+use ec_text_builder::Draft;
 use ec_units::Units;
 use ec_workers::{Outcome, SolveFault, lines_of, partial, rules_by, solve, solve_from};
 use std::alloc::{AllocError, Global};

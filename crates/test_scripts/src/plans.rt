@@ -2,9 +2,9 @@
 
 use crate::call::{Call, note};
 use crate::samples::{add_place, add_places};
-use ec_drafts::Draft;
 use ec_loads::{Places, Plan, busiest, is_legal};
 use ec_symmetry::{Children, canonical, choices, used_slots};
+use ec_text_builder::Draft;
 use ec_units::Units;
 use std::alloc::Global;
 

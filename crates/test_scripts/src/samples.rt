@@ -1,6 +1,6 @@
 //! Lines of units that scripts name, and places as words.
 
-use ec_drafts::Draft;
+use ec_text_builder::Draft;
 use ec_unit_text::read_units;
 use ec_units::{Place, Units};
 use std::alloc::Global;

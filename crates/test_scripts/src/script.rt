@@ -5,7 +5,7 @@ use crate::call::Call;
 use crate::desk::Desk;
 use crate::samples::line_of;
 use crate::{certs, layouts, plans, searching, sweep, texts};
-use ec_drafts::Draft;
+use ec_text_builder::Draft;
 use ec_units::Units;
 use std::alloc::Global;
 use std::sync::Wait;

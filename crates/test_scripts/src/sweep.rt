@@ -3,7 +3,7 @@
 use crate::call::Call;
 use crate::crews::{Crew, Shown, Told, search};
 use crate::samples::line_of;
-use ec_drafts::Draft;
+use ec_text_builder::Draft;
 use ec_units::Units;
 use std::alloc::Global;
 use std::sync::Wait;

@@ -5,7 +5,7 @@ mod jobs;
 mod row;
 
 use answer::add_answer;
-use ec_drafts::Draft;
+use ec_text_builder::Draft;
 use row::{is_as, row_of};
 use std::alloc::Global;
 use std::sync::Wait;

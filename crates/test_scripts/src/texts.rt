@@ -2,7 +2,7 @@
 
 use crate::call::Call;
 use crate::samples::add_line;
-use ec_drafts::Draft;
+use ec_text_builder::Draft;
 use ec_unit_text::read_units;
 use ec_units::{Unit, Units, bytes_of};
 use std::alloc::Global;

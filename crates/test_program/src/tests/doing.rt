@@ -1,16 +1,16 @@
 //! What a command line says, done with the paths that it names.
 
-ghost use Rattle.ec_command.specs.Words.{JobFits, job_of};
+ghost use Rattle.ec_cli_command.specs.Words.{JobFits, job_of};
 
 use super::add_bytes;
 use super::late::{add_calls, add_failed, add_file};
 use super::threes::Threes;
 use super::words::asked;
-use ec_command::Line;
-use ec_drafts::Draft;
-use ec_jobs::do_line;
+use ec_cli_command::Line;
+use ec_cli_run::do_line;
+use ec_cli_words::Asked;
+use ec_text_builder::Draft;
 use ec_wire::Io;
-use ec_words::Asked;
 use ec_workers::Quiet;
 use std::alloc::AllocError;
 use std::io::Read;

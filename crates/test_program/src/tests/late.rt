@@ -1,7 +1,7 @@
 //! A file that is made when it is first written.
 
-use ec_drafts::Draft;
-use ec_files::{Content, Late};
+use ec_cli_files::{Content, Late};
+use ec_text_builder::Draft;
 use ec_wire::Io;
 use std::fs;
 use std::io::Write;

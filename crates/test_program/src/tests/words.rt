@@ -1,12 +1,12 @@
 //! The command line.
 
 ghost use Rattle.std.specs.Prelude.{IfOk};
-ghost use Rattle.ec_words.specs.Merges.{AskedFits};
+ghost use Rattle.ec_cli_words.specs.Merges.{AskedFits};
 
 use ec_cert::Part;
-use ec_command::{Job, Line};
-use ec_drafts::Draft;
-use ec_words::{Asked, LineFault, Merging, Words, read_words};
+use ec_cli_command::{Job, Line};
+use ec_cli_words::{Asked, LineFault, Merging, Words, read_words};
+use ec_text_builder::Draft;
 use std::alloc::{AllocError, Global};
 
 /// Adds words as the command line gives them, out of a text with one space between two words.

@@ -217,6 +217,6 @@ fn datagrams_in_order(rt: HostRuntime) -> Result<(), AllocError> {
 
 #[test]
 fn laws() {
-    written_is_read();
-    one_reading();
+    law_written_is_read();
+    law_one_reading();
 }

@@ -1,6 +1,6 @@
 //! Unit texts that are written again with places.
 
-use ec_placing::{PlacingFault, place_text};
+use ec_unit_rewrite::{PlacingFault, place_text};
 use ec_units::Place;
 use std::alloc::{AllocError, Global};
 

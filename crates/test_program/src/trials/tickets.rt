@@ -1,4 +1,4 @@
-use ec_tickets::{Bound, Tickets};
+use ec_search_queues::{Bound, Tickets};
 use std::alloc::AllocError;
 
 #[test]

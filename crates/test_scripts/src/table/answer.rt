@@ -2,7 +2,7 @@
 
 use crate::table::jobs::{Told, Way, done};
 use crate::table::row::{ALL, Kind, Row, is_plan};
-use ec_drafts::Draft;
+use ec_text_builder::Draft;
 use std::alloc::Global;
 use std::sync::Wait;
 use std::thread::Threads;

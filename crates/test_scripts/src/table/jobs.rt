@@ -2,13 +2,13 @@
 
 ghost use Rattle.std.specs.Prelude.{Some, None, ◌≡◌, ◌≤◌, false};
 ghost use Rattle.ec_wire.specs.Stream.{has_failed};
-ghost use Rattle.ec_command.specs.Words.{JobFits, IsPlain};
-ghost use Rattle.ec_jobs.specs.Runs.{HasCert};
+ghost use Rattle.ec_cli_command.specs.Words.{JobFits, IsPlain};
+ghost use Rattle.ec_cli_run.specs.Runs.{HasCert};
 
 use crate::table::row::Row;
 use ec_cert::Part;
-use ec_command::Job;
-use ec_jobs::{Status, run, run_plain};
+use ec_cli_command::Job;
+use ec_cli_run::{Status, run, run_plain};
 use ec_wire::Io;
 use ec_workers::Quiet;
 use std::alloc::Global;

@@ -85,7 +85,7 @@ returns-clause-sound c =
     let head : HasHead us n v = record { same = c.if-not-is_for.ensures.0 refl; order = order; best = c.in_ok-value.ensures.ok.1; level = low } in
     let found = found_is (loads_of us) n v c.args.loads.now (line_rules c.rules_for-rules.result) c.in_ok-value.value v.level c.as_slice-order.result.now c.walk.result c.requires c.rules_for-rules.ensures c.in_ok-value.ensures.ok.0 refl c.as_slice-order.ensures c.walk.ensures.judged in
     let yes_of : IsCertified us n v = record { head = head; shown = tree_from us n v c.in_ok-walk.field-0 low (sym found ∙ c.in_ok-walk.was) } in
-    claim_from c.trees_bound.ensures c.levels_bound.ensures us n v _ yes_of (c.verdict_at.ensures v.best c.in_ok-value.ensures.ok.0)
+    claim_from c.law_trees_bound.ensures c.law_levels_bound.ensures us n v _ yes_of (c.verdict_at.ensures v.best c.in_ok-value.ensures.ok.0)
 
 pub returns-then-not-is_for-clause-memory : goal.returns-then-not-is_for-clause-memory
 returns-then-not-is_for-clause-memory c = search rules

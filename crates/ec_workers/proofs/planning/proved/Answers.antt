@@ -14,8 +14,8 @@ returns-clause-rules c = strong-of c.args.strong (cert_view c.certificate-cert-2
 
 pub returns-in_default-clause-outcome : goal.returns-in_default-clause-outcome
 returns-in_default-clause-outcome c = λ _.
-    without c.faults_refute.ensures c.trees_bound.ensures c.args.units.now c.args.strong c.args.order c.args.best (shape_of c.args.tree) c.args.room.lines (cert_view c.certificate-cert.result) c.requires.found c.in_default.is c.requires.room.lines_are c.certificate-cert.ensures
+    without c.law_faults_refute.ensures c.law_trees_bound.ensures c.args.units.now c.args.strong c.args.order c.args.best (shape_of c.args.tree) c.args.room.lines (cert_view c.certificate-cert.result) c.requires.found c.in_default.is c.requires.room.lines_are c.certificate-cert.ensures
 
 pub returns-clause-outcome : goal.returns-clause-outcome
 returns-clause-outcome c = λ _.
-    optimal c.faults_refute.ensures c.trees_bound.ensures c.args.units.now c.args.strong c.args.order c.args.best (shape_of c.args.tree) c.args.room.lines (cert_view c.certificate-cert-2.result) c.in-Some.best c.copied-plan.result.places c.requires.found c.in-Some.is c.requires.room.lines_are c.copied-plan.ensures c.certificate-cert-2.ensures
+    optimal c.law_faults_refute.ensures c.law_trees_bound.ensures c.args.units.now c.args.strong c.args.order c.args.best (shape_of c.args.tree) c.args.room.lines (cert_view c.certificate-cert-2.result) c.in-Some.best c.copied-plan.result.places c.requires.found c.in-Some.is c.requires.room.lines_are c.copied-plan.ensures c.certificate-cert-2.ensures

@@ -11,4 +11,4 @@ returns-clause-shows c =
     let a = c.args in
     subst (λ v. Shows us.units us.slots (record { version = v; slots = us.slots; units = a.lines; order = a.order; best = a.best; level = Some a.level; tree = shape_of a.tree }) (verdict.AtLeast a.level))
     (sym c.partial_version.ensures)
-    (unfinished c.faults_refute.ensures us a.strong a.order a.best (shape_of a.tree) a.level a.lines c.requires.order c.requires.best c.requires.tree c.requires.level c.requires.lines)
+    (unfinished c.law_faults_refute.ensures us a.strong a.order a.best (shape_of a.tree) a.level a.lines c.requires.order c.requires.best c.requires.tree c.requires.level c.requires.lines)

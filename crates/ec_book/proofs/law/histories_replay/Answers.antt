@@ -1,5 +1,0 @@
-use Rattle.ec_book.proofs.HistoryLemmas.{history-replays}
-use Rattle.ec_book.proofs.law.histories_replay.Goals as goal
-
-pub returns : goal.returns
-returns c = history-replays

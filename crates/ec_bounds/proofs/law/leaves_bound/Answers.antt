@@ -1,5 +1,0 @@
-use Rattle.ec_bounds.proofs.LeafLemmas.{leaf-bounds}
-use Rattle.ec_bounds.proofs.law.leaves_bound.Goals as goal
-
-pub returns : goal.returns
-returns c = leaf-bounds

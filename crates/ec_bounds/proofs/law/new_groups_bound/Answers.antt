@@ -1,5 +1,0 @@
-use Rattle.ec_bounds.proofs.GroupLemmas.{groups-bound}
-use Rattle.ec_bounds.proofs.law.new_groups_bound.Goals as goal
-
-pub returns : goal.returns
-returns c = groups-bound

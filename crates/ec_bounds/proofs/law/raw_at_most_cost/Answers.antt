@@ -1,5 +1,0 @@
-use Rattle.ec_bounds.proofs.AverageLemmas.{raw_cost-le}
-use Rattle.ec_bounds.proofs.law.raw_at_most_cost.Goals as goal
-
-pub returns : goal.returns
-returns c = raw_cost-le

@@ -1,5 +1,0 @@
-use Rattle.ec_checker.proofs.CheckLemmas.{refutes}
-use Rattle.ec_checker.proofs.law.faults_refute.Goals as goal
-
-pub returns : goal.returns
-returns c = refutes

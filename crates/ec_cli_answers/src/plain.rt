@@ -1,0 +1,126 @@
+//! What jobs tell that search for nothing.
+
+ghost use Rattle.std.specs.Prelude.{◌≡◌, ℕ, Bool, List, Option, Some, IfOk};
+ghost use Rattle.ec_units.specs.Load.{loads_of};
+ghost use Rattle.ec_units.specs.Views.{units_view};
+ghost use Rattle.ec_loads.specs.Held.{no_places};
+ghost use Rattle.ec_loads.specs.Legal.{IsLegal};
+ghost use Rattle.ec_cli_command.specs.Words.{IsPlain};
+ghost use Rattle.ec_cli_inputs.specs.Input.{Says, HasRoom, text_given};
+ghost use Rattle.ec_cli_answers.specs.Told.{HasInput, IsCaptureTold, IsOfPlan, IsPlanTold, IsWritable, TellsFor, file_of, told as told_of};
+
+use crate::check::check_answer;
+use crate::plans::plan_for;
+use crate::told::{File, Told, without_file};
+use ec_checker::Verdict;
+use ec_cli_command::Job;
+use ec_cli_inputs::{Given, Inputs};
+use ec_cli_refusals::Refusal;
+use ec_cli_text::{Player, cost_of, plan_capture, plan_cost, plan_frames};
+use ec_loads::Plan;
+use ec_units::Units;
+use std::alloc::Global;
+
+/// What is told of the frames of a legal plan, with their capture file.
+fn tell_capture(alloc: Global, units: &Units, plan: &Plan) -> Result<Told, Refusal>
+    requires { IsLegal (loads_of units.now.units) units.now.slots plan.now.places }
+    ensures told { IsCaptureTold (units_view units.now) plan.now.places result }
+    ensures text { IsWritable result }
+{
+    let made = plan_capture(alloc, units, plan)?;
+    Ok(Told {
+        answer: made.answer,
+        file: File::Capture(made.file),
+        plan: None,
+        ending: None,
+        verdict: None,
+    })
+}
+
+/// What a job tells of a legal plan.
+fn tell_plan<P: Player>(
+    player: &P,
+    alloc: Global,
+    job: &Job,
+    units: &Units,
+    plan: &Plan,
+) -> Result<Told, Refusal>
+    requires job { IsOfPlan job.now }
+    requires ready { P.ready player.now }
+    requires legal { IsLegal (loads_of units.now.units) units.now.slots plan.now.places }
+    ensures told { IsPlanTold job.now (units_view units.now) plan.now.places result }
+    ensures text { IsWritable result }
+{
+    match job {
+        Job::Frames => without_file(plan_frames(alloc, units, plan)),
+        Job::Capture => tell_capture(alloc, units, plan),
+        Job::Play => without_file(player.play(alloc, units, plan)),
+        Job::PlanCost => without_file(plan_cost(alloc, units, plan)),
+        Job::Cost => unreachable!(),
+        Job::Check => unreachable!(),
+        Job::Plan { .. } => unreachable!(),
+        Job::Resume { .. } => unreachable!(),
+    }
+}
+
+/// What is told, with the plan of which it is told, and what was said of its certificate.
+fn with_plan(
+    told: Result<Told, Refusal>,
+    plan: Plan,
+    verdict: Option<Verdict>,
+) -> Result<Told, Refusal>
+    ensures text { told_of result ≡ told_of told }
+    ensures file { file_of result ≡ file_of told }
+    ensures formed { IsWritable told → IsWritable result }
+    ensures plan { IfOk result (λ t. t.plan ≡ Some plan) }
+{
+    match told {
+        Ok(told) => Ok(Told {
+            answer: told.answer,
+            file: told.file,
+            plan: Some(plan),
+            ending: None,
+            verdict,
+        }),
+        Err(refusal) => Err(refusal),
+    }
+}
+
+/// What a job that searches for nothing tells of its inputs.
+///
+/// # Errors
+///
+/// The first fault of the plan or the certificate, or that memory, of a play also that a ring or a thread, was wanting.
+pub fn answer_plain<P: Player>(
+    player: &P,
+    alloc: Global,
+    job: &Job,
+    inputs: Inputs,
+) -> Result<Told, Refusal>
+    requires plain { IsPlain job.now }
+    requires ready { P.ready player.now }
+    requires room { HasRoom inputs }
+    requires given { HasInput job.now (text_given inputs) }
+    ensures told { (bytes : List ℕ) (cert : Option (List ℕ)) → Says bytes cert inputs → TellsFor job.now bytes cert result }
+    ensures text { IsWritable result }
+{
+    let Inputs { units, given } = inputs;
+    match job {
+        Job::Cost => without_file(cost_of(alloc, &units)),
+        Job::Check => match given {
+            Some(given) => {
+                let Given { mut loads, text } = given;
+                without_file(check_answer(alloc, &mut loads, &units, &text))
+            }
+            None => unreachable!(),
+        },
+        Job::Plan { .. } => unreachable!(),
+        Job::Resume { .. } => unreachable!(),
+        Job::Frames | Job::Capture | Job::Play | Job::PlanCost => {
+            let mut verdict = None;
+            let plan = plan_for(alloc, &units, given, &mut verdict)?;
+            let told = tell_plan(player, alloc, job, &units, &plan);
+            with_plan(told, plan, verdict)
+        }
+    }
+}

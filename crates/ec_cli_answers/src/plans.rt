@@ -1,0 +1,85 @@
+//! The plan of which a job tells: that of a certificate, or that of the places in the units.
+
+ghost use Rattle.std.specs.Prelude.{◌≡◌, ◌⊎◌, IfOk, IfErr, IfSome, option_map};
+ghost use Rattle.ec_units.specs.Load.{loads_of};
+ghost use Rattle.ec_units.specs.Views.{units_view};
+ghost use Rattle.ec_loads.specs.Held.{no_places};
+ghost use Rattle.ec_loads.specs.Legal.{IsLegal};
+ghost use Rattle.ec_cert.specs.Shapes.{cert_view};
+ghost use Rattle.ec_frame_text.specs.Lines.{IsFramesText};
+ghost use Rattle.ec_cli_refusals.specs.Refusals.{IsFramesMemory};
+ghost use Rattle.ec_cli_text.specs.Framed.{IsBestPlanOf, IsCertPlan, IsFramedPlan};
+ghost use Rattle.ec_cli_text.specs.Output.{IsCertText, IsReadText, IsTextFor, refused};
+
+use ec_cert::Cert;
+use ec_cert_text::read_cert;
+use ec_checker::{Verdict, check_in};
+use ec_cli_inputs::Given;
+use ec_cli_refusals::Refusal;
+use ec_cli_text::placed_plan;
+use ec_loads::{Loads, Plan};
+use ec_units::Units;
+use std::alloc::Global;
+
+/// The plan of a certificate where the checker says yes, or why there is none; `verdict` gets what it says. The loads are those
+/// of the units, with no place.
+fn best_plan(
+    loads: &mut Loads,
+    units: &Units,
+    cert: Cert,
+    verdict: &mut Option<Verdict>,
+) -> Result<Plan, Refusal>
+    requires { loads.old ≡ record { loads = loads_of units.now.units; slots = units.now.slots; places = no_places (loads_of units.now.units) } }
+    ensures ok { IfOk result (λ plan. IsBestPlanOf units.now (cert_view cert) plan.places) }
+    ensures err { IfErr result (λ r. IsFramesMemory r ⊎ IsCertText IsFramesText (units_view units.now) (cert_view cert) (refused r)) }
+{
+    let said = check_in(loads, units, &cert);
+    if let Err(fault) = said {
+        return Err(Refusal::Check(fault));
+    }
+    *verdict = said.ok();
+    let Cert { best, .. } = cert;
+    match best {
+        Some(best) => Ok(best.plan),
+        None => Err(Refusal::CertHasNoPlan),
+    }
+}
+
+/// The plan of a certificate's text; `verdict` gets what the checker says.
+fn text_plan(
+    alloc: Global,
+    loads: &mut Loads,
+    units: &Units,
+    text: &[u8],
+    verdict: &mut Option<Verdict>,
+) -> Result<Plan, Refusal>
+    requires { loads.old ≡ record { loads = loads_of units.now.units; slots = units.now.slots; places = no_places (loads_of units.now.units) } }
+    ensures ok { IfOk result (λ plan. IsCertPlan text.now (units_view units.now) plan.places) }
+    ensures legal { IfOk result (λ plan. IsLegal (loads_of units.now.units) units.now.slots plan.places) }
+    ensures err { IfErr result (λ r. IsFramesMemory r ⊎ IsReadText IsFramesText (units_view units.now) text.now (refused r)) }
+{
+    let cert = read_cert(alloc, text)?;
+    best_plan(loads, units, cert, verdict)
+}
+
+/// The plan of the certificate where there is one, else that of the places in the units; `verdict` gets what the checker says
+/// of a certificate. The room of the certificate is that of the units, with no place.
+pub(crate) fn plan_for(
+    alloc: Global,
+    units: &Units,
+    given: Option<Given>,
+    verdict: &mut Option<Verdict>,
+) -> Result<Plan, Refusal>
+    requires room { IfSome given (λ g. g.loads ≡ record { loads = loads_of units.now.units; slots = units.now.slots; places = no_places (loads_of units.now.units) }) }
+    ensures ok { IfOk result (λ plan. IsFramedPlan (option_map (λ g. g.text.items) given) (units_view units.now) plan.places) }
+    ensures legal { IfOk result (λ plan. IsLegal (loads_of units.now.units) units.now.slots plan.places) }
+    ensures err { IfErr result (λ r. IsFramesMemory r ⊎ IsTextFor IsFramesText (option_map (λ g. g.text.items) given) (units_view units.now) (refused r)) }
+{
+    match given {
+        Some(given) => {
+            let Given { mut loads, text } = given;
+            text_plan(alloc, &mut loads, units, &text, verdict)
+        }
+        None => placed_plan(alloc, units),
+    }
+}

@@ -1,0 +1,111 @@
+//! Command lines.
+
+ghost use Rattle.std.specs.Prelude.{◌≡◌, option_map};
+ghost use Rattle.ec_cli_command.specs.Words.{cert_of, job_of, out_of};
+
+use crate::job::Job;
+use ec_cert::Part;
+
+/// What a search may take (own profile).
+#[derive(Clone, Copy, Debug, PartialEq, Eq)]
+pub struct Effort {
+    /// How many workers search, 1 to 16.
+    pub workers: usize,
+    /// How many nodes they may split and close, 1 to 10,000,000.
+    pub nodes: u32,
+    /// After how many minutes they end, 1 to 10,000; none where time doesn't end them.
+    pub minutes: Option<u32>,
+}
+
+/// A command with the paths that it names: a certificate to read (`cert`), and what is written, namely a certificate
+/// (`out`), the units with their places (`places`), a capture file (`pcap`), a picture (`svg`), a C header (`header`), a table
+/// of process bytes (`map`) and a page (`report`).
+#[derive(Debug, Drop)]
+pub enum Line {
+    /// Tells what each tick costs: at the places of the units, or at those of a certificate's plan.
+    Cost {
+        cert: Option<String>,
+        svg: Option<String>,
+    },
+    /// Searches for the best plan; by the strong rules where it says so.
+    Plan {
+        effort: Effort,
+        strong: bool,
+        out: Option<String>,
+        places: Option<String>,
+    },
+    /// Goes on with the search of a certificate, with the open leaves of this part.
+    Resume {
+        cert: String,
+        effort: Effort,
+        part: Part,
+        out: Option<String>,
+        places: Option<String>,
+    },
+    /// Checks a certificate.
+    Check {
+        cert: String,
+    },
+    /// Tells FMMU records and frames: of the placed units, or of a certificate's plan.
+    Frames {
+        cert: Option<String>,
+        pcap: Option<String>,
+        header: Option<String>,
+        map: Option<String>,
+        report: Option<String>,
+    },
+    /// Plays the placed units, or a certificate's plan.
+    Play {
+        cert: Option<String>,
+    },
+}
+
+impl Line {
+    /// What is to be done.
+    pub fn job(&self) -> Job
+        ensures { result ≡ job_of self.now }
+    {
+        match self {
+            Line::Cost { cert: None, .. } => Job::Cost,
+            Line::Cost { cert: Some(_), .. } => Job::PlanCost,
+            Line::Plan { effort, strong, .. } => Job::Plan {
+                workers: effort.workers,
+                nodes: effort.nodes,
+                strong: *strong,
+            },
+            Line::Resume { effort, part, .. } => Job::Resume {
+                workers: effort.workers,
+                nodes: effort.nodes,
+                part: *part,
+            },
+            Line::Check { .. } => Job::Check,
+            Line::Frames { pcap: None, .. } => Job::Frames,
+            Line::Frames { pcap: Some(_), .. } => Job::Capture,
+            Line::Play { .. } => Job::Play,
+        }
+    }
+
+    /// The path of the certificate that is read, if one is.
+    pub fn cert(&self) -> Option<&String>
+        ensures { option_map (λ path. path.now) result ≡ cert_of self.now }
+    {
+        match self {
+            Line::Plan { .. } => None,
+            Line::Resume { cert, .. } | Line::Check { cert } => Some(cert),
+            Line::Cost { cert, .. } | Line::Frames { cert, .. } | Line::Play { cert } => {
+                cert.as_ref()
+            }
+        }
+    }
+
+    /// The path of the certificate or the capture file that the job writes before its text, if it writes one.
+    pub fn out(&self) -> Option<&String>
+        ensures { option_map (λ path. path.now) result ≡ out_of self.now }
+    {
+        match self {
+            Line::Plan { out, .. } | Line::Resume { out, .. } => out.as_ref(),
+            Line::Frames { pcap, .. } => pcap.as_ref(),
+            Line::Cost { .. } | Line::Check { .. } | Line::Play { .. } => None,
+        }
+    }
+}

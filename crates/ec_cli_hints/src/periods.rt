@@ -1,0 +1,63 @@
+//! A hyperperiod that is too long, and the periods that make it.
+
+use crate::inputs::{Doc, number_in};
+use ec_text_builder::Draft;
+use ec_unit_text::Key;
+use toml::Value;
+
+/// The periods from 1 to 60 that some unit has.
+fn has_period(units: &[Value], period: i64) -> bool {
+    units.iter().any(|unit| number_in(unit.as_table(), Key::Period) == Some(period))
+}
+
+/// How many times a count of ticks has to be taken to be a multiple of a period.
+fn times(ticks: u64, period: u64) -> u64 {
+    if period == 0 {
+        return 1;
+    }
+    let rest = ticks % period;
+    for count in 1..61u64 {
+        if rest.saturating_mul(count) % period == 0 {
+            return count;
+        }
+    }
+    1
+}
+
+/// The least common multiple of the periods, if it has at most 19 digits.
+pub(crate) fn ticks_of(units: &[Value]) -> Option<u64> {
+    let mut ticks = 1u64;
+    for period in 1..61u64 {
+        if has_period(units, period as i64) {
+            match ticks.checked_mul(times(ticks, period)) {
+                Some(more) => ticks = more,
+                None => return None,
+            }
+        }
+    }
+    Some(ticks)
+}
+
+/// Adds a line with the periods of some units, each once, the least first.
+fn add_periods(out: &mut Draft, units: &[Value]) {
+    out.add("   ");
+    for period in 1..61i64 {
+        if has_period(units, period) {
+            out.add(format_args!(" {period}"));
+        }
+    }
+    out.add('\n');
+}
+
+/// Tells the periods, and the ticks after which all units stand as they did.
+pub(crate) fn tell_hyper(out: &mut Draft, doc: Doc<'_>) {
+    let units = doc.units();
+    out.add("The hyperperiod is too long: the least common multiple of these periods ");
+    match ticks_of(units) {
+        Some(ticks) => out.add(format_args!("is {ticks} ticks")),
+        None => out.add("has more than 19 digits"),
+    }
+    out.add(", and at most 1024 can be planned.\n");
+    add_periods(out, units);
+    out.add("Take periods that divide one another, as 2, 4 and 8.\n");
+}

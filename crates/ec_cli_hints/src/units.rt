@@ -1,0 +1,138 @@
+//! Units and slaves that are too many, too big, or have what another one has.
+
+use crate::inputs::{Doc, number_in, text_in, values_in};
+use crate::label::{add_in, add_slave, add_unit};
+use crate::quoted::add_quoted;
+use ec_text_builder::Draft;
+use ec_unit_text::{Key, Spot};
+use ec_units::is_name_byte;
+use toml::{Table, Value};
+
+/// Tells that there are no units.
+pub(crate) fn tell_none(out: &mut Draft) {
+    out.add("The file has no unit.\n");
+    out.add("Each unit is a table that begins with a line [[unit]], in double brackets.\n");
+}
+
+/// Tells how many units there are.
+pub(crate) fn tell_many(out: &mut Draft, doc: Doc<'_>) {
+    let count = doc.units().len();
+    out.add(format_args!("The file has {count} units, and a line has at most 48.\n"));
+}
+
+/// Adds why a text is no name.
+fn add_name_cause(out: &mut Draft, name: &str) {
+    let bytes = name.as_bytes();
+    let count = bytes.len();
+    if count == 0 {
+        return out.add("This one is empty.\n");
+    }
+    if let Some(byte) = bytes.iter().find(|byte| !is_name_byte(**byte)) {
+        out.add("The character ");
+        add_quoted(out, &[*byte]);
+        return out.add(" is none of these.\n");
+    }
+    out.add(format_args!("This one has {count}.\n"));
+}
+
+/// Tells what is wrong with a name.
+pub(crate) fn tell_name(out: &mut Draft, doc: Doc<'_>, spot: Spot) {
+    add_in(out, doc, spot);
+    out.add("a name has 1 to 32 characters of a-z, A-Z, 0-9, _ and -.\n");
+    match text_in(doc.unit(spot.unit), Key::Name) {
+        Some(name) => add_name_cause(out, name),
+        None => {}
+    }
+}
+
+/// The first of some units that has a name.
+fn unit_named(units: &[Value], name: &str) -> Option<usize> {
+    for (index, unit) in units.iter().enumerate() {
+        if text_in(unit.as_table(), Key::Name) == Some(name) {
+            return Some(index);
+        }
+    }
+    None
+}
+
+/// Tells which two units have one name.
+pub(crate) fn tell_same_name(out: &mut Draft, doc: Doc<'_>, spot: Spot) {
+    out.add("Two units have one name: ");
+    if let Some(name) = text_in(doc.unit(spot.unit), Key::Name) {
+        if let Some(first) = unit_named(doc.units(), name) {
+            add_unit(out, doc, first);
+            out.add(" and ");
+        }
+    }
+    add_unit(out, doc, spot.unit.unwrap_or(0));
+    out.add(".\nGive each unit a name of its own.\n");
+}
+
+/// Tells how many slaves a unit has.
+pub(crate) fn tell_slaves(out: &mut Draft, doc: Doc<'_>, spot: Spot) {
+    let count = values_in(doc.unit(spot.unit), Key::Slave).len();
+    add_in(out, doc, spot);
+    out.add(format_args!("there are {count} slaves, but a unit has 1 to 8.\n"));
+    out.add(
+        "Each slave begins with a line [[unit.slave]], below the [[unit]] that it belongs to.\n",
+    );
+}
+
+/// The process bytes of a slave.
+fn slave_bytes(slave: Option<&Table>) -> i64 {
+    let outputs = number_in(slave, Key::OutBytes).unwrap_or(0);
+    let inputs = number_in(slave, Key::InBytes).unwrap_or(0);
+    outputs.saturating_add(inputs)
+}
+
+/// The process bytes of a unit: those of all its slaves together.
+pub(crate) fn unit_bytes(unit: Option<&Table>) -> i64 {
+    let mut sum = 0i64;
+    for slave in values_in(unit, Key::Slave) {
+        sum = sum.saturating_add(slave_bytes(slave.as_table()));
+    }
+    sum
+}
+
+/// Tells how many bytes a unit has.
+pub(crate) fn tell_bytes(out: &mut Draft, doc: Doc<'_>, spot: Spot) {
+    let bytes = unit_bytes(doc.unit(spot.unit));
+    add_in(out, doc, spot);
+    out.add(format_args!(
+        "all its slaves together have {bytes} bytes, but one datagram carries at most 1486.\n"
+    ));
+    out.add("Make two units of it.\n");
+}
+
+/// The first of a unit's slaves with a station.
+fn slave_with(unit: Option<&Table>, station: i64) -> Option<usize> {
+    for (index, slave) in values_in(unit, Key::Slave).iter().enumerate() {
+        if number_in(slave.as_table(), Key::Station) == Some(station) {
+            return Some(index);
+        }
+    }
+    None
+}
+
+/// The first unit, and its slave, with a station.
+fn place_with(doc: Doc<'_>, station: i64) -> Option<(usize, usize)> {
+    for (index, unit) in doc.units().iter().enumerate() {
+        if let Some(slave) = slave_with(unit.as_table(), station) {
+            return Some((index, slave));
+        }
+    }
+    None
+}
+
+/// Tells which two slaves have one station.
+pub(crate) fn tell_same_station(out: &mut Draft, doc: Doc<'_>, spot: Spot) {
+    out.add("Two slaves have one station address: ");
+    if let Some(station) = number_in(doc.slave(spot.unit, spot.slave), Key::Station) {
+        if let Some((unit, slave)) = place_with(doc, station) {
+            add_slave(out, doc, unit, slave);
+            out.add(" and ");
+        }
+    }
+    add_slave(out, doc, spot.unit.unwrap_or(0), spot.slave.unwrap_or(0));
+    out.add(".\nEach slave of the line has an address of its own.\n");
+}

@@ -1,0 +1,43 @@
+-- Which paths a command line has.
+use Rattle.std.proofs.Common.{◌≡◌, ◌∙◌, Global, Option, Some, None, refl, sym, ap}
+use Rattle.std.specs.Prelude.{String, option_map}
+use Rattle.ec_cli_command.specs.declared.line.Line.{Line}
+use Rattle.ec_cli_command.specs.declared.line.Line.TheVariants as line
+use Rattle.ec_cli_command.specs.Words.{cert_of, job_of}
+use Rattle.ec_cli_answers.specs.Told.{HasInput}
+use Rattle.ec_cli_run.specs.Runs.{ReadsSomeCert}
+
+none-some : {X : Type 0} {x : X} → None ≡ Some x → ⊥
+none-some h = absurd cc
+
+pub some-none : {X : Type 0} {x : X} → Some x ≡ None → ⊥
+some-none h = absurd cc
+
+-- a line with the path of a certificate reads one
+pub reads_cert : (l : Line) (path : String Global) → cert_of l ≡ Some path → ReadsSomeCert (job_of l)
+reads_cert (line.Cost None svg) path is = absurd (none-some is)
+reads_cert (line.Cost (Some cert) svg) path is = tt
+reads_cert (line.Plan effort strong out places) path is = absurd (none-some is)
+reads_cert (line.Resume cert effort part out places) path is = tt
+reads_cert (line.Check cert) path is = tt
+reads_cert (line.Frames cert None header table report) path is = tt
+reads_cert (line.Frames cert (Some pcap) header table report) path is = tt
+reads_cert (line.Play cert) path is = tt
+
+-- and one without such a path needs none
+pub needs_none : (l : Line) → cert_of l ≡ None → HasInput (job_of l) None
+needs_none (line.Cost None svg) is = refl
+needs_none (line.Cost (Some cert) svg) is = absurd (some-none is)
+needs_none (line.Plan effort strong out places) is = refl
+needs_none (line.Resume cert effort part out places) is = absurd (some-none is)
+needs_none (line.Check cert) is = absurd (some-none is)
+needs_none (line.Frames cert None header table report) is = tt
+needs_none (line.Frames cert (Some pcap) header table report) is = tt
+needs_none (line.Play cert) is = tt
+
+-- what a method answers of a path, which a line has or not
+pub with_path : {B : Type 0} (now : B → String Global) {found : Option B} {path : B} {of_line : Option (String Global)} → found ≡ Some path → option_map now found ≡ of_line → Some (now path) ≡ of_line
+with_path {B} now {found} {path} {of_line} is same = sym (ap (option_map now) is) ∙ same
+
+pub without_path : {B : Type 0} (now : B → String Global) {found : Option B} {of_line : Option (String Global)} → found ≡ None → option_map now found ≡ of_line → None ≡ of_line
+without_path {B} now {found} {of_line} is same = sym (ap (option_map now) is) ∙ same

@@ -1,0 +1,58 @@
+-- What is told of certificates that were merged is true, from what is made of them.
+use Rattle.std.proofs.Common.{◌≡◌, ◌∙◌, ℕ, ◌≤◌, List, Option, Some, None, Result, Ok, Err, ap, subst, sym, refl, inl, inr, arith}
+use Rattle.std.specs.Prelude.{◌⊎◌, IfOk, IfSome}
+use Rattle.ec_tree.specs.Trees.{LevelsBound}
+use Rattle.ec_cli_files.specs.declared.fault.FileFault.{FileFault}
+use Rattle.ec_cli_refusals.specs.declared.refusal.Refusal.TheVariants as refusal
+use Rattle.ec_cert_merge.specs.declared.fault.Misfit.{Misfit}
+use Rattle.ec_cli_inputs.specs.Input.{AnswersUnits, AreRead}
+use Rattle.ec_cli_inputs.specs.declared.input.Inputs.{Inputs}
+use Rattle.ec_cli_inputs.specs.Use.{Use, before, IsSound}
+use Rattle.ec_cli_text.specs.Output.{Written, refused, shown}
+use Rattle.ec_cli_answers.specs.Merged.{IsMergeWritten}
+use Rattle.ec_cli_answers.specs.Told.{file_bytes}
+use Rattle.ec_cli_answers.specs.declared.told.Told.{Told}
+use Rattle.ec_cli_run.specs.declared.merging.MergeFault.{MergeFault}
+use Rattle.ec_cli_run.specs.declared.merging.MergeFault.TheVariants as fault
+use Rattle.ec_cli_run.specs.Merging.{IsTrueMerge, MergeTellsTruth, merge_written, misfit_output, unmerged}
+use Rattle.ec_cli_run.specs.Runs.{Tells}
+use Rattle.ec_cli_run.specs.Sound.{TellsTruth}
+use Rattle.ec_cli_run.proofs.PlanSound.{merge_true, refusal_true}
+use Rattle.ec_cli_run.proofs.RunLemmas.{tells_more}
+
+-- what is told of a merged certificate is true of the units that were read
+pub merge_truth : LevelsBound → (left : Option (List ℕ)) (i : Inputs) (t : Result Told MergeFault) → IfSome left (λ bytes. AreRead bytes None (Ok i))
+    → ((bytes : List ℕ) → AnswersUnits (Ok i.units) bytes → IfOk t (λ a. IsMergeWritten bytes (shown a.answer) (file_bytes a.file))) → IfSome left (λ bytes. IsTrueMerge bytes t)
+merge_truth levels None i t read told = tt
+merge_truth levels (Some bytes) i (Ok a) read told = merge_true levels bytes (shown a.answer) (file_bytes a.file) (told bytes read.0)
+merge_truth levels (Some bytes) i (Err why) read told = tt
+
+-- and so it is where nothing is told
+pub unmerged_truth : (left : Option (List ℕ)) (why : MergeFault) (t : Result Told MergeFault) → t ≡ Err why → IfSome left (λ bytes. IsTrueMerge bytes t)
+unmerged_truth None why t is = tt
+unmerged_truth (Some bytes) why t is = rw is tt
+
+-- a certificate that doesn't fit is refused with another status
+misfit_true : (bytes : List ℕ) (w : Written) (why : Misfit) (number : ℕ) → w ≡ misfit_output why number → TellsTruth bytes w None
+misfit_true bytes w why number is =
+    let code : w.code ≡ 3 = ap (λ (v : Written). v.code) is in (
+      λ zero. absurd (omega (arith, code, zero)),
+      λ one. absurd (omega (arith, code, one)),
+      λ two. absurd (omega (arith, code, two)),
+    )
+
+written_true : (bytes : List ℕ) (w : Written) (t : Result Told MergeFault) (file : Option FileFault) → w ≡ merge_written t file → IsTrueMerge bytes t → (cert : Option (List ℕ)) × TellsTruth bytes w cert
+written_true bytes w (Ok a) None is true = (file_bytes a.file, subst (λ (v : Written). TellsTruth bytes v (file_bytes a.file)) (sym is) true)
+written_true bytes w (Ok a) (Some why) is true = (None, refusal_true bytes w None refusal.Write is)
+written_true bytes w (Err (fault.Refused r)) file is true = (None, refusal_true bytes w None r is)
+written_true bytes w (Err (fault.Cert number r)) file is true = (None, refusal_true bytes w None r is)
+written_true bytes w (Err (fault.Misfit number why)) file is true = (None, misfit_true bytes w why number is)
+
+all_true : (left : Option (List ℕ)) (w : Written) (t : Result Told MergeFault) (file : Option FileFault) → w ≡ merge_written t file → IfSome left (λ bytes. IsTrueMerge bytes t) → IfSome left (λ bytes. (cert : Option (List ℕ)) × TellsTruth bytes w cert)
+all_true None w t file is true = tt
+all_true (Some bytes) w t file is true = written_true bytes w t file is true
+
+-- what is written of it tells the truth
+pub merge_tells : {R W : Type 0} (units : Use R) (text : Use W) (code : ℕ) (t s : Result Told MergeFault) (file : Option FileFault) → s ≡ t → (IsSound units → IfSome (before units) (λ bytes. IsTrueMerge bytes t))
+    → Tells (λ w. w ≡ merge_written s file) text code → Tells (MergeTellsTruth units) text code
+merge_tells units text code t s file same true told = tells_more (λ w is sound. all_true (before units) w t file (is ∙ ap (λ (x : Result Told MergeFault). merge_written x file) same) (true sound)) told

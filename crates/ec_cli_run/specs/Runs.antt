@@ -1,0 +1,156 @@
+-- What a run does with the readers and writers that it is lent.
+use Rattle.std.specs.Prelude.{◌≡◌, ◌⊎◌, ℕ, true, false, List, Option, Some, None, Result, Ok, Err, String, IfSome}
+use Rattle.std.specs.Io.KnownBytes.{Appends}
+use Rattle.std.proofs.Common.{Global}
+use Rattle.ec_wire.specs.declared.io.Io.{Io}
+use Rattle.ec_wire.specs.Stream.{has_failed, WritesFront}
+use Rattle.ec_cli_refusals.specs.declared.refusal.Refusal.{Refusal}
+use Rattle.ec_cli_refusals.specs.declared.refusal.Refusal.TheVariants as refusal
+use Rattle.ec_cli_command.specs.declared.job.Job.{Job}
+use Rattle.ec_cli_command.specs.declared.job.Job.TheVariants as job
+use Rattle.ec_cli_command.specs.declared.line.Line.{Line}
+use Rattle.ec_cli_command.specs.Words.{cert_of, job_of, out_of}
+use Rattle.ec_cli_files.specs.declared.fault.FileFault.{FileFault}
+use Rattle.ec_cli_inputs.specs.Input.{ReadsBoth, ReadsUpTo, most_of_units}
+use Rattle.ec_cli_inputs.specs.Use.{Use, before, after, IsSound, HasFailed, IsKept, Lent, IfLent, IsLeft}
+use Rattle.ec_cli_text.specs.Output.{Written, refused, shown}
+use Rattle.ec_cli_answers.specs.Planned.{Gets, GetsFront}
+use Rattle.ec_cli_answers.specs.Told.{IsTold, TellsFor, file_of, told}
+use Rattle.ec_cli_answers.specs.declared.told.Told.{Told}
+
+-- ---- what is written
+
+-- what is as said is told to the writer: whole with its status, or a front where a write failed, with the status 4
+pub record Tells {W : Type 0} (is : Written → Type 0) (text : Use W) (code : ℕ) : Type 0 where
+  pub written : Written
+  pub said : is written
+  pub whole : IsSound text → (code ≡ written.code) × Appends (before text) (after text) written.text
+  pub front : WritesFront (before text) (after text) written.text
+  pub failed : HasFailed text → code ≡ 4
+
+-- a refusal is written
+abbrev pub Refuses : Refusal → Written → Type 0
+Refuses r w = w ≡ refused r
+
+-- what is told is delivered: its file goes to the one writer, whole or a front of it, and what is written after it is its text, or that the file couldn't be written
+pub record IsDelivered {O : Type 0} (answer : Result Told Refusal) (out : Use O) (w : Written) : Type 0 where
+  pub whole : IsSound out → (w ≡ told answer) × Gets out.tells out.old out.new (file_of answer)
+  pub front : GetsFront out.tells out.old out.new (file_of answer)
+  pub failed : HasFailed out → Refuses refusal.Write w
+
+-- ---- what a run does
+
+-- the job reads a certificate, or may
+abbrev pub ReadsSomeCert : Job → Type 0
+ReadsSomeCert job.Cost = ⊥
+ReadsSomeCert (job.Plan workers nodes strong) = ⊥
+ReadsSomeCert _ = Unit {0}
+
+-- one that is lent, and none
+abbrev pub here : {X : Type 0} → Use X → Lent X
+here s = record { tells = s.tells; old = Some s.old; new = Some s.new }
+
+abbrev pub nobody : {X : Type 0} → Lent X
+nobody = record { tells = λ _. None; old = None; new = None }
+
+-- no call of it failed, if it is there
+abbrev pub HasNotFailed : {X : Type 0} → Lent X → Type 0
+HasNotFailed s = IfLent s (Unit {0}) IsSound
+
+-- the bytes of a certificate, if there is one; where they aren't known nothing is asked
+abbrev pub Given : {C : Type 0} → Lent C → (Option (List ℕ) → Type 0) → Type 0
+Given cert P = IfLent cert (P None) (λ c. IfSome (before c) (λ text. P (Some text)))
+
+-- the job's units are read, and its certificate where it reads one; what is told of them goes to the writers. Of a certificate whose bytes aren't known it is what is
+-- told for some text (`some`)
+pub record Does {R C O : Type 0} (j : Job) (units : Use R) (cert : Lent C) (out : Lent O) (w : Written) : Type 0 where
+  pub units_read : ReadsUpTo units most_of_units (Refuses refusal.Read w)
+  pub cert_read : IfLent cert (Unit {0}) (λ c. ReadsBoth units c (Refuses refusal.Read w))
+  pub told : IsSound units → HasNotFailed cert → HasNotFailed out → IfSome (before units) (λ bytes. Given cert (λ text.
+      (file : Option (List ℕ)) × IsTold j bytes text w file × IfLent out (Unit {0}) (λ o. Gets o.tells o.old o.new file)))
+  pub front : IsSound units → HasNotFailed cert → IfSome (before units) (λ bytes. Given cert (λ text.
+      IfLent out (Unit {0}) (λ o. (v : Written) × (file : Option (List ℕ)) × IsTold j bytes text v file × GetsFront o.tells o.old o.new file)))
+  pub some : IsSound units → IfLent cert (Unit {0}) (λ c. IfSome (before units) (λ bytes. (Refuses refusal.Read w ⊎ Refuses refusal.Write w) ⊎ ((text : List ℕ) × (file : Option (List ℕ)) × IsTold j bytes (Some text) w file × IfLent out (Unit {0}) (λ o. IsSound o → Gets o.tells o.old o.new file))))
+  pub unwritten : IfLent out (Unit {0}) (λ o. HasFailed o → Refuses refusal.Write w)
+  pub unread : IfLent out (Unit {0}) (λ o. HasFailed units → IsKept o)
+  pub cert_unread : IfLent cert (Unit {0}) (λ c. IfLent out (Unit {0}) (λ o. HasFailed c → IsKept o))
+
+-- a cost and a plan leave the certificate, and a job that writes no file leaves the writer
+abbrev pub DoesWith : {R C O : Type 0} → Job → Use R → Lent C → Lent O → Written → Type 0
+DoesWith {R} {C} {O} job.Cost units cert out w = Does job.Cost units (nobody {X = C}) (nobody {X = O}) w × IsLeft cert × IsLeft out
+DoesWith {R} {C} {O} (job.Plan workers nodes strong) units cert out w = Does (job.Plan workers nodes strong) units (nobody {X = C}) out w × IsLeft cert
+DoesWith {R} {C} {O} (job.Resume workers nodes part) units cert out w = Does (job.Resume workers nodes part) units cert out w
+DoesWith {R} {C} {O} job.Check units cert out w = Does job.Check units cert (nobody {X = O}) w × IsLeft out
+DoesWith {R} {C} {O} job.Frames units cert out w = Does job.Frames units cert (nobody {X = O}) w × IsLeft out
+DoesWith {R} {C} {O} job.Capture units cert out w = Does job.Capture units cert out w
+DoesWith {R} {C} {O} job.PlanCost units cert out w = Does job.PlanCost units cert (nobody {X = O}) w × IsLeft out
+DoesWith {R} {C} {O} job.Play units cert out w = Does job.Play units cert (nobody {X = O}) w × IsLeft out
+
+-- a run does its job, and tells what is to be written for it
+abbrev pub IsRun : {R C W O : Type 0} → Job → Use R → Lent C → Use W → Lent O → ℕ → Type 0
+IsRun j units cert text out code = Tells (DoesWith j units cert out) text code
+
+-- ---- a command line, of whose files nothing is known
+
+-- an answer is what is told where the path of a certificate to read is this: of one whose file isn't known, what is told for some text, unless it couldn't be read
+abbrev pub AnswersLine : Job → Option (String Global) → List ℕ → Result Told Refusal → Type 0
+AnswersLine j None bytes answer = TellsFor j bytes None answer
+AnswersLine j (Some from) bytes answer = (answer ≡ Err refusal.Read) ⊎ ((text : List ℕ) × TellsFor j bytes (Some text) answer)
+
+-- what is written for an answer: where its file isn't at its path, the refusal of a failed write
+abbrev pub reported : Result Told Refusal → Option FileFault → Written
+reported (Ok t) None = shown t.answer
+reported (Ok t) (Some fault) = refused refusal.Write
+reported (Err r) fault = refused r
+
+-- what is told where the job, the path of a certificate to read and that of a file to write are these: of a certificate whose file isn't known, what is told for
+-- some text, unless a read or a write failed
+abbrev pub LineTold : Job → Option (String Global) → Option (String Global) → Written → List ℕ → Type 0
+LineTold j None None w bytes = (file : Option (List ℕ)) × IsTold j bytes None w file
+LineTold j None (Some to) w bytes = Refuses refusal.Write w ⊎ ((file : Option (List ℕ)) × IsTold j bytes None w file)
+LineTold j (Some from) to w bytes = (Refuses refusal.Read w ⊎ Refuses refusal.Write w) ⊎ ((text : List ℕ) × (file : Option (List ℕ)) × IsTold j bytes (Some text) w file)
+
+pub record DoesLine {R : Type 0} (line : Line) (units : Use R) (w : Written) : Type 0 where
+  pub read : ReadsUpTo units most_of_units (Refuses refusal.Read w)
+  pub told : IsSound units → IfSome (before units) (LineTold (job_of line) (cert_of line) (out_of line) w)
+
+-- ---- words that are no command line
+
+-- the text that says why, with status 5
+abbrev pub usage : List ℕ → Written
+usage text = record { text = text; code = 5 }
+
+-- ---- what a caller brings
+
+-- a check, the cost of a plan and a resumed search have a reader of a certificate, which has not failed, and frames and a play may have one
+abbrev pub HasCert : {C : Type 0} → Job → Option (Io C) → Type 0
+HasCert job.Cost cert = Unit {0}
+HasCert (job.Plan workers nodes strong) cert = Unit {0}
+HasCert (job.Resume workers nodes part) None = ⊥
+HasCert (job.Resume workers nodes part) (Some cert) = has_failed cert ≡ false
+HasCert job.Check None = ⊥
+HasCert job.Check (Some cert) = has_failed cert ≡ false
+HasCert job.Frames None = Unit {0}
+HasCert job.Frames (Some cert) = has_failed cert ≡ false
+HasCert job.Capture None = Unit {0}
+HasCert job.Capture (Some cert) = has_failed cert ≡ false
+HasCert job.Play None = Unit {0}
+HasCert job.Play (Some cert) = has_failed cert ≡ false
+HasCert job.PlanCost None = ⊥
+HasCert job.PlanCost (Some cert) = has_failed cert ≡ false
+
+-- if there is a reader, it has not failed
+abbrev pub NoneFailed : {C : Type 0} → Option (Io C) → Type 0
+NoneFailed None = Unit {0}
+NoneFailed (Some cert) = has_failed cert ≡ false
+
+-- the writer of a capture, if there is one, has not failed; of another job's nothing is asked
+abbrev pub HasOut : {O : Type 0} → Job → Option (Io O) → Type 0
+HasOut job.Cost out = Unit {0}
+HasOut (job.Plan workers nodes strong) out = Unit {0}
+HasOut (job.Resume workers nodes part) out = Unit {0}
+HasOut job.Check out = Unit {0}
+HasOut job.Frames out = Unit {0}
+HasOut job.Capture out = NoneFailed out
+HasOut job.Play out = Unit {0}
+HasOut job.PlanCost out = Unit {0}

@@ -1,0 +1,240 @@
+//! Does what a command line says, with the paths that it names.
+
+ghost use Rattle.std.specs.Prelude.{◌≡◌, false, IfSome, None};
+ghost use Rattle.ec_wire.specs.Stream.{has_failed, stream};
+ghost use Rattle.ec_cli_command.specs.Words.{JobFits, cert_of, job_of, out_of};
+ghost use Rattle.ec_cli_inputs.specs.Input.{ReadsUpTo, most_of_units};
+ghost use Rattle.ec_cli_inputs.specs.Use.{used};
+ghost use Rattle.ec_cli_answers.specs.Told.{HasText, IsWritable};
+ghost use Rattle.ec_cli_run.specs.Runs.{AnswersLine, DoesLine, ReadsSomeCert, Tells, reported};
+ghost use Rattle.ec_cli_run.specs.Sound.{LineIsTrue};
+
+use crate::answering::{answer_alone, answer_both};
+use crate::delivering::{deliver, write_file};
+use crate::job::{Status, refuse};
+use crate::older::reason_to_stay;
+use ec_cli_answers::{File, Told};
+use ec_cli_command::{Job, Line};
+use ec_cli_files::{Content, FileFault, KeepReason, Late};
+use ec_cli_refusals::Refusal;
+use ec_tree::{law_levels_bound, law_trees_bound};
+use ec_unit_text::UnitFault;
+use ec_wire::Io;
+use ec_workers::Gate;
+use std::alloc::{AllocError, Global};
+use std::fs;
+use std::io::{Read, Write};
+use std::rt::Files;
+use std::sync::Wait;
+use std::thread::Threads;
+
+/// What came of a command line.
+#[derive(Debug, Drop)]
+pub struct Report {
+    /// What the job told, or why it told nothing.
+    pub told: Result<Told, Refusal>,
+    /// Why the certificate or the capture file that it tells isn't at its path, if it isn't. The text is then the refusal of
+    /// a failed write.
+    pub fault: Option<FileFault>,
+    /// The exit status of what was written.
+    pub status: Status,
+}
+
+/// What a job tells of the units and of the certificate at a path, which is opened before the units are read.
+fn tell_from<R: Read, F: Files, T: Threads + Wait + Sync, G: Gate + Sync>(
+    rt: &T,
+    files: &F,
+    alloc: Global,
+    job: &Job,
+    from: &String,
+    units: &mut Io<R>,
+    gate: &G,
+) -> Result<Told, Refusal>
+    requires fits { JobFits job.now }
+    requires given { ReadsSomeCert job.now }
+    requires units { has_failed units.old ≡ false }
+    ensures told { has_failed units.new ≡ false → IfSome (R.remaining (stream units.old)) (λ bytes. AnswersLine job.now (Some from.now) bytes result) }
+    ensures read { ReadsUpTo (used R.remaining units.old units.new) most_of_units (result ≡ Err Refusal.Read) }
+    ensures text { IsWritable result }
+{
+    let Ok(file) = fs::open(files, from.as_str()) else {
+        return Err(Refusal::Read);
+    };
+    let mut cert = Io::new(file);
+    answer_both(rt, alloc, job, units, &mut cert, gate)
+}
+
+/// What the job of a line tells.
+fn tell_line<R: Read, F: Files, T: Threads + Wait + Sync, G: Gate + Sync>(
+    rt: &T,
+    files: &F,
+    alloc: Global,
+    line: &Line,
+    units: &mut Io<R>,
+    gate: &G,
+) -> Result<Told, Refusal>
+    requires fits { JobFits (job_of line.now) }
+    requires units { has_failed units.old ≡ false }
+    ensures told { has_failed units.new ≡ false → IfSome (R.remaining (stream units.old)) (λ bytes. AnswersLine (job_of line.now) (cert_of line.now) bytes result) }
+    ensures read { ReadsUpTo (used R.remaining units.old units.new) most_of_units (result ≡ Err Refusal.Read) }
+    ensures text { IsWritable result }
+{
+    let job = line.job();
+    match line.cert() {
+        Some(from) => tell_from(rt, files, alloc, &job, from, units, gate),
+        None => answer_alone(rt, alloc, &job, units, gate),
+    }
+}
+
+/// What the job of a line writes before its text.
+fn content_of(line: &Line) -> Content {
+    match line {
+        Line::Frames { .. } => Content::Capture,
+        _ => Content::Certificate,
+    }
+}
+
+/// Why what stands at the path of a file makes no room for it: a certificate that says more does so, but for the one that
+/// the search went on with, than which nothing that goes on with it says less.
+fn reason_to_leave<F: Files>(
+    alloc: Global,
+    from: Option<&String>,
+    file: &File,
+    late: &Late<'_, F>,
+) -> Option<KeepReason> {
+    let File::Cert(cert) = file else {
+        return None;
+    };
+    match from {
+        Some(from) if late.is_at(from.as_str()) => None,
+        _ => reason_to_stay(alloc, late, cert),
+    }
+}
+
+/// Writes a file, if there is one, of what went on with the certificate `from` if it did with one, and lets it take its
+/// place. Why it isn't there.
+pub(crate) fn settle_file<F: Files>(
+    alloc: Global,
+    from: Option<&String>,
+    file: &File,
+    mut late: Late<'_, F>,
+) -> Option<FileFault>
+    requires { HasText file.now }
+{
+    let mut out = Io::new(&mut late);
+    let written = write_file(file, &mut out);
+    drop(out);
+    let Ok(()) = written else {
+        return Some(late.give_up());
+    };
+    match reason_to_leave(alloc, from, file, &late) {
+        Some(why) => Some(late.leave(why)),
+        None => late.settle().err(),
+    }
+}
+
+/// Writes the file of what is told of a line, if there is one, and lets it take its place. Why it isn't there.
+fn write_late<F: Files>(
+    alloc: Global,
+    line: &Line,
+    told: &Result<Told, Refusal>,
+    late: Late<'_, F>,
+) -> Option<FileFault>
+    requires { IsWritable told.now }
+{
+    match told {
+        Ok(told) => settle_file(alloc, line.cert(), &told.file, late),
+        Err(_) => None,
+    }
+}
+
+/// Writes what is told, or why nothing is, or that its file couldn't be written.
+fn write_report<W: Write>(
+    told: &Result<Told, Refusal>,
+    fault: &Option<FileFault>,
+    text: &mut Io<W>,
+) -> Status
+    requires { has_failed text.old ≡ false }
+    ensures { Tells (λ w. w ≡ reported told.now fault.now) (used W.contents text.old text.new) result.code }
+{
+    match fault {
+        Some(_) => match told {
+            Ok(_) => refuse(Refusal::Write, text),
+            Err(refusal) => refuse(*refusal, text),
+        },
+        None => deliver(told, text),
+    }
+}
+
+/// Writes what came of a line, and reports it.
+fn deliver_report<W: Write>(
+    told: Result<Told, Refusal>,
+    fault: Option<FileFault>,
+    text: &mut Io<W>,
+) -> Report
+    requires { has_failed text.old ≡ false }
+    ensures told { result.told ≡ told }
+    ensures fault { result.fault ≡ fault }
+    ensures text { Tells (λ w. w ≡ reported result.told result.fault) (used W.contents text.old text.new) result.status.code }
+{
+    let status = write_report(&told, &fault, text);
+    Report {
+        told,
+        fault,
+        status,
+    }
+}
+
+/// Does what a command line says, on these units and to this text.
+fn report_line<R: Read, W: Write, F: Files, T: Threads + Wait + Sync, G: Gate + Sync>(
+    files: &F,
+    wait: &T,
+    alloc: Global,
+    line: &Line,
+    units: &mut Io<R>,
+    text: &mut Io<W>,
+    gate: &G,
+) -> Report
+    requires fits { JobFits (job_of line.now) }
+    requires units { has_failed units.old ≡ false }
+    requires text { has_failed text.old ≡ false }
+    ensures { Tells (λ w. (w ≡ reported result.told result.fault) × DoesLine line.now (used R.remaining units.old units.new) w) (used W.contents text.old text.new) result.status.code }
+{
+    let Some(path) = line.out() else {
+        let told = tell_line(wait, files, alloc, line, units, gate);
+        return deliver_report(told, None, text);
+    };
+    match Late::new(files, alloc, path.as_str(), content_of(line)) {
+        Ok(late) => {
+            let told = tell_line(wait, files, alloc, line, units, gate);
+            let fault = write_late(alloc, line, &told, late);
+            deliver_report(told, fault, text)
+        }
+        Err(AllocError) => {
+            deliver_report(Err(Refusal::Unit(UnitFault::OutOfMemory)), None, text)
+        }
+    }
+}
+
+/// Does what a command line says, on these units and to this text. The certificate or the capture file is at its path,
+/// whole, before a byte of the text is written; where it can't be, the text is the refusal of a failed write. `gate` is told
+/// before each node of a search.
+pub fn do_line<R: Read, W: Write, F: Files, T: Threads + Wait + Sync, G: Gate + Sync>(
+    files: &F,
+    wait: &T,
+    alloc: Global,
+    line: &Line,
+    units: &mut Io<R>,
+    text: &mut Io<W>,
+    gate: &G,
+) -> Report
+    requires fits { JobFits (job_of line.now) }
+    requires units { has_failed units.old ≡ false }
+    requires text { has_failed text.old ≡ false }
+    ensures does { Tells (λ w. (w ≡ reported result.told result.fault) × DoesLine line.now (used R.remaining units.old units.new) w) (used W.contents text.old text.new) result.status.code }
+    ensures truth { Tells (LineIsTrue (job_of line.now) (used R.remaining units.old units.new)) (used W.contents text.old text.new) result.status.code }
+{
+    law_trees_bound();
+    law_levels_bound();
+    report_line(files, wait, alloc, line, units, text, gate)
+}

@@ -1,0 +1,27 @@
+//! The jobs of the program: what is read, what is told of it, and how that is delivered.
+#![tactic(auto)]
+
+mod answering;
+mod delivering;
+mod doing;
+mod job;
+mod law;
+mod merging;
+mod misfits;
+mod older;
+mod plain;
+mod plain_steps;
+mod running;
+mod steps;
+mod usage;
+
+pub use doing::{Report, do_line};
+pub use job::{Status, refuse};
+pub use law::{
+    law_a_plan_is_true, law_a_resumed_plan_is_true, law_a_yes_is_true, law_answers_agree,
+    law_one_capture_each, law_one_least_each, law_one_output_each,
+};
+pub use merging::{MergeFault, MergeReport, do_merge};
+pub use plain::run_plain;
+pub use running::run;
+pub use usage::{refuse_memory, refuse_words};

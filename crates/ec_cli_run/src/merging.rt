@@ -1,0 +1,272 @@
+//! Merges certificates, with the paths that are named.
+
+ghost use Rattle.std.specs.Prelude.{◌≡◌, ◌≤◌, ℕ, List, false, length, IfOk, IfSome, Ok as OkOf};
+ghost use Rattle.ec_wire.specs.Stream.{has_failed, stream};
+ghost use Rattle.ec_units.specs.Load.{loads_of};
+ghost use Rattle.ec_loads.specs.Held.{no_places};
+ghost use Rattle.ec_cert.specs.Shapes.{cert_view};
+ghost use Rattle.ec_cli_inputs.specs.Input.{AnswersUnits};
+ghost use Rattle.ec_cli_inputs.specs.Use.{used};
+ghost use Rattle.ec_cli_text.specs.Output.{shown};
+ghost use Rattle.ec_cli_answers.specs.Merged.{IsMergeWritten};
+ghost use Rattle.ec_cert_merge.specs.Certs.{IsProven};
+ghost use Rattle.ec_cli_answers.specs.Told.{HasText, file_bytes};
+ghost use Rattle.ec_cli_run.specs.Merging.{IsTrueMerge, MergeTellsTruth, merge_written, unmerged};
+ghost use Rattle.ec_cli_run.specs.Runs.{Tells};
+
+use crate::doing::settle_file;
+use crate::job::{Status, refuse, write_status};
+use crate::misfits::refuse_misfit;
+use ec_cert::Cert;
+use ec_cert_merge::Misfit;
+use ec_checker::CheckFault;
+use ec_cli_answers::{Told, joined, right_cert, tell_merged};
+use ec_cli_files::{Content, FileFault, Late};
+use ec_cli_inputs::{cert_text, read_alone};
+use ec_cli_refusals::Refusal;
+use ec_loads::Loads;
+use ec_tree::law_levels_bound;
+use ec_unit_text::UnitFault;
+use ec_units::Units;
+use ec_wire::Io;
+use std::alloc::{AllocError, Global};
+use std::fs;
+use std::io::{Read, Write};
+use std::rt::Files;
+
+/// Why certificates aren't merged. Their numbers are from 1.
+#[derive(Clone, Copy, Debug, PartialEq, Eq)]
+pub enum MergeFault {
+    /// The units are refused, or memory ran out.
+    Refused(Refusal),
+    /// A certificate is refused, as a check refuses it.
+    Cert { number: usize, why: Refusal },
+    /// A certificate doesn't fit with the first.
+    Misfit { number: usize, why: Misfit },
+}
+
+impl From<Refusal> for MergeFault {
+    fn from(why: Refusal) -> MergeFault {
+        MergeFault::Refused(why)
+    }
+}
+
+/// What came of a merge.
+#[derive(Debug, Drop)]
+pub struct MergeReport {
+    /// What was told, or why nothing was.
+    pub told: Result<Told, MergeFault>,
+    /// Why the merged certificate isn't at its path, if it isn't. The text is then the refusal of a failed write.
+    pub fault: Option<FileFault>,
+    /// The exit status of what was written.
+    pub status: Status,
+}
+
+/// The certificate at a path, to which the checker says yes.
+fn cert_at<F: Files>(
+    files: &F,
+    alloc: Global,
+    loads: &mut Loads,
+    units: &Units,
+    path: &str,
+) -> Result<Cert, Refusal>
+    requires empty { loads.old ≡ record { loads = loads_of units.now.units; slots = units.now.slots; places = no_places (loads_of units.now.units) } }
+    ensures same { loads.new ≡ loads.old }
+    ensures right { IfOk result (λ cert. IsProven units.now.units units.now.slots (cert_view cert)) }
+{
+    let Ok(file) = fs::open(files, path) else {
+        return Err(Refusal::Read);
+    };
+    let text = cert_text(alloc, &mut Io::new(file))?;
+    right_cert(alloc, loads, units, text)
+}
+
+/// What some certificates and the one at a path, which is of this number, show together.
+fn merge_at<F: Files>(
+    files: &F,
+    alloc: Global,
+    loads: &mut Loads,
+    units: &Units,
+    merged: Cert,
+    path: &str,
+    number: usize,
+) -> Result<Cert, MergeFault>
+    requires empty { loads.old ≡ record { loads = loads_of units.now.units; slots = units.now.slots; places = no_places (loads_of units.now.units) } }
+    requires merged { IsProven units.now.units units.now.slots (cert_view merged) }
+    ensures same { loads.new ≡ loads.old }
+    ensures right { IfOk result (λ cert. IsProven units.now.units units.now.slots (cert_view cert)) }
+{
+    let next = match cert_at(files, alloc, loads, units, path) {
+        Ok(next) => next,
+        Err(why) => return Err(MergeFault::Cert { number, why }),
+    };
+    match joined(units, merged, next) {
+        Ok(both) => Ok(both),
+        Err(why) => Err(MergeFault::Misfit { number, why }),
+    }
+}
+
+/// What the certificates at some paths show together.
+fn merge_all<F: Files>(
+    files: &F,
+    alloc: Global,
+    loads: &mut Loads,
+    units: &Units,
+    paths: &[String],
+) -> Result<Cert, MergeFault>
+    requires some { 1 ≤ length paths.now }
+    requires empty { loads.old ≡ record { loads = loads_of units.now.units; slots = units.now.slots; places = no_places (loads_of units.now.units) } }
+    ensures same { loads.new ≡ loads.old }
+    ensures right { IfOk result (λ cert. IsProven units.now.units units.now.slots (cert_view cert)) }
+{
+    let mut merged = match cert_at(files, alloc, loads, units, paths[0].as_str()) {
+        Ok(first) => first,
+        Err(why) => return Err(MergeFault::Cert { number: 1, why }),
+    };
+    for at in 1..paths.len() {
+        merged = merge_at(
+            files,
+            alloc,
+            loads,
+            units,
+            merged,
+            paths[at].as_str(),
+            at + 1,
+        )?;
+    }
+    Ok(merged)
+}
+
+/// What is told of the certificates at some paths, merged.
+fn merge_for<F: Files>(
+    files: &F,
+    alloc: Global,
+    units: &Units,
+    paths: &[String],
+) -> Result<Told, MergeFault>
+    requires some { 1 ≤ length paths.now }
+    ensures told { (bytes : List ℕ) → AnswersUnits (OkOf units.now) bytes → IfOk result (λ t. IsMergeWritten bytes (shown t.answer) (file_bytes t.file)) }
+    ensures text { IfOk result (λ t. HasText t.file) }
+{
+    let Ok(mut loads) = Loads::new(alloc, units) else {
+        return Err(MergeFault::Refused(Refusal::Check(CheckFault::OutOfMemory)));
+    };
+    let cert = merge_all(files, alloc, &mut loads, units, paths)?;
+    Ok(tell_merged(alloc, units, &mut loads, cert)?)
+}
+
+/// What is told of the certificates at some paths, merged for the units that the reader has.
+fn tell_merge<R: Read, F: Files>(
+    files: &F,
+    alloc: Global,
+    paths: &[String],
+    units: &mut Io<R>,
+) -> Result<Told, MergeFault>
+    requires some { 1 ≤ length paths.now }
+    requires units { has_failed units.old ≡ false }
+    ensures truth { has_failed units.new ≡ false → IfSome (R.remaining (stream units.old)) (λ bytes. IsTrueMerge bytes result) }
+    ensures text { IfOk result (λ t. HasText t.file) }
+{
+    law_levels_bound();
+    let inputs = read_alone(alloc, units)?;
+    merge_for(files, alloc, &inputs.units, paths)
+}
+
+/// Writes why certificates aren't merged.
+fn refuse_merge<W: Write>(why: MergeFault, text: &mut Io<W>) -> Status
+    requires { has_failed text.old ≡ false }
+    ensures { Tells (λ w. w ≡ unmerged why) (used W.contents text.old text.new) result.code }
+{
+    match why {
+        MergeFault::Refused(why) => refuse(why, text),
+        MergeFault::Cert { why, .. } => refuse(why, text),
+        MergeFault::Misfit { number, why } => refuse_misfit(why, number, text),
+    }
+}
+
+/// Writes what is told of merged certificates, or why nothing is, or that their file couldn't be written.
+fn write_merge<W: Write>(
+    told: &Result<Told, MergeFault>,
+    fault: &Option<FileFault>,
+    text: &mut Io<W>,
+) -> Status
+    requires { has_failed text.old ≡ false }
+    ensures { Tells (λ w. w ≡ merge_written told.now fault.now) (used W.contents text.old text.new) result.code }
+{
+    match told {
+        Ok(told) => match fault {
+            Some(_) => refuse(Refusal::Write, text),
+            None => write_status(text, told.answer.text.as_bytes(), told.answer.code),
+        },
+        Err(why) => refuse_merge(*why, text),
+    }
+}
+
+/// Writes what came of a merge, and reports it.
+fn deliver_merge<W: Write>(
+    told: Result<Told, MergeFault>,
+    fault: Option<FileFault>,
+    text: &mut Io<W>,
+) -> MergeReport
+    requires { has_failed text.old ≡ false }
+    ensures told { result.told ≡ told }
+    ensures fault { result.fault ≡ fault }
+    ensures text { Tells (λ w. w ≡ merge_written result.told result.fault) (used W.contents text.old text.new) result.status.code }
+{
+    let status = write_merge(&told, &fault, text);
+    MergeReport {
+        told,
+        fault,
+        status,
+    }
+}
+
+/// Writes the merged certificate, if there is one, and lets it take its place. Why it isn't there.
+fn write_late<F: Files>(
+    alloc: Global,
+    told: &Result<Told, MergeFault>,
+    late: Late<'_, F>,
+) -> Option<FileFault>
+    requires { IfOk told.now (λ t. HasText t.file) }
+{
+    match told {
+        Ok(told) => settle_file(alloc, None, &told.file, late),
+        Err(_) => None,
+    }
+}
+
+/// Merges the certificates at some paths, for the units that the reader has, and tells what they show together, as a search
+/// tells it. The units are read first, then each certificate in turn, and only the units and what was merged so far are
+/// held. The merged certificate is at the path `out`, if there is one, whole, before a byte of the text is written, so it may
+/// take the place of one of the others; where it can't be there, the text is the refusal of a failed write.
+pub fn do_merge<R: Read, W: Write, F: Files>(
+    files: &F,
+    alloc: Global,
+    paths: &[String],
+    out: Option<&String>,
+    units: &mut Io<R>,
+    text: &mut Io<W>,
+) -> MergeReport
+    requires some { 1 ≤ length paths.now }
+    requires units { has_failed units.old ≡ false }
+    requires text { has_failed text.old ≡ false }
+    ensures does { Tells (λ w. w ≡ merge_written result.told result.fault) (used W.contents text.old text.new) result.status.code }
+    ensures truth { Tells (MergeTellsTruth (used R.remaining units.old units.new)) (used W.contents text.old text.new) result.status.code }
+{
+    let Some(path) = out else {
+        let told = tell_merge(files, alloc, paths, units);
+        return deliver_merge(told, None, text);
+    };
+    match Late::new(files, alloc, path.as_str(), Content::Certificate) {
+        Ok(late) => {
+            let told = tell_merge(files, alloc, paths, units);
+            let fault = write_late(alloc, &told, late);
+            deliver_merge(told, fault, text)
+        }
+        Err(AllocError) => deliver_merge(
+            Err(MergeFault::Refused(Refusal::Unit(UnitFault::OutOfMemory))),
+            None,
+            text,
+        ),
+    }
+}

@@ -1,0 +1,129 @@
+//! An older certificate where a newer one is to be written.
+
+ghost use Rattle.std.specs.Prelude.{◌≡◌, ◌↔◌, IsTrue};
+ghost use Rattle.ec_loads.specs.Search.{IsAtMost};
+ghost use Rattle.ec_cert.specs.BestPlan.{value_of};
+ghost use Rattle.ec_cert.specs.Shapes.{cert_view};
+ghost use Rattle.ec_cli_run.specs.Older.{HasMoreNodes, ShowsMore, SaysMore};
+
+use ec_cert::{Best, Cert, UnitLine, node_count};
+use ec_cert_merge::misfit;
+use ec_cert_text::{CertFault, MOST_BYTES, read_cert};
+use ec_cli_files::{KeepReason, Late};
+use std::alloc::Global;
+use std::io;
+use std::io::ErrorKind;
+use std::rt::Files;
+
+/// Whether two lines say the same of a unit.
+fn is_same(one: &UnitLine, other: &UnitLine) -> bool
+    ensures { IsTrue result ↔ (one.now ≡ other.now) }
+{
+    one.name.as_str() == other.name.as_str()
+        && one.bytes == other.bytes
+        && one.period == other.period
+}
+
+/// Whether two lists say the same of the units.
+fn are_same(these: &[UnitLine], those: &[UnitLine]) -> bool
+    ensures { IsTrue result ↔ (these.now ≡ those.now) }
+{
+    if these.len() != those.len() {
+        return false;
+    }
+    for i in 0..these.len() {
+        if !is_same(&these[i], &those[i]) {
+            return false;
+        }
+    }
+    true
+}
+
+/// Whether a plan costs less than another one, or is there alone.
+fn costs_less(older: &Option<Best>, newer: &Option<Best>) -> bool
+    ensures { IsTrue result ↔ (¬ (IsAtMost (value_of newer.now) (value_of older.now))) }
+{
+    match (older, newer) {
+        (None, _) => false,
+        (Some(_), None) => true,
+        (Some(older), Some(newer)) => older.busiest < newer.busiest,
+    }
+}
+
+/// Whether two plans cost the same, or neither is there.
+fn cost_the_same(older: &Option<Best>, newer: &Option<Best>) -> bool
+    ensures { IsTrue result ↔ (value_of older.now ≡ value_of newer.now) }
+{
+    match (older, newer) {
+        (None, None) => true,
+        (Some(older), Some(newer)) => older.busiest == newer.busiest,
+        _ => false,
+    }
+}
+
+/// Whether an older certificate is of the same search with the same value and level, and has more nodes.
+fn has_more_nodes(older: &Cert, newer: &Cert) -> bool
+    ensures { IsTrue result ↔ HasMoreNodes (cert_view older.now) (cert_view newer.now) }
+{
+    misfit(older, newer).is_none()
+        && cost_the_same(&older.best, &newer.best)
+        && older.level == newer.level
+        && node_count(&newer.tree) < node_count(&older.tree)
+}
+
+/// Whether the level of an older certificate, none of a proof, is above that of a newer one.
+fn shows_more(older: Option<u64>, newer: u64) -> bool
+    ensures { IsTrue result ↔ ShowsMore older newer }
+{
+    match older {
+        None => true,
+        Some(level) => newer < level,
+    }
+}
+
+/// Whether an older certificate says more for the same units than a newer one, which is no proof: it shows a higher level,
+/// has a plan that costs less, or is of the same search and has more nodes.
+fn says_more(older: &Cert, newer: &Cert) -> bool
+    ensures { IsTrue result ↔ SaysMore (cert_view older.now) (cert_view newer.now) }
+{
+    let Some(level) = newer.level else {
+        return false;
+    };
+    older.slots == newer.slots
+        && are_same(older.units.as_slice(), newer.units.as_slice())
+        && (shows_more(older.level, level)
+            || costs_less(&older.best, &newer.best)
+            || has_more_nodes(older, newer))
+}
+
+/// The certificate that stands at the path of a file; none where there is no file that is one.
+fn standing_cert<F: Files>(alloc: Global, late: &Late<'_, F>) -> io::Result<Option<Cert>> {
+    let Some(text) = late.standing(MOST_BYTES as u64)? else {
+        return Ok(None);
+    };
+    match read_cert(alloc, &text) {
+        Ok(cert) => Ok(Some(cert)),
+        Err(CertFault::OutOfMemory) => Err(io::Error::from(ErrorKind::OutOfMemory)),
+        Err(_) => Ok(None),
+    }
+}
+
+/// Why a certificate that stands at the path of a newer one makes no room for it: it says more for the same units, or it
+/// can't be read. None where nothing of it is lost (own profile).
+pub(crate) fn reason_to_stay<F: Files>(
+    alloc: Global,
+    late: &Late<'_, F>,
+    newer: &Cert,
+) -> Option<KeepReason> {
+    if newer.level.is_none() {
+        return None;
+    }
+    match standing_cert(alloc, late) {
+        Ok(Some(older)) if says_more(&older, newer) => Some(match older.level {
+            Some(_) => KeepReason::SaysMore,
+            None => KeepReason::IsProof,
+        }),
+        Ok(_) => None,
+        Err(_) => Some(KeepReason::Unreadable),
+    }
+}

@@ -1,0 +1,117 @@
+//! The command `cost`: what each tick of the placed units costs.
+
+ghost use Rattle.std.specs.Prelude.{◌≡◌, ◌⊎◌, ℕ, ◌+◌, ◌*◌, ◌<◌, ◌≤◌, ◌++◌, length, map, string_bytes, None, Some, IfOk, IfErr, OnOk};
+ghost use Rattle.ec_hyper.specs.Lcm.{lcm_of};
+ghost use Rattle.ec_units.specs.Load.{loads_of, periods_of};
+ghost use Rattle.ec_units.specs.Views.{unit_view, units_view};
+ghost use Rattle.ec_loads.specs.Cost.{plan_items, tick_cost};
+ghost use Rattle.ec_loads.specs.Legal.{IsLegal};
+ghost use Rattle.ec_loads.specs.Held.{items_of};
+ghost use Rattle.ec_cli_text.specs.Lines.{tick_line, tick_lines};
+ghost use Rattle.ec_cli_text.specs.Output.{IsCostText, IsCostsText, first_unplaced, places_of, IsCostOutput, Answers};
+ghost use Rattle.ec_cli_refusals.specs.Refusals.{out_of_memory};
+ghost use Rattle.ec_cli_refusals.specs.declared.refusal.Refusal.TheVariants.{NoPlace};
+ghost use Rattle.ec_cli_command.specs.declared.job.Job.TheVariants.{Cost, PlanCost};
+
+use crate::answer::Answer;
+use ec_cli_refusals::Refusal;
+use ec_loads::{Loads, Places, Plan, is_legal};
+use ec_units::Units;
+use ec_wire::{fits, ns_of};
+use std::alloc::{AllocError, Global};
+use std::fmt::Write;
+
+/// The plan that the places of the units make.
+pub(crate) fn plan_of(alloc: Global, units: &Units) -> Result<Plan, Refusal>
+    ensures ok { IfOk result (λ plan. (first_unplaced (map unit_view units.now.units) ≡ None) × (plan.places ≡ places_of (map unit_view units.now.units)) × (length plan.places ≡ length units.now.units)) }
+    ensures err { IfErr result (λ r. (r ≡ out_of_memory) ⊎ ((n : ℕ) × (r ≡ NoPlace n) × (first_unplaced (map unit_view units.now.units) ≡ Some n))) }
+{
+    let mut places = Vec::new(alloc);
+    let all = units.units.as_slice();
+    for (i, unit) in all.iter().enumerate() {
+        match unit.place {
+            Some(place) => places.push(place)?,
+            None => return Err(Refusal::NoPlace(i)),
+        }
+    }
+    Ok(Plan {
+        places: Places::new(places),
+    })
+}
+
+/// The loads of the units at the places of the plan.
+fn loads_at(alloc: Global, units: &Units, plan: &Plan) -> Result<Loads, AllocError>
+    requires { length plan.now.places ≡ length units.now.units }
+    ensures items { IfOk result (λ s. items_of s ≡ plan_items (loads_of units.now.units) plan.now.places) }
+    ensures slots { IfOk result (λ s. s.slots ≡ units.now.slots) }
+{
+    let mut loads = Loads::new(alloc, units)?;
+    let places = plan.places.as_slice();
+    for i in 0..places.len() {
+        loads.place(i, places[i]);
+    }
+    Ok(loads)
+}
+
+/// Adds the line of a tick.
+fn push_tick(text: &mut String, tick: u32, bytes: u64) -> Result<(), AllocError>
+    requires { bytes ≤ 1000000 }
+    ensures { OnOk result (string_bytes text.new ≡ string_bytes text.old ++ tick_line tick bytes) }
+{
+    let ns = ns_of(bytes);
+    write!(text, "tick {tick} bytes {bytes} ns {ns}\n")
+}
+
+/// Adds a line for each tick.
+fn push_ticks(text: &mut String, loads: &Loads, ticks: u32) -> Result<(), AllocError>
+    ensures { OnOk result (string_bytes text.new ≡ string_bytes text.old ++ tick_lines (tick_cost (items_of loads.now) loads.now.slots) ticks) }
+{
+    for t in 0..ticks {
+        push_tick(text, t, loads.cost(t))?;
+    }
+    Ok(())
+}
+
+/// The text of the costs of a plan.
+fn cost_text(alloc: Global, units: &Units, plan: &Plan) -> Result<String, AllocError>
+    requires { length plan.now.places ≡ length units.now.units }
+    ensures { IfOk result (λ text. IsCostText (plan_items (loads_of units.now.units) plan.now.places) units.now.slots
+        (lcm_of (periods_of (loads_of units.now.units))) units.now.tick_ns (string_bytes text)) }
+{
+    let loads = loads_at(alloc, units, plan)?;
+    let ticks = units.hyper().ticks();
+    let mut text = format!(in alloc; "hyperperiod {ticks}\n")?;
+    push_ticks(&mut text, &loads, ticks)?;
+    let (most, at) = loads.top();
+    write!(text, "busiest {most} at {at}\n")?;
+    let answer = if fits(most, units.tick_ns) {
+        "yes"
+    } else {
+        "no"
+    };
+    write!(text, "fits {answer}\n")?;
+    Ok(text)
+}
+
+/// What is answered for a legal plan of the units: the text of its costs, or that memory ran out.
+pub fn plan_cost(alloc: Global, units: &Units, plan: &Plan) -> Result<Answer, Refusal>
+    requires { IsLegal (loads_of units.now.units) units.now.slots plan.now.places }
+    ensures { Answers PlanCost result (λ w. IsCostsText (units_view units.now) plan.now.places w.text × (w.code ≡ 0)) }
+{
+    let text = cost_text(alloc, units, plan)?;
+    Ok(Answer { text, code: 0 })
+}
+
+/// What is answered for units: the text of their costs, or why there is none.
+pub fn cost_of(alloc: Global, units: &Units) -> Result<Answer, Refusal>
+    ensures { Answers Cost result (IsCostOutput (units_view units.now)) }
+{
+    let plan = plan_of(alloc, units)?;
+    match is_legal(units, &plan) {
+        Ok(()) => Ok(Answer {
+            text: cost_text(alloc, units, &plan)?,
+            code: 0,
+        }),
+        Err(illegal) => Err(Refusal::Illegal(illegal)),
+    }
+}

@@ -1,0 +1,87 @@
+//! The units at their places, and which of them a frame carries.
+
+use ec_hyper::Hyper;
+use ec_loads::{Loads, Plan};
+use ec_text_builder::Draft;
+use ec_units::{Place, Unit, Units, bytes_of};
+use std::alloc::{AllocError, Global};
+
+/// Units and their places, both in file order.
+#[derive(Clone, Copy)]
+pub(crate) struct Sent<'a> {
+    pub units: &'a [Unit],
+    pub places: &'a [Place],
+}
+
+/// A frame of the plan: its tick and its slot.
+#[derive(Clone, Copy)]
+pub(crate) struct At {
+    pub tick: u32,
+    pub slot: u8,
+}
+
+/// The loads of the units, each at its place in the plan.
+pub(crate) fn placed_loads(alloc: Global, units: &Units, plan: &Plan) -> Result<Loads, AllocError> {
+    let mut loads = Loads::new(alloc, units)?;
+    for (number, place) in plan.places.as_slice().iter().enumerate() {
+        if number < loads.places().len() {
+            loads.place(number, *place);
+        }
+    }
+    Ok(loads)
+}
+
+/// Whether a unit travels in a frame.
+fn travels(unit: &Unit, place: Place, at: At) -> bool {
+    place.slot == at.slot && Hyper::active(unit.period, place.phase, at.tick)
+}
+
+/// The process bytes that a frame carries.
+pub(crate) fn process_bytes(sent: Sent<'_>, at: At) -> u64 {
+    let mut bytes = 0u64;
+    for (unit, place) in sent.units.iter().zip(sent.places) {
+        if travels(unit, *place, at) {
+            bytes = bytes.saturating_add(u64::from(bytes_of(unit)));
+        }
+    }
+    bytes
+}
+
+/// Adds the names of the units of a period and a phase that a frame carries, with their process bytes.
+fn add_names(page: &mut Draft, sent: Sent<'_>, at: At, period: u16, phase: u16) {
+    let mut is_first = true;
+    for (unit, place) in sent.units.iter().zip(sent.places) {
+        if unit.period == period && place.phase == phase && travels(unit, *place, at) {
+            let bytes = bytes_of(unit);
+            if !is_first {
+                page.add(", ");
+            }
+            page.add(unit.name.as_str());
+            page.add(format_args!(" ({bytes})"));
+            is_first = false;
+        }
+    }
+}
+
+/// Whether one of the first `count` units travels in a frame with a period and a phase.
+fn is_told(sent: Sent<'_>, at: At, count: usize, period: u16, phase: u16) -> bool {
+    for (unit, place) in sent.units.iter().zip(sent.places).take(count) {
+        if unit.period == period && place.phase == phase && travels(unit, *place, at) {
+            return true;
+        }
+    }
+    false
+}
+
+/// Adds a line for each group that a frame carries, in the order of their first units.
+pub(crate) fn add_groups(page: &mut Draft, sent: Sent<'_>, at: At) {
+    let mut count = 0usize;
+    for (unit, place) in sent.units.iter().zip(sent.places) {
+        let (period, phase) = (unit.period, place.phase);
+        if travels(unit, *place, at) && !is_told(sent, at, count, period, phase) {
+            page.add(format_args!("\nperiod {period}, phase {phase}: "));
+            add_names(page, sent, at, period, phase);
+        }
+        count = count.saturating_add(1);
+    }
+}

@@ -1,6 +1,0 @@
-use Rattle.ec_crew.proofs.Leaving.{back_leaves}
-use Rattle.std.proofs.Common.{arith}
-use Rattle.ec_crew.proofs.post.Post.give_back.Goals as goal
-
-pub returns : goal.returns
-returns g c = grind (arith, back_leaves)

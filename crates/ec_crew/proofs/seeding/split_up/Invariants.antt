@@ -1,4 +1,0 @@
-use Rattle.ec_crew.proofs.seeding.split_up.Given as goal
-
-abbrev pub invariant-loop : goal.invariant-loop
-invariant-loop g l = (goal.iterator-loop g).can_next l.iterator' × (goal.iterator-loop g).is_finite l.iterator'

@@ -1,5 +1,0 @@
-use Rattle.std.proofs.Common.{rules}
-use Rattle.ec_drafts.proofs.draft.Draft.add.Goals as goal
-
-pub returns-then-self : goal.returns-then-self
-returns-then-self g c = search rules

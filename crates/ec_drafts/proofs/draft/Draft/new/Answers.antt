@@ -1,5 +1,0 @@
-use Rattle.std.proofs.Common.{rules}
-use Rattle.ec_drafts.proofs.draft.Draft.new.Goals as goal
-
-pub returns : goal.returns
-returns c = search rules

@@ -1,9 +1,0 @@
-//! Refusals explained on standard error, in nothing but plain text.
-#![tactic(auto)]
-
-mod explaining;
-mod plain;
-
-pub use ec_remarks::{Asked, Filed, Inputs, Written};
-pub use explaining::{advice, explain, merged_advice};
-pub use plain::plain_text;

@@ -1,0 +1,4 @@
+pub mod GoingLemmas
+pub mod FrameLemmas
+pub mod WithinLemmas
+pub mod StartLemmas

@@ -1,0 +1,5 @@
+use Rattle.std.proofs.Common.{rules}
+use Rattle.ec_frame_builder.proofs.start.opening.Goals as goal
+
+pub returns : goal.returns
+returns c = search rules

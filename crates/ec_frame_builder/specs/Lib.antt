@@ -1,0 +1,4 @@
+pub mod Frames
+pub mod Within
+pub mod Start
+pub mod Examples

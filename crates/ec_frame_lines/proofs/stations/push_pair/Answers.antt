@@ -1,6 +1,0 @@
-use Rattle.std.proofs.Common.{arith}
-use Rattle.std.proofs.lemmas.Grind.{common_steps}
-use Rattle.ec_frame_lines.proofs.stations.push_pair.Goals as goal
-
-pub loop-k-preserved : goal.loop-k-preserved
-loop-k-preserved c = grind (arith, common_steps)

@@ -1,5 +1,0 @@
-use Rattle.ec_frames.proofs.ReadingFrames as lemmas
-use Rattle.ec_frames.proofs.laws.one_reading.Goals as goal
-
-pub returns : goal.returns
-returns c = lemmas.one_reading

@@ -1,5 +1,0 @@
-use Rattle.ec_frames.proofs.WrittenReads.{read_again}
-use Rattle.ec_frames.proofs.laws.written_is_read.Goals as goal
-
-pub returns : goal.returns
-returns c = read_again

@@ -1,8 +1,0 @@
-use Rattle.ec_jobs.proofs.OneCapture.{file_once, frames_told}
-use Rattle.ec_jobs.proofs.law.one_capture_each.Goals as goal
-
-pub returns-clause-files : goal.returns-clause-files
-returns-clause-files c = file_once
-
-pub returns-clause-texts : goal.returns-clause-texts
-returns-clause-texts c = frames_told

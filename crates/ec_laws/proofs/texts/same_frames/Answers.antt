@@ -1,5 +1,0 @@
-use Rattle.std.proofs.Common.{refl}
-use Rattle.ec_laws.proofs.texts.same_frames.Goals as goal
-
-pub returns : goal.returns
-returns c = λ v m t. refl

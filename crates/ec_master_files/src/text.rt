@@ -1,0 +1,97 @@
+//! The whole header.
+
+ghost use Rattle.ec_units.specs.Load.{loads_of};
+ghost use Rattle.ec_loads.specs.Legal.{IsLegal};
+ghost use Rattle.ec_frame_builder.specs.Frames.{HasLayout};
+
+use crate::laid::{Laid, laid_of};
+use crate::tables::{
+    add_frames, add_groups, add_numbers, add_slaves, add_start_bytes, add_starts, add_ticks,
+    start_bytes,
+};
+use crate::types::{END, FRAME, GROUP, HEAD, SENT, SLAVE, START, START_BYTES, TICK};
+use ec_fmmu::{FIRST_ADDRESS, Mapping, layout};
+use ec_loads::Plan;
+use ec_player::{Trip, start_trips};
+use ec_text_builder::Draft;
+use ec_units::Units;
+use std::alloc::{AllocError, Global};
+
+/// Adds the numbers of the line.
+fn add_line_numbers(text: &mut Draft, units: &Units, mapping: &Mapping, laid: &Laid<'_>) {
+    let ticks = laid.loads.ticks();
+    let (tick_ns, slots) = (units.tick_ns, units.slots);
+    let bytes = mapping.total;
+    text.add(format_args!("#define ECPLAN_TICKS {ticks} /* ticks, after which all repeats */\n"));
+    text.add(format_args!("#define ECPLAN_TICK_NS {tick_ns} /* ns of a tick */\n"));
+    text.add(format_args!("#define ECPLAN_SLOTS {slots} /* frames in a tick at most */\n"));
+    text.add(format_args!("#define ECPLAN_IMAGE_BYTES {bytes} /* bytes of the process image */\n"));
+    text.add(format_args!(
+        "#define ECPLAN_FIRST_ADDRESS 0x{FIRST_ADDRESS:08x} /* logical address of the image */\n"
+    ));
+}
+
+/// Adds the lengths of the tables.
+fn add_lengths(text: &mut Draft, mapping: &Mapping, laid: &Laid<'_>, trips: &[Trip]) {
+    let (slaves, groups) = (laid.seats.len(), mapping.groups.as_slice().len());
+    let (sent, frames) = (laid.sends.groups.len(), laid.sends.frames.len());
+    let (starts, bytes) = (trips.len(), start_bytes(trips));
+    text.add(format_args!("#define ECPLAN_SLAVES {slaves} /* slaves, in file order */\n"));
+    text.add(format_args!(
+        "#define ECPLAN_GROUPS {groups} /* groups, each a datagram of a tick */\n"
+    ));
+    text.add(format_args!("#define ECPLAN_SENT {sent} /* groups of all frames */\n"));
+    text.add(format_args!("#define ECPLAN_FRAMES {frames} /* frames of all ticks */\n"));
+    text.add(format_args!("#define ECPLAN_STARTS {starts} /* frames before the first tick */\n"));
+    text.add(format_args!("#define ECPLAN_START_BYTES {bytes} /* bytes of these frames */\n"));
+}
+
+/// Adds the tables of slaves, groups and ticks.
+fn add_cyclic(text: &mut Draft, mapping: &Mapping, laid: &Laid<'_>) {
+    text.add(SLAVE);
+    add_slaves(text, laid.seats.as_slice());
+    text.add(GROUP);
+    add_groups(text, mapping.groups.as_slice());
+    text.add(SENT);
+    add_numbers(text, laid.sends.groups.as_slice());
+    text.add(FRAME);
+    add_frames(text, laid.sends.frames.as_slice());
+    text.add(TICK);
+    add_ticks(text, laid.sends.ticks.as_slice());
+}
+
+/// The header of a layout.
+fn header_in(
+    alloc: Global,
+    units: &Units,
+    plan: &Plan,
+    mapping: &Mapping,
+) -> Result<String, AllocError>
+    requires { HasLayout units.now mapping.now }
+{
+    let laid = laid_of(alloc, units, plan, mapping)?;
+    let trips = start_trips(alloc, units, mapping)?;
+    let mut text = Draft::new(alloc);
+    text.add(HEAD);
+    add_line_numbers(&mut text, units, mapping, &laid);
+    add_lengths(&mut text, mapping, &laid, trips.as_slice());
+    add_cyclic(&mut text, mapping, &laid);
+    text.add(START);
+    add_starts(&mut text, trips.as_slice());
+    text.add(START_BYTES);
+    add_start_bytes(&mut text, trips.as_slice());
+    text.add(END);
+    text.finish()
+}
+
+/// A legal plan as a C header for a master: C99, without code, with tables and numbers alone, whose names begin `ecplan_` and
+/// `ECPLAN_`. It has the ticks, their length in ns, the slots and the bytes of the process image; of each slave its unit,
+/// station, the bytes of outputs and inputs in the image and in its memory, and its FMMU records; of each group its slot,
+/// period and phase in ticks, address, bytes and expected working counter; the frames of each tick with their groups; and the
+/// frames before the first tick with their working counters. Only want of memory is an error (own profile).
+pub fn header_of(alloc: Global, units: &Units, plan: &Plan) -> Result<String, AllocError>
+    requires { IsLegal (loads_of units.now.units) units.now.slots plan.now.places }
+{
+    let mapping = layout(alloc, units, plan)?;
+    header_in(alloc, units, plan, &mapping)
+}

@@ -1,7 +1,0 @@
-use Rattle.std.specs.Prelude.{Some}
-use Rattle.ec_placing.specs.Placing.{place_of}
-use Rattle.ec_placing.proofs.SameLemmas.{Same}
-use Rattle.ec_placing.proofs.compare.are_at.Given as goal
-
-abbrev pub invariant-loop-i : goal.invariant-loop-i
-invariant-loop-i l = Same place_of (λ p. Some p) l.units l.places l.i

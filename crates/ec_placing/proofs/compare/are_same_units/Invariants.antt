@@ -1,6 +1,0 @@
-use Rattle.ec_placing.specs.Placing.{bare}
-use Rattle.ec_placing.proofs.SameLemmas.{Same}
-use Rattle.ec_placing.proofs.compare.are_same_units.Given as goal
-
-abbrev pub invariant-loop-i : goal.invariant-loop-i
-invariant-loop-i l = Same bare bare l.these l.others l.i

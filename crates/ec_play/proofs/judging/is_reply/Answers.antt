@@ -1,9 +1,0 @@
-use Rattle.std.proofs.Common.{sym, arith}
-use Rattle.ec_frames.proofs.ReadingFrames.{read_is}
-use Rattle.ec_slave.proofs.StepLemmas.{extent_fits}
-use Rattle.ec_play.proofs.judging.is_reply.Goals as goal
-
-pub is_reply_to-requires : goal.is_reply_to-requires
-is_reply_to-requires c =
-    let fits = extent_fits c.args.sent.now c.in-Ok.parsed ((read_is c.args.sent.now c.in-Ok.parsed).0 (sym c.in-Ok.ensures)) in
-    omega (arith, fits, c.requires)

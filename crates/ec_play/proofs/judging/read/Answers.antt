@@ -1,5 +1,0 @@
-use Rattle.ec_play.proofs.FrameReading.{reading_is}
-use Rattle.ec_play.proofs.judging.read.Goals as goal
-
-pub returns : goal.returns
-returns c = reading_is c.args.frame.now _ c.parse.ensures.ok c.parse.ensures.fault

@@ -1,6 +1,0 @@
-use Rattle.std.proofs.Common.{arith, rules}
-use Rattle.std.proofs.lemmas.Grind.{common_steps}
-use Rattle.ec_play.proofs.trips.wants_of.Goals as goal
-
-pub loop-group-preserved : goal.loop-group-preserved
-loop-group-preserved c = grind (arith, common_steps)

@@ -1,7 +1,0 @@
-pub mod Sent
-pub mod Trips
-pub mod Faults
-pub mod Images
-pub mod Lines
-pub mod Rows
-pub mod Plays

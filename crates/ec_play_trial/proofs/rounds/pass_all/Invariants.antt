@@ -1,0 +1,12 @@
+use Rattle.std.proofs.Common.{◌≡◌, ◌++◌, take, drop}
+use Rattle.ec_slave.specs.Journey.{through, passed}
+use Rattle.ec_play_trial.proofs.rounds.pass_all.Given as goal
+
+abbrev pub invariant-loop-i : goal.invariant-loop-i
+invariant-loop-i g l =
+    let out = g.X.Pass.out in
+    let next = g.X.Pass.next in
+    record {
+      frame : through out next (drop l.i l.slaves) l.back.items ≡ through out next l.fn.slaves l.frame.items;
+      slaves : take l.i l.slaves ++ passed out next (drop l.i l.slaves) l.back.items ≡ passed out next l.fn.slaves l.frame.items;
+    }

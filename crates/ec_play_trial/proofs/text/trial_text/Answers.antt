@@ -1,0 +1,7 @@
+use Rattle.std.proofs.Common.{arith}
+use Rattle.std.proofs.lemmas.Grind.{common_steps}
+use Rattle.ec_play_trial.proofs.text.trial_text.Goals as goal
+
+pub returns : goal.returns
+unfolding Rattle.ec_play_trial.specs.Texts.trial_text
+returns c = grind (arith, common_steps)

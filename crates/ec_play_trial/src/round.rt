@@ -1,0 +1,14 @@
+//! Frames that went through a line of slaves.
+
+ghost use Rattle.std.specs.Prelude.{◌≡◌, length};
+
+use ec_frames::Frame;
+use ec_player::Trip;
+
+/// Frames as they are sent, each with the working counters that are wanted of its datagrams, and as they come back.
+#[derive(Drop)]
+pub struct Round {
+    pub trips: Vec<Trip>,
+    pub backs: Vec<Frame>,
+    pub ghost each: { length backs.items ≡ length trips.items },
+}

@@ -1,7 +1,0 @@
-use Rattle.std.proofs.Common.{◌≡◌, take}
-use Rattle.std.specs.List.{flat_map}
-use Rattle.ec_player.specs.Frames.{data_of}
-use Rattle.ec_player.proofs.frames.data_bytes.Given as goal
-
-abbrev pub invariant-loop-group : goal.invariant-loop-group
-invariant-loop-group l = l.data.items ≡ flat_map (data_of l.bytes) (take l.group-index l.groups)

@@ -1,6 +1,0 @@
-use Rattle.std.proofs.Common.{◌≡◌, take, map}
-use Rattle.ec_player.specs.Frames.{datagram_of}
-use Rattle.ec_player.proofs.frames.datagrams_of.Given as goal
-
-abbrev pub invariant-loop-group : goal.invariant-loop-group
-invariant-loop-group l = l.list.items ≡ map datagram_of (take l.group-index l.groups)

@@ -1,6 +1,0 @@
-use Rattle.std.proofs.Common.{◌≡◌, take, false}
-use Rattle.ec_player.specs.Frames.{carries}
-use Rattle.ec_player.proofs.frames.is_carrying.Given as goal
-
-abbrev pub invariant-loop-group : goal.invariant-loop-group
-invariant-loop-group l = carries (take l.group-index l.groups) l.tick l.slot ≡ false

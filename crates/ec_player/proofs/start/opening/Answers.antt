@@ -1,5 +1,0 @@
-use Rattle.std.proofs.Common.{rules}
-use Rattle.ec_player.proofs.start.opening.Goals as goal
-
-pub returns : goal.returns
-returns c = search rules

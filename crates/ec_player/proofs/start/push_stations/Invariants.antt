@@ -1,5 +1,0 @@
-use Rattle.std.proofs.Common.{◌≡◌, ◌++◌, map, take}
-use Rattle.ec_player.proofs.start.push_stations.Given as goal
-
-abbrev pub invariant-loop-slave : goal.invariant-loop-slave
-invariant-loop-slave l = l.stations.items ≡ l.initial.stations.items ++ map (λ s. s.station) (take l.slave-index l.slaves)

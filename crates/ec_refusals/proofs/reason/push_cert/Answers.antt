@@ -1,5 +1,0 @@
-use Rattle.std.proofs.Common.{rules}
-use Rattle.ec_refusals.proofs.reason.push_cert.Goals as goal
-
-pub returns-in-Early-clause-items : goal.returns-in-Early-clause-items
-returns-in-Early-clause-items c = search rules

@@ -1,5 +1,0 @@
-use Rattle.std.proofs.Common.{rules}
-use Rattle.ec_refusals.proofs.reason.push_check.Goals as goal
-
-pub returns-in-Level-clause-items : goal.returns-in-Level-clause-items
-returns-in-Level-clause-items c = search rules

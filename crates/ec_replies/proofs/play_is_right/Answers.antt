@@ -1,8 +1,0 @@
-use Rattle.ec_replies.proofs.PlayLaw.{play-runs, play-lacks}
-use Rattle.ec_replies.proofs.play_is_right.Goals as goal
-
-pub returns-clause-right : goal.returns-clause-right
-returns-clause-right c = play-runs
-
-pub returns-clause-lacks : goal.returns-clause-lacks
-returns-clause-lacks c = play-lacks

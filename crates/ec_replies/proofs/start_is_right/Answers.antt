@@ -1,8 +1,0 @@
-use Rattle.ec_replies.proofs.StartLaw.{start-runs}
-use Rattle.ec_replies.proofs.start_is_right.Goals as goal
-
-pub returns-clause-right : goal.returns-clause-right
-returns-clause-right c = λ us m slaves laid whole even fit. (start-runs us m slaves laid whole even fit).right 0
-
-pub returns-clause-slaves : goal.returns-clause-slaves
-returns-clause-slaves c = λ us m slaves laid whole even fit. (start-runs us m slaves laid whole even fit).left

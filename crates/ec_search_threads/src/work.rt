@@ -1,0 +1,106 @@
+//! The turns of a worker beside others.
+
+ghost use Rattle.std.specs.Prelude.{◌≡◌, ◌≤◌};
+ghost use Rattle.ec_loads.specs.Line.{line_by};
+ghost use Rattle.ec_symmetry.specs.Orders.{IsReachedPrefix};
+
+use crate::ended::Ended;
+use crate::gate::Gate;
+use crate::ground::{Ground, ground_of};
+use crate::pace::Pace;
+use crate::pieces::spent;
+use crate::post::Post;
+use crate::turn::{Turn, take_turn};
+use ec_book::{Taken, Took};
+use ec_book_shared::{Search, Shared};
+use std::alloc::Global;
+use std::sync::Wait;
+
+/// Explores a piece until its subtree is reported; else why the worker ends. Once a subtree was refused as ahead of the
+/// book, the piece is explored at the book's value, whatever is published.
+pub(crate) fn worked_off<S: Search, R: Wait, G: Gate>(
+    rt: &R,
+    alloc: Global,
+    shared: &Shared<S>,
+    post: &mut Post<'_, '_, '_, S>,
+    ground: &mut Ground<S>,
+    took: &Took,
+    gate: &G,
+) -> Option<Ended>
+    requires reached { IsReachedPrefix (line_by S.rules S.loads S.slots) S.order took.now.prefix }
+    requires some { 1 ≤ took.now.grant }
+{
+    let mut value = took.value;
+    let mut reads = true;
+    for _ in rt.forever() {
+        match take_turn(rt, alloc, shared, post, ground, took, value, reads, gate) {
+            Turn::Reported => return None,
+            Turn::Again(now) => {
+                value = now;
+                reads = false;
+            }
+            Turn::Stopped(ended) => return Some(ended),
+        }
+    }
+    unreachable!()
+}
+
+/// Takes a piece and explores it, by the tickets before the lowest free one, makes tickets of the pieces of the reports on it,
+/// and wakes who sleeps. None where the worker goes on; else why it ends, as where the time is over. Where nothing can be
+/// handed out yet it waits a moment: longer each time for the first seven asks in a row, for four more as long as the system
+/// runs another thread. Then it sleeps, until another worker has reported its piece or given it back.
+fn worked<S: Search, R: Wait, G: Gate>(
+    rt: &R,
+    alloc: Global,
+    shared: &Shared<S>,
+    post: &mut Post<'_, '_, '_, S>,
+    ground: &mut Ground<S>,
+    pace: &mut Pace,
+    gate: &G,
+) -> Option<Ended> {
+    if gate.is_over() {
+        return Some(Ended::Time);
+    }
+    let announced = pace.announced(post.bell);
+    match post.ask(rt, shared, pace.most) {
+        Ok(Some(Taken::Piece(took))) => {
+            drop(announced);
+            pace.go_on();
+            let ended = worked_off(rt, alloc, shared, post, ground, &took, gate);
+            drop(took);
+            pace.grow(spent(post.seat.receipts()));
+            post.push_opened();
+            post.bell.notify_all();
+            ended
+        }
+        Ok(Some(Taken::Later)) => {
+            pace.wait(rt, announced);
+            None
+        }
+        Ok(Some(Taken::Done)) => Some(Ended::Done),
+        Ok(None) => None,
+        Err(ended) => Some(ended),
+    }
+}
+
+/// Takes pieces until none can be handed out any more, memory is refused, the book refuses a call or the time is over; says
+/// which. It goes by its tickets before it asks for the lowest free piece, and makes tickets of the pieces of its own
+/// reports. While nothing can be handed out yet it asks again after waits that grow, and at last sleeps before each ask.
+pub(crate) fn work<S: Search, R: Wait, G: Gate>(
+    rt: &R,
+    alloc: Global,
+    shared: &Shared<S>,
+    post: &mut Post<'_, '_, '_, S>,
+    gate: &G,
+) -> Ended {
+    let Ok(mut ground) = ground_of(alloc, post) else {
+        return Ended::Memory;
+    };
+    let mut pace = Pace::new();
+    for _ in rt.forever() {
+        if let Some(ended) = worked(rt, alloc, shared, post, &mut ground, &mut pace, gate) {
+            return ended;
+        }
+    }
+    unreachable!()
+}

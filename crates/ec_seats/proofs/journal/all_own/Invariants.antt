@@ -1,6 +1,0 @@
-use Rattle.std.proofs.Common.{take, All}
-use Rattle.ec_seats.specs.Receipts.{AreOwn}
-use Rattle.ec_seats.proofs.journal.all_own.Given as goal
-
-abbrev pub invariant-loop-seat : goal.invariant-loop-seat
-invariant-loop-seat g l = All (λ s. AreOwn s.worker s.receipts l.log) (take l.seat-index l.seats)

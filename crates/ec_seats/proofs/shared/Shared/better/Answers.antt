@@ -1,6 +1,0 @@
-use Rattle.std.proofs.Common.{rules, arith}
-use Rattle.std.proofs.lemmas.Grind.{common_steps}
-use Rattle.ec_seats.proofs.shared.Shared.better.Goals as goal
-
-pub improve-requires : goal.improve-requires
-improve-requires g c = search rules

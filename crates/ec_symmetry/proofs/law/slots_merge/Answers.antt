@@ -1,5 +1,0 @@
-use Rattle.ec_symmetry.proofs.MergeLemmas.{merge}
-use Rattle.ec_symmetry.proofs.law.slots_merge.Goals as goal
-
-pub returns : goal.returns
-returns c = merge

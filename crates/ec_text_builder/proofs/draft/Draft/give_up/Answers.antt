@@ -1,0 +1,5 @@
+use Rattle.std.proofs.Common.{rules}
+use Rattle.ec_text_builder.proofs.draft.Draft.give_up.Goals as goal
+
+pub returns : goal.returns
+returns c = search rules

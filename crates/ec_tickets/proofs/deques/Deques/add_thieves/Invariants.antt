@@ -1,6 +1,0 @@
-use Rattle.std.proofs.Common.{◌≡◌, ◌+◌, vec_len, All}
-use Rattle.ec_tickets.specs.Hands.{IsFresh}
-use Rattle.ec_tickets.proofs.deques.Deques.add_thieves.Given as goal
-
-abbrev pub invariant-loop-one : goal.invariant-loop-one
-invariant-loop-one l = (vec_len l.others ≡ vec_len l.initial.others + l.one-index) × All IsFresh l.others.items

@@ -1,7 +1,0 @@
-use Rattle.std.proofs.Common.{◌≡◌, vec_len, All}
-use Rattle.ec_tickets.specs.Hands.{IsAlone, IsNew}
-use Rattle.ec_tickets.proofs.Firsts.{AreFirst}
-use Rattle.ec_tickets.proofs.deques.Deques.new.Given as goal
-
-abbrev pub invariant-loop-i : goal.invariant-loop-i
-invariant-loop-i l = (vec_len l.all ≡ l.workers) × All IsAlone l.all.items × AreFirst (IsNew l.workers) l.i l.all.items

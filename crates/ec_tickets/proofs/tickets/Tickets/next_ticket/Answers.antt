@@ -1,4 +1,0 @@
-use Rattle.ec_tickets.proofs.tickets.Tickets.next_ticket.Goals as goal
-
-pub returns : goal.returns
-returns c = rw (← c.self.view_is) c.next.ensures
