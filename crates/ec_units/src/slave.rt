@@ -17,6 +17,7 @@ pub struct Slave {
     pub out_at: u16,
     pub in_at: u16,
     pub ghost station_given: { 1 ≤ station },
+    pub ghost station_short: { station < 65536 },
     pub ghost carries: { 1 ≤ out_bytes + in_bytes },
     pub ghost out_area: { (4096 ≤ out_at) × (out_at + out_bytes ≤ 65536) },
     pub ghost in_area: { (4096 ≤ in_at) × (in_at + in_bytes ≤ 65536) },
