@@ -2,6 +2,7 @@ pub mod Cost
 pub mod Examples
 pub mod Excess
 pub mod Held
+pub mod InUse
 pub mod Laws
 pub mod Legal
 pub mod Line

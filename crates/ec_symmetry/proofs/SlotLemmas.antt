@@ -1,15 +1,13 @@
 -- Different slots, one place after the other, and the slots that a prefix uses.
 -- `unit_none` and `unit_some` are the steps of a loop over the units of a prefix, `number_new` and `number_same` those
--- of a loop that counts different numbers. `places-enough`: it is enough for the children to count slots up to the
--- line's limit.
-use Rattle.std.proofs.Common.{◌≡◌, ◌≢◌, get_or-set_same, get_or-set_other, inl, inr, ℕ, zero, suc, ◌+◌, ◌<◌, ◌==◌, ◌||◌, Bool, true, false, List, [], ◌∷◌, ◌++◌, map, length, set, get_or, Option, Some, None, refl, ap, sym, ◌∙◌, add-one, append-nil, not-suc-le-zero, le_of_suc-le-suc, take, drop, arith, ◌≤◌, ◌&&◌, if◌then◌else◌, min, max, flat_map}
-use Rattle.std.specs.List.{range_with_len}
-use Rattle.std.proofs.lemmas.List.{map-append, append_assoc}
+-- of a loop that counts different numbers.
+use Rattle.std.proofs.Common.{◌≡◌, ◌≢◌, get_or-set_same, get_or-set_other, inl, inr, ℕ, zero, suc, ◌+◌, ◌<◌, ◌==◌, ◌||◌, Bool, true, false, List, [], ◌∷◌, ◌++◌, map, length, set, get_or, Option, Some, None, refl, ap, sym, ◌∙◌, add-one, append-nil, not-suc-le-zero, le_of_suc-le-suc, take, arith}
+use Rattle.std.proofs.lemmas.List.{map-append}
 use Rattle.std.proofs.lemmas.List.Folds.{list_any-append}
 use Rattle.std.proofs.lemmas.Bool.{cases_eq, eq-eqb, ne_eqb, eqb-true, or_right, false≢true, true≢false}
 use Rattle.std.proofs.Math.Seq.{take-suc}
 use Rattle.ec_units.specs.declared.slave.Place.{Place}
-use Rattle.ec_loads.specs.Search.{Prefix, slots_in, different_numbers, used, places_for}
+use Rattle.ec_loads.specs.Search.{Prefix, slots_in, different_numbers}
 use Rattle.ec_symmetry.proofs.UsedLemmas.{member, once}
 
 -- the slots of places
@@ -113,36 +111,3 @@ unit_none ps i e h none = rw add-one (slots-suc ps i e h ∙ (λ j. slots_in (ta
 -- one more unit with a place
 pub unit_some : (ps : Prefix) (i : ℕ) (e : Option Place) (p : Place) → i < length ps → get_or ps i e ≡ Some p → slots_in (take (i + 1) ps) ≡ slots_in (take i ps) ++ p.slot ∷ []
 unit_some ps i e p h some = rw add-one (slots-suc ps i e h ∙ (λ j. slots_in (take i ps) ++ one_slot (some j)))
-
-slots_in-parts : (ps : Prefix) (i : ℕ) → slots_in ps ≡ slots_in (take i ps) ++ slots_in (drop i ps)
-slots_in-parts [] zero = refl
-slots_in-parts [] (suc i) = refl
-slots_in-parts (p ∷ ps) zero = refl
-slots_in-parts (None ∷ ps) (suc i) = slots_in-parts ps i
-slots_in-parts (Some p ∷ ps) (suc i) = ap (λ w. p.slot ∷ w) (slots_in-parts ps i)
-
-different-longer : (ns ms : List ℕ) → different_numbers ns ≤ different_numbers (ns ++ ms)
-different-longer ns [] = let same = ap different_numbers (append-nil ns) in omega (arith, same)
-different-longer ns (m ∷ ms) =
-    let one = different-append ns m in
-    let rest = different-longer (ns ++ m ∷ []) ms in
-    let whole = ap different_numbers (append_assoc ns (m ∷ []) ms) in
-    omega (arith, one, rest, whole)
-
--- the first units use no more slots than all
-pub used-first : (ps : Prefix) (i : ℕ) → different_numbers (slots_in (take i ps)) ≤ used ps
-used-first ps i =
-    let longer = different-longer (slots_in (take i ps)) (slots_in (drop i ps)) in
-    let whole = ap different_numbers (slots_in-parts ps i) in
-    omega (arith, longer, whole)
-
--- as many slots, up to the limit of a line, leave the next unit the same places
-pub places-enough : (turned : Bool) (period n k m : ℕ) → min k (max n 1) ≡ min m (max n 1) →
-    places_for (if turned && (k == 0) then 1 else period) n k ≡ places_for (if turned && (m == 0) then 1 else period) n m
-places-enough turned period n k m same =
-    let width : min (suc k) n ≡ min (suc m) n = omega (arith, same) in
-    let none : (k == 0) ≡ (m == 0) = elim (cases_eq k 0) [
-      | inl is ↦ eq-eqb k 0 is ∙ sym (eq-eqb m 0 (omega (arith, same, is)))
-      | inr some ↦ ne_eqb k 0 some ∙ sym (ne_eqb m 0 (λ is. some (omega (arith, same, is))))
-    ] in
-    λ j. flat_map (λ f. map (λ s. record { phase = f; slot = s }) (range_with_len 0 (width j))) (range_with_len 0 (if turned && none j then 1 else period))

@@ -7,7 +7,7 @@ ghost use Rattle.ec_loads.specs.Search.{places_for, children};
 ghost use Rattle.ec_loads.specs.Strong.{is_below};
 ghost use Rattle.ec_symmetry.specs.Orders.{IsOrder, prefix_of};
 
-use crate::slots::{used_among, used_slots};
+use crate::slots::used_slots;
 use ec_loads::Loads;
 use ec_units::Place;
 use std::iter::FusedIterator;
@@ -126,7 +126,7 @@ pub fn children_of(loads: &Loads, unit: usize, turned: bool) -> Children
     requires { unit < length loads.now.places }
     ensures { result ≡ children (line_of (rules_if turned) loads.now) loads.now.places unit }
 {
-    let used = used_among(loads.places(), loads.slots().max(1));
+    let used = loads.used();
     places_after(loads.loads()[unit].period, loads.slots(), used, turned)
 }
 

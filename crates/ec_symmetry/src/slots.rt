@@ -1,6 +1,6 @@
 //! The slots that places use.
 
-ghost use Rattle.std.specs.Prelude.{◌≡◌, ℕ, ◌<◌, ◌≤◌, length, map, min};
+ghost use Rattle.std.specs.Prelude.{◌≡◌, ℕ, ◌<◌, ◌≤◌, length, map};
 ghost use Rattle.ec_loads.specs.Search.{different_numbers, used};
 
 use ec_units::Place;
@@ -34,18 +34,14 @@ fn number_of(place: Place) -> usize
     usize::from(place.slot)
 }
 
-/// The number of different slots of the places that are given, of at most 48 units, or one that is at least `most` where
-/// that number is: no more places are looked at then. Takes no memory.
-pub(crate) fn used_among(places: &[Option<Place>], most: u8) -> u8
+/// The number of different slots of the places that are given, of at most 48 units. Takes no memory.
+pub(crate) fn used_among(places: &[Option<Place>]) -> u8
     requires { length places.now ≤ 48 }
-    ensures { min result most ≡ min (used places.now) most }
+    ensures { result ≡ used places.now }
 {
     let mut taken = [false; SLOTS];
     let mut count = 0u8;
     for i in 0..places.len() {
-        if most <= count {
-            return count;
-        }
         if let Some(place) = places[i] {
             let slot = number_of(place);
             if !taken[slot] {

@@ -5,7 +5,7 @@ ghost use Rattle.std.specs.Prelude.{◌≡◌, ℕ, ◌<◌, ◌≤◌, IsTrue, 
 ghost use Rattle.ec_hyper.specs.Lcm.{lcm_of};
 ghost use Rattle.ec_loads.specs.Held.{AreLoads};
 ghost use Rattle.ec_loads.specs.Line.{strong, line_of};
-ghost use Rattle.ec_loads.specs.Search.{children, nobody};
+ghost use Rattle.ec_loads.specs.Search.{children, nobody, used as used_in};
 ghost use Rattle.ec_loads.specs.Strong.{gcd, placed_periods, strong_phases, same_load, is_below, strong_children};
 ghost use Rattle.ec_symmetry.specs.Latest.{IsLatest, IsLater, IsLastChild};
 ghost use Rattle.ec_symmetry.specs.Orders.{IsOrder, with_places, prefix_of};
@@ -171,15 +171,21 @@ fn phases_of(loads: &Loads, places: &[Option<Place>], period: u16) -> u16
 }
 
 /// The places that a unit can take after these places of the units, in file order, by the strong rules, in child order,
-/// where this is the greatest place of the units that are equal to it.
-fn strong_among(loads: &Loads, places: &[Option<Place>], unit: usize, latest: Place) -> Children
+/// where this is the greatest place of the units that are equal to it, and so many different slots are in use.
+fn strong_among(
+    loads: &Loads,
+    places: &[Option<Place>],
+    unit: usize,
+    latest: Place,
+    used: u8,
+) -> Children
     requires each { length places.now ≡ length loads.now.loads }
     requires unit { unit < length loads.now.loads }
     requires latest { IsLatest (get_or loads.now.loads unit nobody) loads.now.loads places.now latest }
+    requires used { used ≡ used_in places.now }
     ensures { result ≡ strong_children loads.now.loads loads.now.slots places.now unit }
 {
     let all = loads.loads();
-    let used = used_among(places, loads.slots().max(1));
     let phases = phases_of(loads, places, all[unit].period);
     choices_from(latest, phases, loads.slots(), used)
 }
@@ -190,9 +196,9 @@ pub(crate) fn strong_after_last(loads: &Loads, last: Option<usize>, unit: usize)
     requires last { IsLastChild (line_of strong loads.now) loads.now.places last }
     ensures { result ≡ children (line_of strong loads.now) loads.now.places unit }
 {
-    let all = loads.loads();
-    let places = loads.places();
-    strong_among(loads, places, unit, latest_after(loads, last, all[unit]))
+    let used = loads.used();
+    let latest = latest_after(loads, last, loads.loads()[unit]);
+    strong_among(loads, loads.places(), unit, latest, used)
 }
 
 /// The places that a unit can take after the places so far by the strong rules, in child order: a phase below the greatest
@@ -236,5 +242,6 @@ pub(crate) fn strong_after(loads: &Loads, order: &[u8], before: &[Place]) -> Chi
     let unit = usize::from(order[before.len()]);
     let places = &table[..units];
     let all = loads.loads();
-    strong_among(loads, places, unit, latest_equal(all, places, all[unit]))
+    let latest = latest_equal(all, places, all[unit]);
+    strong_among(loads, places, unit, latest, used_among(places))
 }

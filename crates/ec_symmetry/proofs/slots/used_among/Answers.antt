@@ -1,7 +1,7 @@
 use Rattle.std.proofs.Common.{◌≡◌, ◌<◌, get_or, take, length, false, true, None, refl, subst, ap, ◌∙◌, arith}
 use Rattle.std.proofs.lemmas.List.{get_or-replicate, length-set}
 use Rattle.ec_loads.specs.Search.{slots_in}
-use Rattle.ec_symmetry.proofs.SlotLemmas.{unit_none, unit_some, number_new, number_same, used-first}
+use Rattle.ec_symmetry.proofs.SlotLemmas.{unit_none, unit_some, number_new, number_same}
 use Rattle.ec_symmetry.proofs.slots.used_among.Goals as goal
 use Rattle.ec_symmetry.proofs.slots.used_among.Goals.{in-Some+then-not-taken-slot, in-Some+else-not-taken-slot, in_default}
 
@@ -13,11 +13,6 @@ loop-i-init c =
       so_far = refl;
       bound = omega arith;
     }
-
-pub returns-then-most-count : goal.returns-then-most-count
-returns-then-most-count c =
-    let whole = used-first c.args.places.now c.loop-i.i in
-    omega (arith, whole, c.loop-i.invariant.so_far, c.if-most-count.true)
 
 pub loop-i-preserved : goal.loop-i-preserved
 loop-i-preserved c =

@@ -6,12 +6,13 @@ use Rattle.ec_loads.specs.Table.{IsOneMore}
 use Rattle.ec_loads.proofs.ItemLemmas.{AreUnits-loads}
 use Rattle.ec_loads.proofs.MoreLemmas.{more-items, length-more, items-length}
 use Rattle.ec_loads.proofs.TrafficLemmas.{holds_alike, payload-out, count-out}
+use Rattle.ec_loads.proofs.UsedLemmas.{slots-held_more, times-few, used-few}
 use Rattle.ec_loads.proofs.TrailLemmas.{kept-push, most-held}
 use Rattle.ec_loads.proofs.loads.Loads.put.Goals as goal
 use Rattle.ec_loads.proofs.loads.Loads.put.Goals.{then-place-load+then-place-self, else-place-load, else-place-load-via-then-place-load+else-place-self, else-place-load-via-else-place-load}
 
-pub add-requires-clause-table : goal.add-requires-clause-table
-add-requires-clause-table c =
+pub add-requires-then-place-self-clause-table : goal.add-requires-then-place-self-clause-table
+add-requires-then-place-self-clause-table c =
     let s = c.self.inside in
     let inv = c.self.invariant in
     let free = rw (← c.self.view_is) at c.requires.free in
@@ -45,9 +46,10 @@ invariant_of-self c =
         each = size;
         slots = inv.slots;
         whole = inv.whole;
-        ticks = w.add.ensures.ticks ∙ inv.ticks;
-        table = w.add.ensures.table xs ys more inv.table;
-        kept = rw (w.add.ensures.marks, w.add.ensures.ticks) (kept-push s.loads.items s.slots (length s.table.costs.items) s.places.items c.args.place (record { unit = c.args.unit; payload = s.table.payload; cost = s.table.cost }) (reverse s.table.marks.items) _ (get_or_from_slice_get s.places.items c.args.unit None None free) (most-held xs s.slots (length s.table.costs.items) s.table.counts.items s.table.cells.items s.table.costs.items s.table.raws.items s.table.total s.table.payload s.table.cost inv.table) inv.kept c.push_mark.ensures);
+        ticks = w.add-then-place-self.ensures.ticks ∙ inv.ticks;
+        table = w.add-then-place-self.ensures.table xs ys more inv.table;
+        kept = rw (w.add-then-place-self.ensures.marks, w.add-then-place-self.ensures.ticks) (kept-push s.loads.items s.slots (length s.table.costs.items) s.places.items c.args.place (record { unit = c.args.unit; payload = s.table.payload; cost = s.table.cost }) (reverse s.table.marks.items) _ (get_or_from_slice_get s.places.items c.args.unit None None free) (most-held xs s.slots (length s.table.costs.items) s.table.counts.items s.table.cells.items s.table.costs.items s.table.raws.items s.table.total s.table.payload s.table.cost inv.table) inv.kept c.push_mark.ensures);
+        used = slots-held_more s.places.items c.args.unit c.args.place s.in_use c.add.new.self free inv.used c.add.ensures;
       })
       | else-place-load w ↦
           let out : c.args.place.phase < c.index-load.result.now.period → c.args.place.slot < s.slots → ⊥ = λ a b. elim w.else-place-load.branch [
@@ -65,8 +67,25 @@ invariant_of-self c =
                 (λ t r l. sym (payload-out (item c.index-load.result.now c.args.place) s.slots pos' more out t r l))
                 (λ p f r l n. sym (count-out (item c.index-load.result.now c.args.place) s.slots more out p f r l n));
             kept = kept-push s.loads.items s.slots (length s.table.costs.items) s.places.items c.args.place (record { unit = c.args.unit; payload = s.table.payload; cost = s.table.cost }) (reverse s.table.marks.items) _ (get_or_from_slice_get s.places.items c.args.unit None None free) (most-held xs s.slots (length s.table.costs.items) s.table.counts.items s.table.cells.items s.table.costs.items s.table.raws.items s.table.total s.table.payload s.table.cost inv.table) inv.kept c.push_mark.ensures;
+            used = slots-held_more s.places.items c.args.unit c.args.place s.in_use c.add.new.self free inv.used c.add.ensures;
           })
     ]
 
 pub returns : goal.returns
 returns c = search rules
+
+pub add-requires-clause-count : goal.add-requires-clause-count
+add-requires-clause-count c =
+    let s = c.self.inside in
+    let inv = c.self.invariant in
+    let is = inv.used.each c.args.place.slot in
+    let few = times-few c.args.place.slot s.places.items in
+    omega (arith, is, few, inv.each, inv.few)
+
+pub add-requires-clause-different : goal.add-requires-clause-different
+add-requires-clause-different c =
+    let s = c.self.inside in
+    let inv = c.self.invariant in
+    let is = inv.used.number in
+    let few = used-few s.places.items in
+    omega (arith, is, few, inv.each, inv.few)

@@ -23,6 +23,7 @@ invariant_of-self c =
       ticks = c.lower.ensures.ticks ∙ inv.ticks;
       table = c.lower.ensures.table (items s.loads.items s.places.items) s.slots before.0 inv.table;
       kept = rw (c.lower.ensures.marks, c.lower.ensures.ticks) before.1;
+      used = inv.used;
     }
 
 pub invariant_of-self-in-None : goal.invariant_of-self-in-None
@@ -38,4 +39,5 @@ invariant_of-self-in-None c =
       ticks = c.measure.ensures.ticks ∙ inv.ticks;
       table = c.measure.ensures.table (items s.loads.items s.places.items) s.slots inv.slots inv.table;
       kept = kept-none s.loads.items s.slots _ s.places.items _ (ap reverse c.measure.ensures.marks ∙ c.in-None.ensures);
+      used = inv.used;
     }

@@ -6,12 +6,13 @@ use Rattle.ec_loads.specs.Table.{IsOneMore}
 use Rattle.ec_loads.proofs.ItemLemmas.{AreUnits-loads}
 use Rattle.ec_loads.proofs.MoreLemmas.{less-items, items-length}
 use Rattle.ec_loads.proofs.TrafficLemmas.{holds_alike, payload-out, count-out}
+use Rattle.ec_loads.proofs.UsedLemmas.{slots-held_less, times-some, used-some}
 use Rattle.ec_loads.proofs.TrailLemmas.{kept-less}
 use Rattle.ec_loads.proofs.loads.Loads.take_out.Goals as goal
 use Rattle.ec_loads.proofs.loads.Loads.take_out.Goals.{then-place-load+then-place-self, else-place-load, else-place-load-via-then-place-load+else-place-self, else-place-load-via-else-place-load}
 
-pub take-requires-clause-table : goal.take-requires-clause-table
-take-requires-clause-table c =
+pub take-requires-then-place-self-clause-table : goal.take-requires-then-place-self-clause-table
+take-requires-then-place-self-clause-table c =
     let s = c.self.inside in
     let inv = c.self.invariant in
     let within = rw (← c.self.view_is) at c.requires.within in
@@ -28,6 +29,7 @@ pub invariant_of-self : goal.invariant_of-self
 invariant_of-self c =
     let s = c.self.inside in
     let inv = c.self.invariant in
+    let placed = rw (← c.self.view_is) at c.requires.placed in
     let within = rw (← c.self.view_is) at c.requires.within in
     let each = inv.each in
     let is = c.index-load.ensures in
@@ -45,9 +47,10 @@ invariant_of-self c =
         each = size;
         slots = inv.slots;
         whole = inv.whole;
-        ticks = w.take.ensures.ticks ∙ inv.ticks;
-        table = w.take.ensures.table xs ys more inv.table;
-        kept = rw (w.take.ensures.marks, w.take.ensures.ticks) (kept-less s.loads.items s.slots (length s.table.costs.items) s.places.items c.args.unit (reverse s.table.marks.items) inv.kept);
+        ticks = w.take-then-place-self.ensures.ticks ∙ inv.ticks;
+        table = w.take-then-place-self.ensures.table xs ys more inv.table;
+        kept = rw (w.take-then-place-self.ensures.marks, w.take-then-place-self.ensures.ticks) (kept-less s.loads.items s.slots (length s.table.costs.items) s.places.items c.args.unit (reverse s.table.marks.items) inv.kept);
+        used = slots-held_less s.places.items c.args.unit c.args.place c.take.new.self s.in_use placed inv.used c.take.ensures;
       })
       | else-place-load w ↦
           let out : c.args.place.phase < c.index-load.result.now.period → c.args.place.slot < s.slots → ⊥ = λ a b. elim w.else-place-load.branch [
@@ -65,5 +68,20 @@ invariant_of-self c =
                 (payload-out (item c.index-load.result.now c.args.place) s.slots pos' more out)
                 (count-out (item c.index-load.result.now c.args.place) s.slots more out);
             kept = kept-less s.loads.items s.slots (length s.table.costs.items) s.places.items c.args.unit (reverse s.table.marks.items) inv.kept;
+            used = slots-held_less s.places.items c.args.unit c.args.place c.take.new.self s.in_use placed inv.used c.take.ensures;
           })
     ]
+
+pub take-requires-clause-count : goal.take-requires-clause-count
+take-requires-clause-count c =
+    let s = c.self.inside in
+    let is = c.self.invariant.used.each c.args.place.slot in
+    let some = times-some s.places.items c.args.unit c.args.place (rw (← c.self.view_is) at c.requires.placed) in
+    omega (arith, is, some)
+
+pub take-requires-clause-different : goal.take-requires-clause-different
+take-requires-clause-different c =
+    let s = c.self.inside in
+    let is = c.self.invariant.used.number in
+    let some = used-some s.places.items c.args.unit c.args.place (rw (← c.self.view_is) at c.requires.placed) in
+    omega (arith, is, some)
