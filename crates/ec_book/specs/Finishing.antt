@@ -24,7 +24,7 @@ ShowsPieces b shape =
 abbrev pub GrowsFrom : Shape → Shape → Type 0
 GrowsFrom given shape = (f : ℕ → Shape) × (shape ≡ draw f (numbered 0 given))
 
--- what comes of a book: its best plan, its nodes and its log; and a tree that holds at the value, with as many open leaves as pieces are free or taken, and without
+-- what comes of a book: its best plan, its nodes and its log; and a tree that holds at the value, with as many open leaves as pieces are free or taken, of which it tells how many they are, and without
 -- one a whole tree, which goes on from the tree that the search was given, at the open leaves of the part alone, and where it is told that the part is done, each of these is closed; the value is at most the given one, and the nodes that are spent are at most those that were allowed
 pub record IsFinishedOf (b : BookView) (f : Finished) : Type 0 where
   pub best : f.best ≡ b.best
@@ -33,6 +33,7 @@ pub record IsFinishedOf (b : BookView) (f : Finished) : Type 0 where
   pub closed : open_count (shape_of f.tree) ≡ 0 → IsTree (line_by b.rules b.loads b.slots) (value_of b.best) (shape_of f.tree) (no_places b.loads) b.order
   pub pieces : ShowsPieces b (shape_of f.tree)
   pub live : open_count (shape_of f.tree) ≡ live_count b.pieces
+  pub left : f.left ≡ open_count (shape_of f.tree)
   pub spent : f.spent ≡ b.spent
   pub nodes : node_count (shape_of f.tree) ≡ given_nodes b + b.spent
   pub log : f.log ≡ b.log

@@ -91,12 +91,13 @@ impl Model for Book {
 }
 
 /// A finished search: the best plan, if one is known, the tree that its reports make of the tree that it was given,
-/// where free and taken pieces are open leaves, whether each open leaf of its part is closed there, the nodes that the
-/// reports have split and closed, and what happened.
+/// where free and taken pieces are open leaves, how many these are, whether each open leaf of its part is closed there, the
+/// nodes that the reports have split and closed, and what happened.
 #[derive(Drop)]
 pub struct Finished {
     pub best: Option<Best>,
     pub tree: Tree,
+    pub left: usize,
     pub done: bool,
     pub spent: u64,
     pub log: Steps,
@@ -658,12 +659,14 @@ impl Book {
         ensures ok { IfOk result (IsFinishedOf self) }
         ensures always { OnErr result ⊥ }
     {
+        let left = self.open_pieces();
         let done = none_is_left(self.pieces.as_slice(), self.part, self.first);
         let built = open_leaves(self.leaves, self.pieces.len());
         let tree = assembled(self.given, self.reports, built);
         Ok(Finished {
             best: self.best,
             tree,
+            left,
             done,
             spent: self.spent,
             log: Steps::new(self.log),

@@ -20,7 +20,7 @@ use crate::begin::{is_strong, order_by, rules_by};
 use crate::planning::proved;
 use crate::room::Room;
 use ec_book::{Book, Finished};
-use ec_cert::{Cert, Order, Part, is_closed};
+use ec_cert::{Cert, Order, Part};
 use ec_outcome::{Cut, Outcome, SolveFault};
 use ec_search_threads::{CrewFault, Crewed, Ended, Gate, search_by_crew};
 use ec_units::Units;
@@ -75,6 +75,7 @@ fn outcome_of(
     let Finished {
         best,
         tree,
+        left,
         done,
         spent,
         ..
@@ -88,7 +89,7 @@ fn outcome_of(
             cut: Cut::Journal,
         };
     }
-    if is_closed(&tree) {
+    if left == 0 {
         return proved(units, room, order, best, tree, strong);
     }
     Outcome::Unproved {

@@ -137,7 +137,6 @@ fn ended(
     ensures rules { HasRules strong result }
     ensures order { HasOrder order result }
 {
-    let open = book.open_pieces();
     let part = book.part();
     let Ok(finished) = book.finish() else {
         unreachable!()
@@ -145,11 +144,12 @@ fn ended(
     let Finished {
         best,
         tree,
+        left,
         done,
         spent,
         ..
     } = finished;
-    if open == 0 {
+    if left == 0 {
         return proved(units, room, order, best, tree, strong);
     }
     Outcome::Unproved {

@@ -1,4 +1,4 @@
-use Rattle.std.proofs.Common.{◌≡◌, refl, arith, subst, All}
+use Rattle.std.proofs.Common.{◌≡◌, ◌∙◌, refl, sym, ap, arith, subst, All}
 use Rattle.ec_loads.specs.Line.{line_by}
 use Rattle.ec_cert.specs.Shapes.{shape_of}
 use Rattle.ec_cert.specs.BestPlan.{value_of}
@@ -6,7 +6,7 @@ use Rattle.ec_symmetry.specs.Ruled.{line_rules}
 use Rattle.ec_book.specs.Numbered.{numbered, plain}
 use Rattle.ec_book.specs.Grown.{grown}
 use Rattle.ec_book.specs.Parts.{is_of_part, IsReportOf, LeavesOthers, NoneIsLeft}
-use Rattle.ec_book.specs.Steps.{start}
+use Rattle.ec_book.specs.Steps.{start, live_count}
 use Rattle.ec_book.proofs.HistoryLemmas.{history-replays, history-falls}
 use Rattle.ec_book.proofs.ClosedLemmas.{part_closed}
 use Rattle.ec_book.proofs.FinishLemmas.{drawn, drawn-partial, drawn-nodes, drawn-open, drawn-closed, drawn-extends, drawn-others}
@@ -41,6 +41,7 @@ returns-clause-ok c =
       closed = drawn-closed given line order pieces prefixes reports value b.spent made shape is;
       pieces = (grown (numbered 0 given) reports, is, made.pieces_are, made.tree);
       live = drawn-open given line order pieces prefixes reports value b.spent made shape is;
+      left = c.open_pieces-left.ensures ∙ ap (λ v. live_count v.pieces) (sym c.self.view_is) ∙ sym (drawn-open given line order pieces prefixes reports value b.spent made shape is);
       spent = refl;
       nodes = drawn-nodes given line order pieces prefixes reports value b.spent made shape is;
       log = c.new.ensures;
