@@ -121,7 +121,7 @@ pub counts-bound : CountsBound
 counts-bound loads n v ps p c plan within e legal h = count-at h.0 loads n v ps p c plan within e legal h.1 h.2 h.3
 
 -- quotients of greater numbers are no less
-div-mono : (a b c : ℕ) → 0 < c → a ≤ b → a / c ≤ b / c
+pub div-mono : (a b c : ℕ) → 0 < c → a ≤ b → a / c ≤ b / c
 div-mono a b c some low = le-div (a / c) b c some (le_trans (div-mul-le_self a c) low)
 
 less-left : (a b d : ℕ) → a ≤ b → (a - 1) - d ≤ (b - 1) - d

@@ -23,7 +23,7 @@ counts-fall loads n v w ps p c low h =
     let fewer = room_count-falls (items loads ps) n (lcm_of (periods_of loads)) a h.0 p c h.2 less in
     (a, is, h.2, omega (arith, fewer, h.3))
 
-beside-falls : (r s x : ℕ) (old : Bool) → r ≤ s → cond old r (r - x) ≤ cond old s (s - x)
+pub beside-falls : (r s x : ℕ) (old : Bool) → r ≤ s → cond old r (r - x) ≤ cond old s (s - x)
 beside-falls r s x true low = low
 beside-falls r s x false low = omega arith
 
@@ -36,7 +36,7 @@ needed-falls xs n h a b ls low p pair needed = λ some.
     omega (arith, rooms, above)
 
 -- what follows from each of two lists side by side
-zip-weaker : {A B : Type 0} (R S : A → B → Type 0) → ((x : A) (y : B) → R x y → S x y) → (xs : List A) (ys : List B) → AllZip R xs ys → AllZip S xs ys
+pub zip-weaker : {A B : Type 0} (R S : A → B → Type 0) → ((x : A) (y : B) → R x y → S x y) → (xs : List A) (ys : List B) → AllZip R xs ys → AllZip S xs ys
 zip-weaker R S each [] [] all = all
 zip-weaker R S each [] (y ∷ ys) all = all
 zip-weaker R S each (x ∷ xs) [] all = all

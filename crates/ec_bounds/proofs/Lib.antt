@@ -11,3 +11,4 @@ pub mod CountLemmas
 pub mod GroupLemmas
 pub mod FallLemmas
 pub mod StepLemmas
+pub mod ShownLemmas

@@ -14,10 +14,11 @@ use Rattle.ec_loads.specs.declared.item.Item.{Item}
 use Rattle.ec_loads.specs.declared.pair.Pair.{Pair}
 use Rattle.ec_loads.specs.Cost.{items, raw_cost, sum_below}
 use Rattle.ec_loads.specs.Held.{Held}
-use Rattle.ec_loads.specs.Rooms.{is_open, top, unplaced, is_above_slot_0, MergeHolds, is_large, room_count, CountHolds, has_period, periods_in, IsNeeded, group_bytes, sent_bytes, GroupsHold}
+use Rattle.ec_loads.specs.Rooms.{is_open, top, unplaced, is_above_slot_0, MergeHolds, is_large, has_period, periods_in, group_bytes, sent_bytes}
 use Rattle.ec_loads.specs.Search.{Prefix}
 use Rattle.ec_loads.proofs.ExcessLemmas.{next_tick}
 use Rattle.ec_bounds.specs.Left.{Left, IsRestOf, left_loads, is_placed_in}
+use Rattle.ec_bounds.specs.Shown.{room_count_by, CountHoldsBy, IsNeededBy, GroupsHoldBy}
 use Rattle.ec_bounds.proofs.LeftLemmas.{some_same, below_from, below_to}
 use Rattle.ec_bounds.proofs.RoomLemmas.{greatest-most, greatest-first, greatest-each}
 
@@ -150,13 +151,13 @@ pub left_of : (left : Left) (held : Held) → IsRestOf left held → left_loads 
 left_of left held rest = (λ i. left_loads (rest.loads i) (rest.unplaced i)) ∙ left-flags held.loads held.places
 
 -- the test of the count
-pub count-iff : (loads : List Load) (n : ℕ) (val : Option ℕ) (ps : Prefix) (p c b count over : ℕ) → val ≡ Some b → 0 < c → count ≡ count_by (is_large p c) (unplaced loads ps) →
-    over ≡ count - room_count (items loads ps) n (lcm_of (periods_of loads)) b p c → (IsTrue (nat_lt 0 over) ↔ CountHolds loads n val ps p c)
-count-iff loads n val ps p c b count over is some all left = (
+pub count-iff : (loads : List Load) (tops : ℕ → ℕ → ℕ) (val : Option ℕ) (ps : Prefix) (p c b count over : ℕ) → val ≡ Some b → 0 < c → count ≡ count_by (is_large p c) (unplaced loads ps) →
+    over ≡ count - room_count_by (items loads ps) tops b p c → (IsTrue (nat_lt 0 over) ↔ CountHoldsBy loads tops val ps p c)
+count-iff loads tops val ps p c b count over is some all left = (
   λ yes. let low = below_from 0 over yes in (b, is, some, omega (arith, low, all, left)),
-  λ (holds : CountHolds loads n val ps p c).
+  λ (holds : CountHoldsBy loads tops val ps p c).
       let same : holds.0 ≡ b = some_same (sym holds.1 ∙ is) in
-      let above = subst (λ a. room_count (items loads ps) n (lcm_of (periods_of loads)) a p c < count_by (is_large p c) (unplaced loads ps)) same holds.3 in
+      let above = subst (λ a. room_count_by (items loads ps) tops a p c < count_by (is_large p c) (unplaced loads ps)) same holds.3 in
       below_to 0 over (omega (arith, above, all, left)),
 )
 
@@ -251,19 +252,19 @@ group_end h ps xs i t past so_far =
     omega (arith, none, so_far)
 
 -- the test of the groups
-pub groups-iff : (loads : List Load) (n : ℕ) (val : Option ℕ) (ps : Prefix) (pairs : List Pair) (left : List Load) (b h x y z : ℕ) → val ≡ Some b → h ≡ lcm_of (periods_of loads) → left ≡ unplaced loads ps → 0 < length left →
-    AllZip (IsNeeded (items loads ps) n h b left) (periods_in left) pairs → x ≡ b - 1 → y ≡ h →
-    z ≡ sum_below (raw_cost (items loads ps) n) h + sent_bytes h left + group_bytes h (periods_in left) pairs → (IsTrue (nat_lt (x * y) z) ↔ GroupsHold loads n val ps pairs)
-groups-iff loads n val ps pairs left b h x y z is hyper units some needed one ticks whole =
+pub groups-iff : (loads : List Load) (n : ℕ) (tops : ℕ → ℕ → ℕ) (val : Option ℕ) (ps : Prefix) (pairs : List Pair) (left : List Load) (b h x y z : ℕ) → val ≡ Some b → h ≡ lcm_of (periods_of loads) → left ≡ unplaced loads ps → 0 < length left →
+    AllZip (IsNeededBy (items loads ps) tops b left) (periods_in left) pairs → x ≡ b - 1 → y ≡ h →
+    z ≡ sum_below (raw_cost (items loads ps) n) h + sent_bytes h left + group_bytes h (periods_in left) pairs → (IsTrue (nat_lt (x * y) z) ↔ GroupsHoldBy loads n tops val ps pairs)
+groups-iff loads n tops val ps pairs left b h x y z is hyper units some needed one ticks whole =
     let product : x * y ≡ (b - 1) * h = λ i. one i * ticks i in
-    let all : List Load → ℕ → Type 0 = λ ls k. (0 < length ls) × AllZip (IsNeeded (items loads ps) n k b ls) (periods_in ls) pairs × ((b - 1) * k < sum_below (raw_cost (items loads ps) n) k + sent_bytes k ls + group_bytes k (periods_in ls) pairs) in (
+    let all : List Load → ℕ → Type 0 = λ ls k. (0 < length ls) × AllZip (IsNeededBy (items loads ps) tops b ls) (periods_in ls) pairs × ((b - 1) * k < sum_below (raw_cost (items loads ps) n) k + sent_bytes k ls + group_bytes k (periods_in ls) pairs) in (
       λ yes.
           let low = below_from (x * y) z yes in
           let below : (b - 1) * h < sum_below (raw_cost (items loads ps) n) h + sent_bytes h left + group_bytes h (periods_in left) pairs = omega (arith, low, product, whole) in
           let here : all left h = (some, needed, below) in
           let there : all (unplaced loads ps) (lcm_of (periods_of loads)) = subst (λ w. w) (λ i. all (units i) (hyper i)) here in
           (b, is, record { some = there.0; needed = there.1; above = there.2 }),
-      λ (holds : GroupsHold loads n val ps pairs).
+      λ (holds : GroupsHoldBy loads n tops val ps pairs).
           let same : holds.0 ≡ b = some_same (sym holds.1 ∙ is) in
           let above = holds.2.above in
           let at : (b - 1) * lcm_of (periods_of loads) < sum_below (raw_cost (items loads ps) n) (lcm_of (periods_of loads)) + sent_bytes (lcm_of (periods_of loads)) (unplaced loads ps) + group_bytes (lcm_of (periods_of loads)) (periods_in (unplaced loads ps)) pairs =
@@ -274,11 +275,11 @@ groups-iff loads n val ps pairs left b h x y z is hyper units some needed one ti
     )
 
 -- what the groups need at a value that holds
-pub groups-need : (loads : List Load) (n : ℕ) (val : Option ℕ) (ps : Prefix) (pairs : List Pair) (left : List Load) (b : ℕ) → val ≡ Some b → left ≡ unplaced loads ps → GroupsHold loads n val ps pairs →
-    (0 < length left) × AllZip (IsNeeded (items loads ps) n (lcm_of (periods_of loads)) b left) (periods_in left) pairs
-groups-need loads n val ps pairs left b is units holds =
+pub groups-need : (loads : List Load) (n : ℕ) (tops : ℕ → ℕ → ℕ) (val : Option ℕ) (ps : Prefix) (pairs : List Pair) (left : List Load) (b : ℕ) → val ≡ Some b → left ≡ unplaced loads ps → GroupsHoldBy loads n tops val ps pairs →
+    (0 < length left) × AllZip (IsNeededBy (items loads ps) tops b left) (periods_in left) pairs
+groups-need loads n tops val ps pairs left b is units holds =
     let same : holds.0 ≡ b = some_same (sym holds.1 ∙ is) in
-    subst (λ w. w) (λ i. (0 < length (sym units i)) × AllZip (IsNeeded (items loads ps) n (lcm_of (periods_of loads)) (same i) (sym units i)) (periods_in (sym units i)) pairs) (holds.2.some, holds.2.needed)
+    subst (λ w. w) (λ i. (0 < length (sym units i)) × AllZip (IsNeededBy (items loads ps) tops (same i) (sym units i)) (periods_in (sym units i)) pairs) (holds.2.some, holds.2.needed)
 
 -- the test of the merge
 pub merge-iff : (val : Option ℕ) (ps : Prefix) (v : ℕ) (r : Bool) → val ≡ Some v → v ≤ 1579 → r ≡ list_any is_above_slot_0 ps → (IsTrue r ↔ MergeHolds val ps)

@@ -2,15 +2,15 @@
 
 ghost use Rattle.std.specs.Prelude.{◌≡◌, ℕ, ◌||◌, false, get_or, ◌+◌, ◌-◌, ◌*◌, ◌/◌, ◌<◌, ◌≤◌, ◌↔◌, IsTrue, All, length, take};
 ghost use Rattle.std.specs.List.{AllZip, list_any};
-ghost use Rattle.ec_hyper.specs.Lcm.{lcm_of};
-ghost use Rattle.ec_units.specs.Load.{periods_of};
 ghost use Rattle.ec_loads.specs.Held.{items_of};
-ghost use Rattle.ec_loads.specs.Rooms.{has_period as of_period, periods_in, bytes_at as bytes_in, room_below, IsNeeded, group_bytes as group_bytes_of, GroupsHold};
+ghost use Rattle.ec_loads.specs.Rooms.{has_period as of_period, periods_in, bytes_at as bytes_in, group_bytes as group_bytes_of, GroupsHold};
 ghost use Rattle.ec_bounds.specs.Left.{IsRestOf};
+ghost use Rattle.ec_bounds.specs.Shown.{room_below_by, IsNeededBy, GroupsHoldBy, GroupsShow};
 
 use crate::counted::{NO_UNITS, fill_left};
 use crate::rest::Rest;
 use crate::rooms::{open_classes, room_beside};
+use crate::tops::{Shown, Ticks, Tops, Walked};
 use ec_loads::{GROUP_BYTES, Loads, Pair};
 use ec_units::Load;
 
@@ -79,39 +79,62 @@ fn bytes_at(left: &[Load], period: u16) -> u64
 }
 
 /// How many of so many bytes find no room where fewer closed classes of their period are used than the pair says.
-fn left_over(loads: &Loads, period: u16, pair: Pair, value: u64, bytes: u64) -> u64
+fn left_over<T: Tops>(
+    loads: &Loads,
+    tops: &T,
+    period: u16,
+    pair: Pair,
+    value: u64,
+    bytes: u64,
+) -> u64
     requires { 1 ≤ pair.count }
-    ensures { result ≡ bytes - room_below (items_of loads.now) loads.now.slots (lcm_of (periods_of loads.now.loads)) value period pair }
+    ensures { result ≡ bytes - room_below_by (items_of loads.now) (T.tops tops.now) value period pair }
 {
     let opens = open_classes(loads, period);
     let mut left = bytes.saturating_sub(u64::from(pair.count - 1) * u64::from(pair.room));
     for phase in 0..period {
-        left = left.saturating_sub(room_beside(loads, &opens, period, phase, pair.room, value));
+        left = left.saturating_sub(room_beside(
+            loads, tops, &opens, period, phase, pair.room, value,
+        ));
     }
     left
 }
 
 /// Whether the units of a period need as many of its closed classes as the pair says.
-fn is_needed(loads: &Loads, left: &[Load], period: u16, pair: Pair, value: u64) -> bool
+fn is_needed<T: Tops>(
+    loads: &Loads,
+    tops: &T,
+    left: &[Load],
+    period: u16,
+    pair: Pair,
+    value: u64,
+) -> bool
     requires { length left.now ≤ 48 }
-    ensures { IsTrue result ↔ IsNeeded (items_of loads.now) loads.now.slots (lcm_of (periods_of loads.now.loads)) value left.now period pair }
+    ensures { IsTrue result ↔ IsNeededBy (items_of loads.now) (T.tops tops.now) value left.now period pair }
 {
     if pair.count == 0 {
         return true;
     }
-    left_over(loads, period, pair, value, bytes_at(left, period)) > 0
+    left_over(loads, tops, period, pair, value, bytes_at(left, period)) > 0
 }
 
 /// Whether there is a pair for each period, and the units of the period need as many closed classes as it says.
-fn all_needed(loads: &Loads, left: &[Load], periods: &[u16], pairs: &[Pair], value: u64) -> bool
+fn all_needed<T: Tops>(
+    loads: &Loads,
+    tops: &T,
+    left: &[Load],
+    periods: &[u16],
+    pairs: &[Pair],
+    value: u64,
+) -> bool
     requires { length left.now ≤ 48 }
-    ensures { IsTrue result ↔ AllZip (IsNeeded (items_of loads.now) loads.now.slots (lcm_of (periods_of loads.now.loads)) value left.now) periods.now pairs.now }
+    ensures { IsTrue result ↔ AllZip (IsNeededBy (items_of loads.now) (T.tops tops.now) value left.now) periods.now pairs.now }
 {
     if periods.len() != pairs.len() {
         return false;
     }
     for i in 0..periods.len() {
-        if !is_needed(loads, left, periods[i], pairs[i], value) {
+        if !is_needed(loads, tops, left, periods[i], pairs[i], value) {
             return false;
         }
     }
@@ -144,13 +167,15 @@ fn group_bytes(ticks: u32, periods: &[u16], pairs: &[Pair]) -> u64
     total
 }
 
-/// Whether some unit has no place; there is a pair for each period of such units, in ascending order, and the units of
-/// the period need as many new groups as it says; and the bytes of a hyperperiod, without padding and with those of the
-/// units that have no place and of the new groups, are more than one byte less than the value in each tick would hold.
-/// False where there is no value. For each phase of each of these periods the ticks of its class are looked at once.
-/// Takes no memory.
-pub fn groups_bound(loads: &Loads, rest: &Rest, pairs: &[Pair], value: Option<u64>) -> bool
-    ensures { IsRestOf rest.now loads.now → (IsTrue result ↔ GroupsHold loads.now.loads loads.now.slots value loads.now.places pairs.now) }
+/// Whether new groups cost too much by a table of tops.
+fn groups_bound_by<T: Tops>(
+    loads: &Loads,
+    rest: &Rest,
+    tops: &T,
+    pairs: &[Pair],
+    value: Option<u64>,
+) -> bool
+    ensures { IsRestOf rest.now loads.now → (IsTrue result ↔ GroupsHoldBy loads.now.loads loads.now.slots (T.tops tops.now) value loads.now.places pairs.now) }
 {
     let Some(value) = value else {
         return false;
@@ -164,10 +189,36 @@ pub fn groups_bound(loads: &Loads, rest: &Rest, pairs: &[Pair], value: Option<u6
     let mut table = [0u16; MOST_PERIODS];
     let few = fill_periods(left, &mut table);
     let periods = &table[..few];
-    if !all_needed(loads, left, periods, pairs, value) {
+    if !all_needed(loads, tops, left, periods, pairs, value) {
         return false;
     }
     let ticks = loads.ticks();
     let bytes = loads.raw_total() + rest.demand() + group_bytes(ticks, periods, pairs);
     u128::from(value.saturating_sub(1)) * u128::from(ticks) < u128::from(bytes)
+}
+
+/// Whether some unit has no place; there is a pair for each period of such units, in ascending order, and the units of
+/// the period need as many new groups as it says; and the bytes of a hyperperiod, without padding and with those of the
+/// units that have no place and of the new groups, are more than one byte less than the value in each tick would hold.
+/// False where there is no value. For each phase of each of these periods the ticks of its class are looked at once.
+/// Takes no memory.
+pub fn groups_bound(loads: &Loads, rest: &Rest, pairs: &[Pair], value: Option<u64>) -> bool
+    ensures { IsRestOf rest.now loads.now → (IsTrue result ↔ GroupsHold loads.now.loads loads.now.slots value loads.now.places pairs.now) }
+{
+    groups_bound_by(loads, rest, &Walked { loads }, pairs, value)
+}
+
+/// Whether a table of ticks shows that new groups cost too much, as `groups_bound` says: one tick stands for each class,
+/// and counts as 40 bytes where it isn't one of it. False where there is no value. Takes no memory.
+pub fn groups_bound_at<T: Ticks>(
+    loads: &Loads,
+    rest: &Rest,
+    table: &T,
+    pairs: &[Pair],
+    value: Option<u64>,
+) -> bool
+    ensures said { IsRestOf rest.now loads.now → (IsTrue result ↔ GroupsShow loads.now.loads loads.now.slots value loads.now.places pairs.now (T.ticks table.now)) }
+    ensures holds { IsRestOf rest.now loads.now → IsTrue result → GroupsHold loads.now.loads loads.now.slots value loads.now.places pairs.now }
+{
+    groups_bound_by(loads, rest, &Shown { loads, table }, pairs, value)
 }

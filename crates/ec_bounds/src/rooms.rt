@@ -1,34 +1,15 @@
 //! The rooms of classes. The class of a period and a phase is the ticks in which what has them travels; it is open where
 //! a unit has them.
 
-ghost use Rattle.std.specs.Prelude.{◌≡◌, ℕ, ◌<◌, ◌≤◌, ◌||◌, false, get_or};
-ghost use Rattle.ec_hyper.specs.Lcm.{lcm_of};
-ghost use Rattle.ec_units.specs.Load.{periods_of};
+ghost use Rattle.std.specs.Prelude.{◌≡◌, ℕ, ◌<◌, ◌||◌, false, get_or};
 ghost use Rattle.ec_loads.specs.Held.{items_of};
-ghost use Rattle.ec_loads.specs.Rooms.{is_open as open_in, top as top_of, room as room_of, room_beside as beside_of};
+ghost use Rattle.ec_loads.specs.Rooms.{is_open as open_in};
 ghost use Rattle.ec_bounds.specs.Left.{is_placed_in as placed_in};
+ghost use Rattle.ec_bounds.specs.Shown.{room_by, room_beside_by};
 
+use crate::tops::Tops;
 use ec_loads::{GROUP_BYTES, Loads};
 use ec_units::{Load, Place};
-
-/// What a frame costs beside its groups, without padding, in bytes.
-const FRAME_BYTES: u64 = 40;
-
-/// The greatest of 40 bytes and of what the ticks of a class cost without padding.
-fn top(loads: &Loads, period: u16, phase: u16) -> u64
-    requires { phase < period }
-    ensures value { result ≡ top_of (items_of loads.now) loads.now.slots (lcm_of (periods_of loads.now.loads)) period phase }
-    ensures bound { result ≤ 575552 }
-{
-    let ticks = loads.ticks();
-    let mut most = FRAME_BYTES;
-    let mut tick = u32::from(phase);
-    while tick < ticks {
-        most = most.max(loads.raw(tick));
-        tick += u32::from(period);
-    }
-    most
-}
 
 /// Whether a unit has a place, and this period and phase.
 fn is_placed_in(load: Load, place: Option<Place>, period: u16, phase: u16) -> bool
@@ -99,9 +80,10 @@ fn is_open(loads: &Loads, period: u16, phase: u16) -> bool
 }
 
 /// The room of a class at a value, in bytes: how far its top is below one less than the value; of a closed class 12
-/// less, for its group. The table tells which classes of the period are open, below phase 60.
-pub(crate) fn room(
+/// less, for its group. One table tells the tops, the other which classes of the period are open, below phase 60.
+pub(crate) fn room<T: Tops>(
     loads: &Loads,
+    tops: &T,
     opens: &[bool; MOST_TICKS],
     period: u16,
     phase: u16,
@@ -109,10 +91,10 @@ pub(crate) fn room(
 ) -> u64
     requires phase { phase < period }
     requires opens { (f : ℕ) → f < 60 → get_or opens.now f false ≡ open_in (items_of loads.now) period f }
-    ensures { result ≡ room_of (items_of loads.now) loads.now.slots (lcm_of (periods_of loads.now.loads)) value period phase }
+    ensures { result ≡ room_by (items_of loads.now) (T.tops tops.now) value period phase }
 {
     let limit = value.saturating_sub(1);
-    let most = top(loads, period, phase);
+    let most = tops.top(period, phase);
     if is_open_in(loads, opens, period, phase) {
         return limit.saturating_sub(most);
     }
@@ -120,8 +102,9 @@ pub(crate) fn room(
 }
 
 /// What a class has room for beside a group of so many bytes: all of its room where it is open, else what is above them.
-pub(crate) fn room_beside(
+pub(crate) fn room_beside<T: Tops>(
     loads: &Loads,
+    tops: &T,
     opens: &[bool; MOST_TICKS],
     period: u16,
     phase: u16,
@@ -130,9 +113,9 @@ pub(crate) fn room_beside(
 ) -> u64
     requires phase { phase < period }
     requires opens { (f : ℕ) → f < 60 → get_or opens.now f false ≡ open_in (items_of loads.now) period f }
-    ensures { result ≡ beside_of (items_of loads.now) loads.now.slots (lcm_of (periods_of loads.now.loads)) value period bytes phase }
+    ensures { result ≡ room_beside_by (items_of loads.now) (T.tops tops.now) value period bytes phase }
 {
-    let all = room(loads, opens, period, phase, value);
+    let all = room(loads, tops, opens, period, phase, value);
     if is_open_in(loads, opens, period, phase) {
         return all;
     }

@@ -45,7 +45,7 @@ pub(crate) struct Needs {
     ends: Vec<usize>,
     needs: Vec<Need>,
     sizes: Vec<Size>,
-    starts: [usize; MOST_TICKS + 1],
+    starts: [u16; MOST_TICKS + 1],
     width: usize,
 }
 
@@ -82,6 +82,11 @@ impl Needs {
         self.width
     }
 
+    /// Where the classes of each period begin in a row.
+    pub(crate) fn starts(&self) -> &[u16; MOST_TICKS + 1] {
+        &self.starts
+    }
+
     /// Where the needs begin and end, where so many units are left.
     pub(crate) fn range(&self, left: usize) -> (usize, usize) {
         if left == 0 || left >= self.ends.len() {
@@ -113,7 +118,7 @@ impl Needs {
                 let period = usize::from(period_of(all[unit]));
                 if !seen[period] {
                     seen[period] = true;
-                    self.starts[period] = self.width;
+                    self.starts[period] = self.width.min(65_535) as u16;
                     self.width = self.width.saturating_add(period);
                 }
             }
@@ -188,7 +193,7 @@ impl Needs {
             period,
             bytes,
             group: GROUP_BYTES.saturating_mul(ticks / u32::from(period)),
-            start: self.starts[usize::from(period)],
+            start: usize::from(self.starts[usize::from(period)]),
             first,
             end: self.sizes.len(),
         })

@@ -12,11 +12,11 @@ ghost use Rattle.ec_branch.specs.Walks.{IsClosing};
 
 use crate::classes::{MOST_LIMIT, Rooms, fill_rooms, is_crowded};
 use crate::leaf::costly_leaf;
-use crate::needs::{Need, Needs, Size, period_in};
+use crate::needs::{Need, Size, period_in};
 use crate::pairs::{most_group_bytes, pairs_of};
-use crate::tops::{Class, Tops};
+use crate::tops::Tops;
 use crate::waiting::MOST_TICKS;
-use ec_bounds::{Rest, count_bound, groups_bound, merge_bound};
+use ec_bounds::{Rest, count_bound_at, groups_bound_at, merge_bound};
 use ec_cert::{Pairs, Tree};
 use ec_loads::Loads;
 use ec_units::Place;
@@ -50,13 +50,14 @@ fn bytes_in(size: Size) -> u16
     size.bytes.clamp(1, 1486)
 }
 
-/// The leaf by counting units of a period, by these sizes of them and rooms of its classes, where it holds at the value:
-/// by the greatest bytes by which it does.
+/// The leaf by counting units of a period, by these rooms of its classes, where it holds at the value: by the greatest
+/// bytes by which it does.
 fn sized_leaf(
     loads: &Loads,
     rest: &Rest,
+    tops: &Tops,
+    left: usize,
     need: Need,
-    sizes: &[Size],
     rooms: &[u32],
     all: Rooms,
     value: Option<u64>,
@@ -68,37 +69,47 @@ fn sized_leaf(
     ensures { IfSome result (λ tree. IsClosing (line_of strong loads.now) value loads.now.places (shape_of tree)) }
 {
     let period = period_in(need);
-    for size in sizes {
+    for size in tops.needs().sizes(need) {
         let bytes = bytes_in(*size);
-        if is_crowded(rooms, all, *size) && count_bound(loads, rest, period, bytes, value) {
+        if is_crowded(rooms, all, *size)
+            && count_bound_at(loads, rest, &tops.ticks(left), period, bytes, value)
+        {
             return Some(Tree::Count { period, bytes });
         }
     }
     None
 }
 
-/// The leaf by counting units of a period, whose classes these are, where it holds at the value. The bytes of a
-/// hyperperiod that their new groups may cost are added to `most`.
+/// The leaf by counting units of a period, whose classes are made where so many units are left, where it holds at the
+/// value. The bytes of a hyperperiod that their new groups may cost are added to `most`.
 fn period_leaf(
     loads: &Loads,
     rest: &Rest,
-    needs: &Needs,
+    tops: &Tops,
+    left: usize,
     need: Need,
-    row: &[Class],
     limit: u32,
     value: Option<u64>,
     most: &mut u64,
 ) -> Option<Tree>
-    requires few { length row.now ≤ 60 }
     requires limit { limit ≤ 100000 }
     requires left { IsRestOf rest.now loads.now }
     ensures { IfSome result (λ tree. IsClosing (line_of strong loads.now) value loads.now.places (shape_of tree)) }
 {
     let mut rooms = [0u32; MOST_TICKS];
+    let row = tops.row(need, left);
     let all = fill_rooms(row, limit, &mut rooms);
     *most = most.saturating_add(most_group_bytes(need, all));
-    let sizes = needs.sizes(need);
-    sized_leaf(loads, rest, need, sizes, &rooms[..row.len()], all, value)
+    sized_leaf(
+        loads,
+        rest,
+        tops,
+        left,
+        need,
+        &rooms[..row.len()],
+        all,
+        value,
+    )
 }
 
 /// The leaf by counting units where it holds at the value: by the least period by which it does. The classes of the
@@ -121,17 +132,7 @@ fn counted_leaf(
     for number in first..end {
         if let Some(need) = tops.needs().need(number) {
             tops.make(loads, need, left, last);
-            let row = tops.row(need, left);
-            if let Some(leaf) = period_leaf(
-                loads,
-                rest,
-                tops.needs(),
-                need,
-                row,
-                limit,
-                value,
-                most,
-            ) {
+            if let Some(leaf) = period_leaf(loads, rest, tops, left, need, limit, value, most) {
                 return Some(leaf);
             }
         }
@@ -157,7 +158,7 @@ fn grouped_leaf(
     if pairs.is_empty() {
         return Ok(None);
     }
-    if groups_bound(loads, rest, pairs.as_slice(), value) {
+    if groups_bound_at(loads, rest, &tops.ticks(left), pairs.as_slice(), value) {
         let held = Pairs::new(alloc, pairs)?;
         return Ok(Some(Tree::Groups(held)));
     }

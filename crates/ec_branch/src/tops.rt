@@ -1,10 +1,11 @@
 //! What the classes of periods cost, for each count of units that are left. The class of a phase is the ticks in which
 //! what has its period and this phase travels; it is open where a unit has them.
 
-ghost use Rattle.std.specs.Prelude.{◌≡◌, ◌<◌, ◌≤◌, length};
+ghost use Rattle.std.specs.Prelude.{◌≡◌, ◌+◌, ◌%◌, ◌<◌, ◌≤◌, get_or, length};
 
 use crate::needs::{Need, Needs, period_in};
 use crate::waiting::{MOST_TICKS, period_of};
+use ec_bounds::Ticks;
 use ec_loads::{GROUP_BYTES, Loads};
 use ec_units::Load;
 use std::alloc::{AllocError, Global};
@@ -12,19 +13,82 @@ use std::alloc::{AllocError, Global};
 /// What a frame costs beside its groups, without padding, in bytes.
 const FRAME_BYTES: u16 = 40;
 
-/// A class: the greatest of 40 bytes and of what its ticks cost without padding, and what its group costs, nothing where
-/// it is open.
+/// What the mark of a closed class has beside its tick.
+const CLOSED: u16 = 32_768;
+
+/// A class: the greatest of 40 bytes and of what its ticks cost without padding; and a tick that costs so, where one costs
+/// more than 40, with `CLOSED` where the class is.
 #[derive(Clone, Copy, Debug)]
 pub(crate) struct Class {
     pub top: u16,
-    pub head: u16,
+    pub mark: u16,
 }
 
 /// A class with nothing in it.
 const EMPTY: Class = Class {
     top: FRAME_BYTES,
-    head: GROUP_BYTES as u16,
+    mark: CLOSED,
 };
+
+/// What the group of a class costs; nothing where it is open.
+pub(crate) fn head_of(class: Class) -> u16 {
+    if class.mark < CLOSED {
+        0
+    } else {
+        GROUP_BYTES as u16
+    }
+}
+
+/// A class of which a tick costs so much.
+fn raised(class: Class, cost: u16, tick: u32) -> Class {
+    if cost <= class.top {
+        return class;
+    }
+    Class {
+        top: cost,
+        mark: (class.mark & CLOSED) | (tick % u32::from(CLOSED)) as u16,
+    }
+}
+
+/// The tick of one of these classes, by its number; 0 where there is none.
+fn tick_at(classes: &[Class], at: usize) -> u32
+    ensures { result ≡ (get_or classes.now at (record { top = 0; mark = 0 })).mark % 32768 }
+{
+    match classes.get(at) {
+        Some(class) => u32::from(class.mark % CLOSED),
+        None => 0,
+    }
+}
+
+/// Where the classes of a period begin in a row; 0 where it has none.
+fn start_at(starts: &[u16; MOST_TICKS + 1], period: u16) -> usize
+    ensures value { result ≡ get_or starts.now period 0 }
+    ensures bound { result ≤ 65535 }
+{
+    let period = usize::from(period);
+    if period > MOST_TICKS {
+        return 0;
+    }
+    usize::from(starts[period])
+}
+
+/// The ticks that cost most: those of the classes of a row, in which the periods begin here.
+#[derive(Clone, Copy)]
+pub(crate) struct Costly<'a> {
+    classes: &'a [Class],
+    starts: &'a [u16; MOST_TICKS + 1],
+}
+
+impl<'a> Ticks for Costly<'a> {
+    ghost ticks = { λ s p f. (get_or s.classes.now (get_or s.starts.now p 0 + f) (record { top = 0; mark = 0 })).mark % 32768 };
+
+    fn tick(&self, period: u16, phase: u16) -> u32 {
+        tick_at(
+            self.classes,
+            start_at(self.starts, period) + usize::from(phase),
+        )
+    }
+}
 
 /// The unit that got its place last, and its phase.
 #[derive(Clone, Copy, Debug)]
@@ -47,7 +111,7 @@ fn raw_at(loads: &Loads, tick: u32) -> u16 {
     loads.raw(tick).min(65_535) as u16
 }
 
-/// Raises the tops of the classes of a period to what the ticks of a unit cost.
+/// Raises the tops of the classes of a period to what the ticks of a unit cost, and keeps these.
 fn raise(row: &mut [Class], loads: &Loads, last: Last)
     requires { 0 < length row.old }
 {
@@ -58,7 +122,7 @@ fn raise(row: &mut [Class], loads: &Loads, last: Last)
     let mut at = usize::from(last.phase) % period;
     let mut tick = u32::from(last.phase);
     while tick < ticks {
-        row[at].top = row[at].top.max(raw_at(loads, tick));
+        row[at] = raised(row[at], raw_at(loads, tick), tick);
         tick += u32::from(pace);
         at += step;
         if at >= period {
@@ -67,14 +131,14 @@ fn raise(row: &mut [Class], loads: &Loads, last: Last)
     }
 }
 
-/// Raises the tops of the classes of a period to what all ticks cost.
+/// Raises the tops of the classes of a period to what all ticks cost, and keeps these.
 fn raise_all(row: &mut [Class], loads: &Loads)
     requires { 0 < length row.old }
 {
     let period = row.len();
     let mut at = 0usize;
     for tick in 0..loads.ticks() {
-        row[at].top = row[at].top.max(raw_at(loads, tick));
+        row[at] = raised(row[at], raw_at(loads, tick), tick);
         at += 1;
         if at == period {
             at = 0;
@@ -86,7 +150,7 @@ fn raise_all(row: &mut [Class], loads: &Loads)
 fn open(row: &mut [Class], phase: u16) {
     let phase = usize::from(phase);
     if phase < row.len() {
-        row[phase].head = 0;
+        row[phase].mark %= CLOSED;
     }
 }
 
@@ -161,6 +225,20 @@ impl Tops {
         match self.classes.as_slice().get(start..end) {
             Some(row) => row,
             None => &[],
+        }
+    }
+
+    /// The ticks that cost most, of the classes where so many units are left.
+    pub(crate) fn ticks(&self, left: usize) -> Costly<'_> {
+        let start = left.saturating_mul(self.needs.width());
+        let end = start.saturating_add(self.needs.width());
+        let classes = match self.classes.as_slice().get(start..end) {
+            Some(row) => row,
+            None => &[],
+        };
+        Costly {
+            classes,
+            starts: self.needs.starts(),
         }
     }
 

@@ -1,22 +1,20 @@
 use Rattle.std.proofs.Common.{refl, arith}
-use Rattle.ec_hyper.specs.Lcm.{lcm_of}
-use Rattle.ec_units.specs.Load.{periods_of}
 use Rattle.ec_loads.specs.Cost.{items}
-use Rattle.ec_loads.specs.Rooms.{IsNeeded}
+use Rattle.ec_bounds.specs.Shown.{IsNeededBy}
 use Rattle.ec_bounds.proofs.StepLemmas.{zip_length, zip_first, zip_join, zip_done}
 use Rattle.ec_bounds.proofs.grouped.all_needed.Goals as goal
 
 pub returns-then-periods-pairs : goal.returns-then-periods-pairs
-returns-then-periods-pairs c =
+returns-then-periods-pairs g c =
     let held = c.args.loads.now in (
       λ said. absurd cc,
-      λ all. absurd (c.if-periods-pairs.true (zip_length (IsNeeded (items held.loads held.places) held.slots (lcm_of (periods_of held.loads)) c.args.value c.args.left.now) c.args.periods.now c.args.pairs.now all)),
+      λ all. absurd (c.if-periods-pairs.true (zip_length (IsNeededBy (items held.loads held.places) (g.T.Tops.tops c.args.tops.now) c.args.value c.args.left.now) c.args.periods.now c.args.pairs.now all)),
     )
 
 pub loop-i-preserved : goal.loop-i-preserved
-loop-i-preserved c =
+loop-i-preserved g c =
     let held = c.args.loads.now in
-    let needed = IsNeeded (items held.loads held.places) held.slots (lcm_of (periods_of held.loads)) c.args.value c.args.left.now in
+    let needed = IsNeededBy (items held.loads held.places) (g.T.Tops.tops c.args.tops.now) c.args.value c.args.left.now in
     let periods = c.args.periods.now in
     let pairs = c.args.pairs.now in
     let inv = c.loop-i.invariant in
@@ -27,9 +25,9 @@ loop-i-preserved c =
     }
 
 pub returns-then-not-is_needed : goal.returns-then-not-is_needed
-returns-then-not-is_needed c =
+returns-then-not-is_needed g c =
     let held = c.args.loads.now in
-    let needed = IsNeeded (items held.loads held.places) held.slots (lcm_of (periods_of held.loads)) c.args.value c.args.left.now in
+    let needed = IsNeededBy (items held.loads held.places) (g.T.Tops.tops c.args.tops.now) c.args.value c.args.left.now in
     let within = c.loop-i-test.true in (
       λ said. absurd cc,
       λ all.
@@ -39,7 +37,7 @@ returns-then-not-is_needed c =
     )
 
 pub returns : goal.returns
-returns c =
+returns g c =
     let held = c.args.loads.now in
-    let needed = IsNeeded (items held.loads held.places) held.slots (lcm_of (periods_of held.loads)) c.args.value c.args.left.now in
+    let needed = IsNeededBy (items held.loads held.places) (g.T.Tops.tops c.args.tops.now) c.args.value c.args.left.now in
     (λ said. c.loop-i.invariant.back (zip_done needed c.args.periods.now c.args.pairs.now c.loop-i.i c.loop-i-test.false c.if-periods-pairs.false), λ all. refl)

@@ -2,7 +2,7 @@ use Rattle.std.proofs.Common.{rules}
 use Rattle.ec_bounds.proofs.grouped.is_needed.Goals as goal
 
 pub returns : goal.returns
-returns c = search rules
+returns g c = search rules
 
 pub returns-then-pair-eq0 : goal.returns-then-pair-eq0
-returns-then-pair-eq0 c = search rules
+returns-then-pair-eq0 g c = search rules

@@ -1,21 +1,18 @@
 use Rattle.std.proofs.Common.{◌-◌, sym, ◌∙◌}
-use Rattle.ec_hyper.specs.Lcm.{lcm_of}
-use Rattle.ec_units.specs.Load.{periods_of}
 use Rattle.ec_loads.specs.Cost.{items}
-use Rattle.ec_loads.specs.Rooms.{is_open, room}
+use Rattle.ec_loads.specs.Rooms.{is_open}
 use Rattle.std.proofs.lemmas.Bool.{cond-true, cond-false}
+use Rattle.ec_bounds.specs.Shown.{room_by}
 use Rattle.ec_bounds.proofs.rooms.room_beside.Goals as goal
 
 pub returns-then-is_open_in : goal.returns-then-is_open_in
-returns-then-is_open_in c =
-    let held = c.args.loads.now in
-    let xs = items held.loads held.places in
-    let all = room xs held.slots (lcm_of (periods_of held.loads)) c.args.value c.args.period c.args.phase in
+returns-then-is_open_in g c =
+    let xs = items c.args.loads.now.loads c.args.loads.now.places in
+    let all = room_by xs (g.T.Tops.tops c.args.tops.now) c.args.value c.args.period c.args.phase in
     c.room-all.ensures ∙ sym (cond-true (is_open xs c.args.period c.args.phase) all (all - c.args.bytes) (sym c.is_open_in.ensures ∙ c.if-is_open_in.true))
 
 pub returns : goal.returns
-returns c =
-    let held = c.args.loads.now in
-    let xs = items held.loads held.places in
-    let all = room xs held.slots (lcm_of (periods_of held.loads)) c.args.value c.args.period c.args.phase in
+returns g c =
+    let xs = items c.args.loads.now.loads c.args.loads.now.places in
+    let all = room_by xs (g.T.Tops.tops c.args.tops.now) c.args.value c.args.period c.args.phase in
     c.saturating_sub.ensures ∙ (λ i. c.room-all.ensures i - c.from.ensures i) ∙ sym (cond-false (is_open xs c.args.period c.args.phase) all (all - c.args.bytes) (sym c.is_open_in.ensures ∙ c.if-is_open_in.false))

@@ -1,7 +1,7 @@
 use Rattle.std.proofs.Common.{◌≡◌, ℕ, ◌-◌, ◌%◌, ◌<◌, ◌≤◌}
 use Rattle.ec_loads.specs.Cost.{items, raw_cost}
 use Rattle.ec_loads.specs.Rooms.{top}
-use Rattle.ec_bounds.proofs.rooms.top.Given as goal
+use Rattle.ec_bounds.proofs.tops.top.Given as goal
 
 abbrev pub invariant-loop-tick : goal.invariant-loop-tick
 invariant-loop-tick l =

@@ -3,7 +3,7 @@ use Rattle.std.proofs.Math.Nat.{add-mod_right}
 use Rattle.ec_loads.specs.Cost.{items}
 use Rattle.ec_loads.specs.Rooms.{top}
 use Rattle.ec_bounds.proofs.StepLemmas.{top_first, top_next, top_met, top_stays, top_end}
-use Rattle.ec_bounds.proofs.rooms.top.Goals as goal
+use Rattle.ec_bounds.proofs.tops.top.Goals as goal
 
 pub loop-tick-init : goal.loop-tick-init
 loop-tick-init c =
