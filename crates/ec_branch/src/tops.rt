@@ -13,11 +13,11 @@ use std::alloc::{AllocError, Global};
 /// What a frame costs beside its groups, without padding, in bytes.
 const FRAME_BYTES: u16 = 40;
 
-/// What the mark of a closed class has beside its tick.
-const CLOSED: u16 = 32_768;
+/// More than any tick: a mark is so many times what the group of its class costs, and a tick.
+const MARK: u16 = 4096;
 
-/// A class: the greatest of 40 bytes and of what its ticks cost without padding; and a tick that costs so, where one costs
-/// more than 40, with `CLOSED` where the class is.
+/// A class: the greatest of 40 bytes and of what its ticks cost without padding; and the mark of what its group costs,
+/// nothing where it is open, and of a tick that costs as much as the top, where one does.
 #[derive(Clone, Copy, Debug)]
 pub(crate) struct Class {
     pub top: u16,
@@ -27,35 +27,30 @@ pub(crate) struct Class {
 /// A class with nothing in it.
 const EMPTY: Class = Class {
     top: FRAME_BYTES,
-    mark: CLOSED,
+    mark: GROUP_BYTES as u16 * MARK,
 };
 
 /// What the group of a class costs; nothing where it is open.
-pub(crate) fn head_of(class: Class) -> u16 {
-    if class.mark < CLOSED {
-        0
-    } else {
-        GROUP_BYTES as u16
-    }
+pub(crate) fn head_of(class: Class) -> u16
+    ensures { result ≤ 15 }
+{
+    class.mark / MARK
 }
 
-/// A class of which a tick costs so much.
-fn raised(class: Class, cost: u16, tick: u32) -> Class {
-    if cost <= class.top {
-        return class;
-    }
-    Class {
-        top: cost,
-        mark: (class.mark & CLOSED) | (tick % u32::from(CLOSED)) as u16,
+/// Raises the top of a class to what a tick of it costs, and keeps that.
+fn raise_class(class: &mut Class, cost: u16, tick: u32) {
+    if cost > class.top {
+        class.top = cost;
+        class.mark = (class.mark & !(MARK - 1)) | (tick % u32::from(MARK)) as u16;
     }
 }
 
 /// The tick of one of these classes, by its number; 0 where there is none.
 fn tick_at(classes: &[Class], at: usize) -> u32
-    ensures { result ≡ (get_or classes.now at (record { top = 0; mark = 0 })).mark % 32768 }
+    ensures { result ≡ (get_or classes.now at (record { top = 0; mark = 0 })).mark % 4096 }
 {
     match classes.get(at) {
-        Some(class) => u32::from(class.mark % CLOSED),
+        Some(class) => u32::from(class.mark % MARK),
         None => 0,
     }
 }
@@ -80,7 +75,7 @@ pub(crate) struct Costly<'a> {
 }
 
 impl<'a> Ticks for Costly<'a> {
-    ghost ticks = { λ s p f. (get_or s.classes.now (get_or s.starts.now p 0 + f) (record { top = 0; mark = 0 })).mark % 32768 };
+    ghost ticks = { λ s p f. (get_or s.classes.now (get_or s.starts.now p 0 + f) (record { top = 0; mark = 0 })).mark % 4096 };
 
     fn tick(&self, period: u16, phase: u16) -> u32 {
         tick_at(
@@ -122,7 +117,7 @@ fn raise(row: &mut [Class], loads: &Loads, last: Last)
     let mut at = usize::from(last.phase) % period;
     let mut tick = u32::from(last.phase);
     while tick < ticks {
-        row[at] = raised(row[at], raw_at(loads, tick), tick);
+        raise_class(&mut row[at], raw_at(loads, tick), tick);
         tick += u32::from(pace);
         at += step;
         if at >= period {
@@ -138,7 +133,7 @@ fn raise_all(row: &mut [Class], loads: &Loads)
     let period = row.len();
     let mut at = 0usize;
     for tick in 0..loads.ticks() {
-        row[at] = raised(row[at], raw_at(loads, tick), tick);
+        raise_class(&mut row[at], raw_at(loads, tick), tick);
         at += 1;
         if at == period {
             at = 0;
@@ -150,7 +145,7 @@ fn raise_all(row: &mut [Class], loads: &Loads)
 fn open(row: &mut [Class], phase: u16) {
     let phase = usize::from(phase);
     if phase < row.len() {
-        row[phase].mark %= CLOSED;
+        row[phase].mark %= MARK;
     }
 }
 
