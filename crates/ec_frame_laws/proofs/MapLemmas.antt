@@ -271,7 +271,7 @@ are-set us ps m image n slaves line sized =
     let ticks = ticks-pass us ps m image (range_with_len 0 n) now set (ready-in us ps m image slaves set line.memories line.each) in
     record {
       after = ticks.after;
-      left = (runs-append slaves now ticks.after (start_sents us m) (ticks_sents us m image n) (start-runs us m slaves (ps, line.layout) line.memories line.each line.fit) ticks.runs).left;
+      left = (runs-append slaves now ticks.after (start_sents us m) (ticks_sents us m image n) (start-runs us m slaves (ps, line.layout) line.memories line.each) ticks.runs).left;
       ready = ticks.ready;
     }
 

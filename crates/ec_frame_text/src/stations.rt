@@ -1,6 +1,6 @@
 //! The lines of the FMMU records.
 
-ghost use Rattle.std.specs.Prelude.{◌≡◌, ◌<◌, ◌++◌, length, map, string_bytes, All, IfOk, OnOk};
+ghost use Rattle.std.specs.Prelude.{◌≡◌, ◌++◌, length, map, string_bytes, IfOk, OnOk};
 ghost use Rattle.std.specs.List.{flat_map};
 ghost use Rattle.ec_units.specs.Views.{slave_view, unit_view};
 ghost use Rattle.ec_frame_text.specs.Lines.{stations_in, fmmu_line, station_lines, fmmu_lines};
@@ -13,9 +13,7 @@ use std::fmt::Write;
 
 /// Adds the stations of slaves.
 fn push_stations(stations: &mut Vec<u16>, slaves: &[Slave]) -> Result<(), AllocError>
-    requires { All (λ s. s < 65536) stations.old.items }
-    ensures all { OnOk result (stations.new.items ≡ stations.old.items ++ map (λ s. s.station) (map slave_view slaves.now)) }
-    ensures fit { OnOk result (All (λ s. s < 65536) stations.new.items) }
+    ensures { OnOk result (stations.new.items ≡ stations.old.items ++ map (λ s. s.station) (map slave_view slaves.now)) }
 {
     for slave in slaves {
         stations.push(slave.station)?;
@@ -23,14 +21,13 @@ fn push_stations(stations: &mut Vec<u16>, slaves: &[Slave]) -> Result<(), AllocE
     Ok(())
 }
 
-/// The stations of all slaves, in file order, each a number of 16 bits.
+/// The stations of all slaves, in file order.
 ///
 /// # Errors
 ///
 /// `AllocError` where memory ran out.
 pub fn stations_of(alloc: Global, units: &[Unit]) -> Result<Vec<u16>, AllocError>
-    ensures all { IfOk result (λ v. v.items ≡ stations_in (map unit_view units.now)) }
-    ensures fit { IfOk result (λ v. All (λ s. s < 65536) v.items) }
+    ensures { IfOk result (λ v. v.items ≡ stations_in (map unit_view units.now)) }
 {
     let mut stations = Vec::new(alloc);
     for unit in units {

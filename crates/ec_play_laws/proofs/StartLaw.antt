@@ -1,10 +1,11 @@
 -- The start frames of units with a layout.
-use Rattle.std.proofs.Common.{◌≡◌, ℕ, ◌<◌, ◌==◌, Bool, true, false, cond, List, [], ◌∷◌, ◌++◌, length, get_or, map, replicate, refl, sym, subst, arith, length-append, All}
+use Rattle.std.proofs.Common.{◌≡◌, ℕ, ◌==◌, Bool, true, false, cond, List, [], ◌∷◌, ◌++◌, length, get_or, map, replicate, refl, sym, subst, arith, length-append, All}
 use Rattle.std.specs.List.{flat_map}
 use Rattle.std.proofs.lemmas.List.Elements.{All-map}
 use Rattle.ec_units.specs.declared.units.Units.{Units}
 use Rattle.ec_units.specs.Together.{stations_of}
 use Rattle.ec_units.specs.Views.{unit_view}
+use Rattle.ec_units.proofs.StationLemmas.{stations_fit}
 use Rattle.ec_fmmu.specs.declared.fmmu.Fmmu.{Fmmu}
 use Rattle.ec_fmmu.specs.declared.seat.Seat.{Seat}
 use Rattle.ec_fmmu.specs.declared.mapping.Mapping.{Mapping}
@@ -35,11 +36,11 @@ pair-length seats s =
     pair (f ∷ g ∷ []) h = omega (arith, length-append (record_bytes f) (record_bytes g ++ []), length-append (record_bytes g) [], length-record f, length-record g)
     pair (f ∷ g ∷ e ∷ es) h = absurd (omega (arith, h))
 
-pub start-runs : (us : Units) (m : Mapping) (slaves : List (List ℕ)) → HasLayout us m → AreMemories slaves → length slaves ≡ length (stations_of us.units) → All (λ s. s < 65536) (stations_of us.units) →
+pub start-runs : (us : Units) (m : Mapping) (slaves : List (List ℕ)) → HasLayout us m → AreMemories slaves → length slaves ≡ length (stations_of us.units) →
     Runs slaves (start_sents us m) (started (stations_of us.units) m.fmmus slaves)
-start-runs us m slaves laid whole even fit =
+start-runs us m slaves laid whole even =
     let seats = seats_of (map unit_view us.units) laid.0 in
     let pairs : All IsPair m.fmmus = subst (All IsPair) (sym laid.1.layout.fmmus) (All-map IsPair (records_of seats) seats (λ i d l. pair-length seats (get_or seats i d))) in
     let few = few-stations us.units in
     let units = us.unit_count.1 in
-    starts-run (stations_of us.units) m.fmmus slaves even (pairs-each us laid.0 m laid.1) (omega (arith, few, units)) whole fit pairs us.stations_apart
+    starts-run (stations_of us.units) m.fmmus slaves even (pairs-each us laid.0 m laid.1) (omega (arith, few, units)) whole (stations_fit us.units) pairs us.stations_apart

@@ -1,7 +1,7 @@
 //! What is wrong with a frame that comes back, said as relations between its bytes and those of the frame that was sent.
 #![tactic(auto)]
 
-ghost use Rattle.std.specs.Prelude.{◌≡◌, ◌<◌, ◌↔◌, ℕ, true, List, length, map, Some, None, Err, All};
+ghost use Rattle.std.specs.Prelude.{◌≡◌, ◌<◌, ◌↔◌, ℕ, true, List, length, map, Some, None, Err};
 ghost use Rattle.ec_frames.specs.Reading.{Entry, ReadsAs, HasFault};
 ghost use Rattle.ec_frames.specs.declared.reading.FrameFault.{FrameFault};
 ghost use Rattle.ec_player.specs.declared.faults.Wrong.{Wrong};
@@ -47,42 +47,40 @@ pub fn law_wrong_counters()
 
 /// Start frames that go through modelled slaves, one for each slave of the units in file order, come back right: they are read, they
 /// are replies, and their counters are those that are wanted. They leave each slave its station and its records (own profile, after
-/// ETG.1000.4, clauses 5.4 and 6.6). A station has 16 bits.
+/// ETG.1000.4, clauses 5.4 and 6.6).
 pub fn law_start_is_right()
     ensures right { (us : Units) (m : Mapping) (slaves : List (List ℕ)) → HasLayout us m → AreMemories slaves → length slaves ≡ length (stations_of us.units) →
-        All (λ s. s < 65536) (stations_of us.units) → AreRight frame_after memory_after slaves 0 (start_sents us m) }
+        AreRight frame_after memory_after slaves 0 (start_sents us m) }
     ensures slaves { (us : Units) (m : Mapping) (slaves : List (List ℕ)) → HasLayout us m → AreMemories slaves → length slaves ≡ length (stations_of us.units) →
-        All (λ s. s < 65536) (stations_of us.units) → slaves_after frame_after memory_after slaves (start_sents us m) ≡ started (stations_of us.units) m.fmmus slaves }
+        slaves_after frame_after memory_after slaves (start_sents us m) ≡ started (stations_of us.units) m.fmmus slaves }
 {}
 
 /// A play through modelled slaves, one for each slave of the units in file order, has no faulty frame: each frame, of the start and of
 /// the ticks, comes back readable, as a reply, and with the counters that are wanted (own profile, after ETG.1000.4, clause 5.4). So a
-/// play that fails lacked what it needs. A station has 16 bits.
+/// play that fails lacked what it needs.
 pub fn law_play_is_right()
     ensures right { (us : Units) (m : Mapping) (image : List ℕ) (n : ℕ) (slaves : List (List ℕ)) → HasLayout us m → length image ≡ m.total → AreMemories slaves →
-        length slaves ≡ length (stations_of us.units) → All (λ s. s < 65536) (stations_of us.units) → AreRight frame_after memory_after slaves 0 (all_sents us m image n) }
+        length slaves ≡ length (stations_of us.units) → AreRight frame_after memory_after slaves 0 (all_sents us m image n) }
     ensures lacks { (us : Units) (m : Mapping) (image : List ℕ) (n : ℕ) (slaves : List (List ℕ)) (f : PlayFault) → HasLayout us m → length image ≡ m.total → AreMemories slaves →
-        length slaves ≡ length (stations_of us.units) → All (λ s. s < 65536) (stations_of us.units) →
+        length slaves ≡ length (stations_of us.units) →
         IsAnswer frame_after memory_after IsMemory us m image n slaves (Err f) → IsMemory f }
 {}
 
 /// After a play through modelled slaves each output of the units that travelled stands in the memory of its slave: at the address of
-/// the FMMU's area, the byte that the image has at its logical address (own profile, after ETG.1000.4, clause 6.6). A station has 16
-/// bits.
+/// the FMMU's area, the byte that the image has at its logical address (own profile, after ETG.1000.4, clause 6.6).
 pub fn law_outputs_arrive()
     ensures { (us : Units) (ps : List Place) (m : Mapping) (image : List ℕ) (n t : ℕ) (slaves : List (List ℕ)) → IsLayoutFor us ps m → length image ≡ m.total → AreMemories slaves →
-        length slaves ≡ length (stations_of us.units) → All (λ s. s < 65536) (stations_of us.units) → t < n →
+        length slaves ≡ length (stations_of us.units) → t < n →
         OutputsArrived (seats_of (map unit_view us.units) ps) image t (slaves_after frame_after memory_after slaves (all_sents us m image n)) }
 {}
 
 /// After a play through modelled slaves each input of the units that travelled stands in the image, at its logical address, as the
-/// memory of its slave has it; those of units that didn't travel are 0 (own profile, after ETG.1000.4, clause 6.6). A station has 16
-/// bits.
+/// memory of its slave has it; those of units that didn't travel are 0 (own profile, after ETG.1000.4, clause 6.6).
 pub fn law_inputs_arrive()
     ensures travelled { (us : Units) (ps : List Place) (m : Mapping) (image : List ℕ) (n t : ℕ) (slaves : List (List ℕ)) → IsLayoutFor us ps m → length image ≡ m.total → AreMemories slaves →
-        length slaves ≡ length (stations_of us.units) → All (λ s. s < 65536) (stations_of us.units) → t < n →
+        length slaves ≡ length (stations_of us.units) → t < n →
         InputsArrived (seats_of (map unit_view us.units) ps) (inputs_after us m image n slaves) t (slaves_after frame_after memory_after slaves (all_sents us m image n)) }
     ensures others { (us : Units) (ps : List Place) (m : Mapping) (image : List ℕ) (n : ℕ) (slaves : List (List ℕ)) → IsLayoutFor us ps m → length image ≡ m.total → AreMemories slaves →
-        length slaves ≡ length (stations_of us.units) → All (λ s. s < 65536) (stations_of us.units) →
+        length slaves ≡ length (stations_of us.units) →
         InputsAreAbsent (seats_of (map unit_view us.units) ps) (inputs_after us m image n slaves) n }
 {}

@@ -1,7 +1,7 @@
 -- From what a play answers to its text.
 -- The law of modelled slaves is called where it is needed (`law_play_is_right();`); its clause is a premise of `new_right`.
 -- That no frame is faulty then leaves of `IsAnswer` what was wanting (`only_lacks`).
-use Rattle.std.proofs.Common.{◌≡◌, ℕ, zero, suc, ◌<◌, List, length, map, replicate, All, None, Some, Result, Ok, Err, sym, ap, ◌∙◌, subst, inl, inr}
+use Rattle.std.proofs.Common.{◌≡◌, ℕ, zero, suc, List, length, map, replicate, None, Some, Result, Ok, Err, sym, ap, ◌∙◌, subst, inl, inr}
 use Rattle.std.specs.Prelude.{IfErr}
 use Rattle.std.specs.List.{range_with_len}
 use Rattle.std.proofs.lemmas.List.{length-replicate}
@@ -40,19 +40,16 @@ memories (suc k) = All-cons (λ m. length m ≡ 65536) (replicate 65536 0) (repl
 pub as_many : (us : List SyncUnit) → length (new_slaves (stations_in (map unit_view us))) ≡ length (stations_of us)
 as_many us = length-replicate (length (stations_in (map unit_view us))) (replicate 65536 0) ∙ ap length (sym (stations_of-views us))
 
-pub all_fit : (us : List SyncUnit) → All (λ s. s < 65536) (stations_in (map unit_view us)) → All (λ s. s < 65536) (stations_of us)
-all_fit us h = subst (λ ss. All (λ s. s < 65536) ss) (sym (stations_of-views us)) h
-
 -- no frame that goes through them is faulty, by the law of modelled slaves
 abbrev pub Law : Type 0
 Law =
     (us : Units) (m : Mapping) (image : List ℕ) (n : ℕ) (slaves : List (List ℕ)) → HasLayout us m → length image ≡ m.total → AreMemories slaves → length slaves ≡ length (stations_of us.units) →
-    All (λ s. s < 65536) (stations_of us.units) → AreRight frame_after memory_after slaves 0 (all_sents us m image n)
+    AreRight frame_after memory_after slaves 0 (all_sents us m image n)
 
-pub new_right : Law → (us : Units) (m : Mapping) (image : List ℕ) (n : ℕ) (slaves : List (List ℕ)) → HasLayout us m → image ≡ zeros m → slaves ≡ new_slaves (stations_in (map unit_view us.units)) → All (λ s. s < 65536) (stations_in (map unit_view us.units))
+pub new_right : Law → (us : Units) (m : Mapping) (image : List ℕ) (n : ℕ) (slaves : List (List ℕ)) → HasLayout us m → image ≡ zeros m → slaves ≡ new_slaves (stations_in (map unit_view us.units))
     → AreRight frame_after memory_after slaves 0 (all_sents us m image n)
-new_right law us m image n slaves layout blank fresh fit =
-    law us m image n slaves layout (ap length blank ∙ length-replicate {A = ℕ} m.total 0) (subst AreMemories (sym fresh) (memories (length (stations_in (map unit_view us.units))))) (ap length fresh ∙ as_many us.units) (all_fit us.units fit)
+new_right law us m image n slaves layout blank fresh =
+    law us m image n slaves layout (ap length blank ∙ length-replicate {A = ℕ} m.total 0) (subst AreMemories (sym fresh) (memories (length (stations_in (map unit_view us.units))))) (ap length fresh ∙ as_many us.units)
 
 -- where no frame is faulty, what is answered is what was wanting
 none_some : {A : Type 0} {X : Type 0} (x : X) → None ≡ Some x → A

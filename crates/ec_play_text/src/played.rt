@@ -1,6 +1,6 @@
 //! A plan is played through new modelled slaves.
 
-ghost use Rattle.std.specs.Prelude.{◌≡◌, ◌⊎◌, ◌<◌, map, length, replicate, string_bytes, All, IfOk, IfErr};
+ghost use Rattle.std.specs.Prelude.{◌≡◌, ◌⊎◌, map, length, replicate, string_bytes, IfOk, IfErr};
 ghost use Rattle.ec_units.specs.Load.{loads_of, periods_of};
 ghost use Rattle.ec_units.specs.Views.{unit_view, units_view};
 ghost use Rattle.ec_hyper.specs.Lcm.{lcm_of};
@@ -52,7 +52,6 @@ pub fn new_slaves(alloc: Global, count: usize) -> Result<Vec<SlaveBox>, AllocErr
 fn new_line(alloc: Global, units: &Units, mapping: &Mapping) -> Result<Line, PlayFault>
     ensures image { IfOk result (λ l. l.image.items ≡ zeros mapping.now) }
     ensures slaves { IfOk result (λ l. l.slaves.items ≡ slaves_of (stations_in (map unit_view units.now.units))) }
-    ensures fit { IfOk result (λ _. All (λ s. s < 65536) (stations_in (map unit_view units.now.units))) }
     ensures err { IfErr result IsMemory }
 {
     let Ok(stations) = stations_of(alloc, units.units.as_slice()) else {

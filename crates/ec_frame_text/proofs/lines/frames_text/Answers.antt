@@ -21,12 +21,12 @@ push_fmmus-requires c =
     ap length (c.as_slice-3.ensures ∙ h.layout.fmmus)
     ∙ length-map seats (records_of seats)
     ∙ station_count 0 (map unit_view us) c.requires.0 whole
-    ∙ ap length (sym (c.as_slice-2.ensures.value ∙ c.in_ok-stations.ensures.all ∙ ap (λ (xs : List SyncUnit). stations_in (map unit_view xs)) c.as_slice.ensures))
+    ∙ ap length (sym (c.as_slice-2.ensures.value ∙ c.in_ok-stations.ensures ∙ ap (λ (xs : List SyncUnit). stations_in (map unit_view xs)) c.as_slice.ensures))
 
 pub returns : goal.returns
 returns c =
     let ticks : c.ticks-ticks.result ≡ lcm_of (periods_of (view_loads (units_view c.args.units.now).units)) =
     c.ticks-ticks.ensures.value ∙ c.hyper.ensures.value ∙ ap (λ (ls : List Load). lcm_of (periods_of ls)) (loads_of-views c.args.units.now.units) in
     whole_text c.args.mapping.now (units_view c.args.units.now) _ _ _ c.as_slice-2.result.now c.as_slice-3.result.now _ c.new-text.ensures.bytes
-    (c.as_slice-2.ensures.value ∙ c.in_ok-stations.ensures.all ∙ ap (λ (xs : List SyncUnit). stations_in (map unit_view xs)) c.as_slice.ensures) c.as_slice-3.ensures
+    (c.as_slice-2.ensures.value ∙ c.in_ok-stations.ensures ∙ ap (λ (xs : List SyncUnit). stations_in (map unit_view xs)) c.as_slice.ensures) c.as_slice-3.ensures
     c.in_ok-push_fmmus.ensures c.in_ok-push_ticks.ensures (omega (arith, ticks))

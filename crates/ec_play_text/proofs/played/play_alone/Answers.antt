@@ -9,5 +9,5 @@ play_plain-requires-clause-each c = ap length c.in_ok-image.ensures.slaves ∙ a
 pub returns-clause-err : goal.returns-clause-err
 returns-clause-err c =
     let line = c.in_ok-image in
-    let right = new_right c.law_play_is_right.ensures.right c.args.units.now c.args.mapping.now c.as_slice.result.now _ line.field-0.slaves.items c.requires (c.as_slice.ensures.value ∙ line.ensures.image) line.ensures.slaves line.ensures.fit in
+    let right = new_right c.law_play_is_right.ensures.right c.args.units.now c.args.mapping.now c.as_slice.result.now _ line.field-0.slaves.items c.requires (c.as_slice.ensures.value ∙ line.ensures.image) line.ensures.slaves in
     only_lacks IsMemory c.args.units.now c.args.mapping.now c.as_slice.result.now _ line.field-0.slaves.items c.play_plain.result right c.play_plain.ensures.answer

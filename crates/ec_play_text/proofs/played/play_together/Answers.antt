@@ -9,7 +9,7 @@ play_threads-requires-clause-each g c κs within = ap length c.in_ok-image.ensur
 pub returns-then-len-le-MOST_THREADS-clause-err : goal.returns-then-len-le-MOST_THREADS-clause-err
 returns-then-len-le-MOST_THREADS-clause-err g c =
     let line = c.in_ok-image in
-    let right = new_right c.law_play_is_right.ensures.right c.args.units.now c.args.mapping.now c.as_slice.result.now _ line.field-0.slaves.items c.requires (c.as_slice.ensures.value ∙ line.ensures.image) line.ensures.slaves line.ensures.fit in
+    let right = new_right c.law_play_is_right.ensures.right c.args.units.now c.args.mapping.now c.as_slice.result.now _ line.field-0.slaves.items c.requires (c.as_slice.ensures.value ∙ line.ensures.image) line.ensures.slaves in
     only_lacks IsLack c.args.units.now c.args.mapping.now c.as_slice.result.now _ line.field-0.slaves.items c.play_threads.result right c.play_threads.ensures.answer
 
 pub play_plain-requires-clause-each : goal.play_plain-requires-clause-each
@@ -18,7 +18,7 @@ play_plain-requires-clause-each g c = ap length c.in_ok-image.ensures.slaves ∙
 pub returns-clause-err : goal.returns-clause-err
 returns-clause-err g c =
     let line = c.in_ok-image in
-    let right = new_right c.law_play_is_right.ensures.right c.args.units.now c.args.mapping.now c.as_slice-2.result.now _ line.field-0.slaves.items c.requires (c.as_slice-2.ensures.value ∙ line.ensures.image) line.ensures.slaves line.ensures.fit in
+    let right = new_right c.law_play_is_right.ensures.right c.args.units.now c.args.mapping.now c.as_slice-2.result.now _ line.field-0.slaves.items c.requires (c.as_slice-2.ensures.value ∙ line.ensures.image) line.ensures.slaves in
     let answer = as_lack c.args.units.now c.args.mapping.now c.as_slice-2.result.now _ line.field-0.slaves.items c.play_plain.result c.play_plain.ensures.answer in
     only_lacks IsLack c.args.units.now c.args.mapping.now c.as_slice-2.result.now _ line.field-0.slaves.items c.play_plain.result right answer
 
