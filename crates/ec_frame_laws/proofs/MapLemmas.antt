@@ -1,12 +1,9 @@
 -- What a slave maps by a record in its memory is what the record maps.
 -- The memory holds the bytes of the record, so the numbers and the bits that are read from there are the record's own.
-use Rattle.std.proofs.Common.{◌≡◌, ◌⊎◌, inl, inr, ℕ, zero, suc, ◌+◌, ◌*◌, ◌/◌, ◌%◌, ◌^◌, ◌<◌, ◌==◌, ◌&&◌, Bool, true, false, cond, List, [], ◌∷◌, ◌++◌, length, map, drop, get_or, replicate, refl, ap, sym, ◌∙◌, subst, arith}
+use Rattle.std.proofs.Common.{◌≡◌, ◌⊎◌, inl, inr, ℕ, zero, suc, ◌+◌, ◌/◌, ◌%◌, ◌^◌, ◌<◌, ◌==◌, ◌&&◌, Bool, true, false, cond, List, [], ◌∷◌, length, map, get_or, refl, ap, sym, ◌∙◌, subst, arith}
 use Rattle.std.specs.Prelude.{◌↔◌, Any}
 use Rattle.std.specs.List.{range_with_len}
 use Rattle.std.proofs.lemmas.Bool.{false≢true, and_parts, cases_eq, eq-eqb, eqb-true, ne_eqb}
-use Rattle.std.proofs.lemmas.List.{get_or-drop, get_or-append-add}
-use Rattle.std.proofs.Math.ListN.{get_or-append}
-use Rattle.byteorder.specs.Endian.{little_number}
 use Rattle.ec_units.specs.declared.slave.Place.{Place}
 use Rattle.ec_units.specs.declared.units.Units.{Units}
 use Rattle.ec_units.specs.Together.{stations_of}
@@ -16,7 +13,7 @@ use Rattle.ec_fmmu.specs.declared.mapping.Mapping.{Mapping}
 use Rattle.ec_fmmu.specs.declared.seat.Seat.{Seat}
 use Rattle.ec_fmmu.specs.Seats.{seats_of}
 use Rattle.ec_fmmu.specs.Layout.{outputs, inputs, process_byte, address_of}
-use Rattle.ec_fmmu.specs.Records.{Direction, reads, writes, Triple, HasKind, IsMappedBy, record_bytes}
+use Rattle.ec_fmmu.specs.Records.{Direction, reads, writes, Triple, HasKind, IsMappedBy}
 use Rattle.ec_fmmu.specs.Mappings.{fmmu_for, records_of, IsWanted}
 use Rattle.ec_slave.specs.Fmmus.{fmmu_at, fmmus_in, has}
 use Rattle.ec_slave.specs.Step.{memory_after, frame_after}
@@ -24,69 +21,12 @@ use Rattle.ec_player.specs.Sent.{start_sents, ticks_sents, all_sents}
 use Rattle.ec_player.specs.Lines.{slaves_after}
 use Rattle.ec_play_laws.specs.Ready.{IsReady, AreReady}
 use Rattle.ec_play_laws.specs.Started.{started}
-use Rattle.ec_play_laws.proofs.FmmuLemmas.{Fits}
+use Rattle.ec_play_laws.proofs.FmmuLemmas.{IsHeld, held-is, off-at, Fits, first-bytes, second-bytes}
 use Rattle.ec_play_laws.proofs.PlayLemmas.{IsSet, seats_in, fits-in, ticks-pass, ready-in}
 use Rattle.ec_play_laws.proofs.RunLemmas.{runs-append}
-use Rattle.ec_play_laws.proofs.StartLaw.{length-record, start-runs}
+use Rattle.ec_play_laws.proofs.StartLaw.{start-runs}
 use Rattle.ec_frame_laws.specs.Settings.{IsLine}
 use Rattle.ec_frame_laws.specs.Maps.{IsNarrow, HoldsRecord, side_of, MapsAt, SlaveMaps}
-
--- ---- one record
-
-abbrev used_bytes : Fmmu → List ℕ
-used_bytes f =
-    f.logical % 256 ∷ f.logical / 256 % 256 ∷ f.logical / 65536 % 256 ∷ f.logical / 16777216 % 256
-    ∷ f.len % 256 ∷ f.len / 256 % 256 ∷ 0 ∷ 7 ∷ f.physical % 256 ∷ f.physical / 256 % 256 ∷ 0 ∷ f.kind ∷ cond f.active 1 0 ∷ 0 ∷ 0 ∷ 0 ∷ []
-
-bytes-used : (f : Fmmu) → 0 < f.len → record_bytes f ≡ used_bytes f
-bytes-used f l = ap (λ b. cond b (replicate 16 0) (used_bytes f)) (ne_eqb f.len 0 (λ e. absurd (omega (arith, l, e))))
-
-bytes-unused : (f : Fmmu) → f.len ≡ 0 → record_bytes f ≡ replicate 16 0
-bytes-unused f e = ap (λ b. cond b (replicate 16 0) (used_bytes f)) (eq-eqb f.len 0 e)
-
--- numbers in the midst of a memory
-from-at : (m : List ℕ) (at i j n : ℕ) → i + j ≡ n → get_or (drop (at + i) m) j 0 ≡ get_or m (at + n) 0
-from-at m at i j n e = get_or-drop (at + i) m j 0 ∙ ap (λ k. get_or m k 0) (let z : at + i + j ≡ at + n = omega (arith, e) in z)
-
-two-at : (m : List ℕ) (at i x y : ℕ) → get_or m (at + i) 0 ≡ x → get_or m (at + (i + 1)) 0 ≡ y → little_number 2 (drop (at + i) m) ≡ x + 256 * (y + 256 * 0)
-two-at m at i x y a b =
-    let low = from-at m at i 0 i (omega arith) ∙ a in
-    let high = from-at m at i 1 (i + 1) refl ∙ b in
-    λ j. low j + 256 * (high j + 256 * 0)
-
-four-at : (m : List ℕ) (at x y z w : ℕ) → get_or m (at + 0) 0 ≡ x → get_or m (at + 1) 0 ≡ y → get_or m (at + 2) 0 ≡ z → get_or m (at + 3) 0 ≡ w →
-    little_number 4 (drop at m) ≡ x + 256 * (y + 256 * (z + 256 * (w + 256 * 0)))
-four-at m at x y z w a b c d =
-    let p = get_or-drop at m 0 0 ∙ a in
-    let q = get_or-drop at m 1 0 ∙ b in
-    let r = get_or-drop at m 2 0 ∙ c in
-    let s = get_or-drop at m 3 0 ∙ d in
-    λ j. p j + 256 * (q j + 256 * (r j + 256 * (s j + 256 * 0)))
-
--- a record with bytes: its numbers, and the two bytes of its type and of whether it is active
-record IsHeld (f : Fmmu) (m : List ℕ) (at : ℕ) : Type 0 where
-  logical_is : (fmmu_at m at).logical ≡ f.logical
-  len_is : (fmmu_at m at).len ≡ f.len
-  physical_is : (fmmu_at m at).physical ≡ f.physical
-  kind_is : get_or m (at + 11) 0 ≡ f.kind
-  active_is : get_or m (at + 12) 0 ≡ cond f.active 1 0
-
-held-is : (f : Fmmu) (m : List ℕ) (at : ℕ) → 0 < f.len → IsNarrow f → HoldsRecord m at f → IsHeld f m at
-held-is f m at some narrow h =
-    let wide = narrow.logical in
-    let short = narrow.len in
-    let low = narrow.physical in
-    let at_k : (k : ℕ) → k < 16 → get_or m (at + k) 0 ≡ get_or (used_bytes f) k 0 = λ k l. h k l ∙ ap (λ w. get_or w k 0) (bytes-used f some) in
-    let a = four-at m at (f.logical % 256) (f.logical / 256 % 256) (f.logical / 65536 % 256) (f.logical / 16777216 % 256) (at_k 0 (omega arith)) (at_k 1 (omega arith)) (at_k 2 (omega arith)) (at_k 3 (omega arith)) in
-    let b = two-at m at 4 (f.len % 256) (f.len / 256 % 256) (at_k 4 (omega arith)) (at_k 5 (omega arith)) in
-    let c = two-at m at 8 (f.physical % 256) (f.physical / 256 % 256) (at_k 8 (omega arith)) (at_k 9 (omega arith)) in
-    record {
-      logical_is = a ∙ (let z : f.logical % 256 + 256 * (f.logical / 256 % 256 + 256 * (f.logical / 65536 % 256 + 256 * (f.logical / 16777216 % 256 + 256 * 0))) ≡ f.logical = omega (arith, wide) in z);
-      len_is = b ∙ (let z : f.len % 256 + 256 * (f.len / 256 % 256 + 256 * 0) ≡ f.len = omega (arith, short) in z);
-      physical_is = c ∙ (let z : f.physical % 256 + 256 * (f.physical / 256 % 256 + 256 * 0) ≡ f.physical = omega (arith, low) in z);
-      kind_is = at_k 11 (omega arith);
-      active_is = at_k 12 (omega arith);
-    }
 
 -- ---- directions
 
@@ -126,21 +66,12 @@ side-found f m at writes h t =
       kind = eqb-true (f.kind / 2 % 2) 1 (ap (λ x. x / 2 % 2 == 1) (sym h.kind_is) ∙ parts.1);
     }
 
--- a record without bytes maps nothing
-off-at : (f : Fmmu) (m : List ℕ) (at : ℕ) (d : Direction) → f.len ≡ 0 → HoldsRecord m at f → has (fmmu_at m at) (side_of d) ≡ false
-off-at f m at reads e h =
-    let b : get_or m (at + 12) 0 ≡ 0 = h 12 (omega arith) ∙ ap (λ w. get_or w 12 0) (bytes-unused f e) in
-    ap (λ x. (x % 2 == 1) && (get_or m (at + 11) 0 % 2 == 1)) b
-off-at f m at writes e h =
-    let b : get_or m (at + 12) 0 ≡ 0 = h 12 (omega arith) ∙ ap (λ w. get_or w 12 0) (bytes-unused f e) in
-    ap (λ x. (x % 2 == 1) && (get_or m (at + 11) 0 / 2 % 2 == 1)) b
-
 -- ---- what the record maps
 
 seen-by : (f : Fmmu) (m : List ℕ) (at : ℕ) (t : Triple) → IsNarrow f → length m ≡ 65536 → HoldsRecord m at f → IsMappedBy f t → MapsAt m at t
 seen-by f m at t narrow whole h maps =
     let within = maps.within in
-    let held = held-is f m at (omega (arith, within)) narrow h in
+    let held = held-is f m at (omega (arith, within)) narrow.logical narrow.len narrow.physical h in
     let a = held.logical_is in
     let b = held.len_is in
     let c = held.physical_is in
@@ -158,10 +89,10 @@ seen-by f m at t narrow whole h maps =
 mapped-by : (f : Fmmu) (m : List ℕ) (at : ℕ) (t : Triple) → IsNarrow f → length m ≡ 65536 → HoldsRecord m at f → MapsAt m at t → IsMappedBy f t
 mapped-by f m at t narrow whole h seen =
     elim (cases_eq f.len 0) [
-      | inl e ↦ absurd (false≢true (sym (off-at f m at t.direction e h) ∙ seen.direction))
+      | inl e ↦ absurd (false≢true (sym (off-at f m at (side_of t.direction) e h) ∙ seen.direction))
       | inr n ↦
           let within = seen.within in
-          let held = held-is f m at (omega (arith, n)) narrow h in
+          let held = held-is f m at (omega (arith, n)) narrow.logical narrow.len narrow.physical h in
           let a = held.logical_is in
           let b = held.len_is in
           let c = held.physical_is in
@@ -218,37 +149,20 @@ second-narrow seats s f =
     let a = f.in_high in let b = f.in_top in let c = f.in_low in
     narrow-for 1 (address_of seats (process_byte s inputs 0)) s.in_bytes s.in_at (omega arith) (omega (arith, b)) (omega (arith, a, c)) (λ l. omega (arith, a, l))
 
-first-held : (seats : List Seat) (s : Seat) (m : List ℕ) → IsReady seats s m → HoldsRecord m 1536 (first_of seats s)
-first-held seats s m h k l =
-    let f = first_of seats s in
-    let g = second_of seats s in
-    h.records k (omega (arith, l)) ∙ get_or-append (record_bytes f) (record_bytes g ++ []) 0 k (omega (arith, l, length-record f))
-
-second-held : (seats : List Seat) (s : Seat) (m : List ℕ) → IsReady seats s m → HoldsRecord m 1552 (second_of seats s)
-second-held seats s m h k l =
-    let f = first_of seats s in
-    let g = second_of seats s in
-    let place : 1552 + k ≡ 1536 + (16 + k) = omega arith in
-    let again : 16 + k ≡ length (record_bytes f) + k = omega (arith, length-record f) in
-    ap (λ n. get_or m n 0) place ∙ h.records (16 + k) (omega (arith, l))
-    ∙ ap (λ n. get_or (record_bytes f ++ (record_bytes g ++ [])) n 0) again
-    ∙ get_or-append-add (record_bytes f) (record_bytes g ++ []) k 0
-    ∙ get_or-append (record_bytes g) [] 0 k (omega (arith, l, length-record g))
-
 records-seen : (seats : List Seat) (s : Seat) (m : List ℕ) (t : Triple) → Fits seats s → IsReady seats s m → Any (λ f. IsMappedBy f t) (records_of seats s) → SlaveMaps m t
 unfolding fmmus_in
 records-seen seats s m t fits ready h =
     elim (any-two (λ f. IsMappedBy f t) (first_of seats s) (second_of seats s) h) [
-      | inl p ↦ inl (seen-by (first_of seats s) m 1536 t (first-narrow seats s fits) ready.whole (first-held seats s m ready) p)
-      | inr p ↦ inr (seen-by (second_of seats s) m 1552 t (second-narrow seats s fits) ready.whole (second-held seats s m ready) p)
+      | inl p ↦ inl (seen-by (first_of seats s) m 1536 t (first-narrow seats s fits) ready.whole (first-bytes seats s m ready) p)
+      | inr p ↦ inr (seen-by (second_of seats s) m 1552 t (second-narrow seats s fits) ready.whole (second-bytes seats s m ready) p)
     ]
 
 records-map : (seats : List Seat) (s : Seat) (m : List ℕ) (t : Triple) → Fits seats s → IsReady seats s m → SlaveMaps m t → Any (λ f. IsMappedBy f t) (records_of seats s)
 unfolding fmmus_in
 records-map seats s m t fits ready (inl p) =
-    two-any (λ f. IsMappedBy f t) (first_of seats s) (second_of seats s) (inl (mapped-by (first_of seats s) m 1536 t (first-narrow seats s fits) ready.whole (first-held seats s m ready) p))
+    two-any (λ f. IsMappedBy f t) (first_of seats s) (second_of seats s) (inl (mapped-by (first_of seats s) m 1536 t (first-narrow seats s fits) ready.whole (first-bytes seats s m ready) p))
 records-map seats s m t fits ready (inr p) =
-    two-any (λ f. IsMappedBy f t) (first_of seats s) (second_of seats s) (inr (mapped-by (second_of seats s) m 1552 t (second-narrow seats s fits) ready.whole (second-held seats s m ready) p))
+    two-any (λ f. IsMappedBy f t) (first_of seats s) (second_of seats s) (inr (mapped-by (second_of seats s) m 1552 t (second-narrow seats s fits) ready.whole (second-bytes seats s m ready) p))
 
 -- ---- the slaves of a line
 

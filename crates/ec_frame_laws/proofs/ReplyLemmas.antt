@@ -1,6 +1,6 @@
 -- A reply is read as as many datagrams, and frames that pass a line of slaves are replies.
 -- All that reading asks of a datagram stands in bytes that no slave may change; so do the lengths, by which one finds the next.
-use Rattle.std.proofs.Common.{◌≡◌, ◌⊎◌, inl, inr, ℕ, ◌+◌, ◌*◌, ◌/◌, ◌%◌, ◌<◌, ◌≤◌, ◌==◌, ◌&&◌, ◌||◌, Bool, true, false, List, [], ◌∷◌, length, take, drop, get_or, refl, ap, sym, ◌∙◌, subst, arith, length-take, length-drop, drop_of_length-le}
+use Rattle.std.proofs.Common.{◌≡◌, ◌⊎◌, inl, inr, ℕ, suc, ◌+◌, ◌*◌, ◌/◌, ◌%◌, ◌<◌, ◌≤◌, ◌==◌, ◌&&◌, ◌||◌, Bool, true, false, List, [], ◌∷◌, length, take, drop, get_or, refl, ap, sym, ◌∙◌, subst, arith, length-take, length-drop, drop_of_length-le}
 use Rattle.std.specs.Prelude.{nat_lt, nat_le, slice_index}
 use Rattle.std.proofs.lemmas.Bool.Decides.{nat_tests}
 use Rattle.std.proofs.lemmas.List.{get_or-drop, get_or-take}
@@ -8,16 +8,21 @@ use Rattle.byteorder.specs.Endian.{little_number}
 use Rattle.ec_frames.specs.declared.command.Command.{Command}
 use Rattle.ec_frames.specs.Table.{command_with}
 use Rattle.ec_frames.specs.Reading.{Entry, word_at, size_at, circulates, header_at, length_at, payload_of, BeginsWith, AreDatagrams, IsFramed, ReadsAs}
+use Rattle.ec_frames.proofs.ReadingFrames.{law_one_reading}
 use Rattle.ec_slave.specs.Requests.{row_of}
-use Rattle.ec_slave.specs.Step.{memory_after, frame_after, is_raised}
+use Rattle.ec_slave.specs.Step.{memory_after, frame_after, is_raised, datagrams_step}
 use Rattle.ec_slave.specs.Journey.{through}
+use Rattle.ec_slave.proofs.StepLemmas.{extent_fits, step_read}
 use Rattle.ec_player.specs.Faults.{is_open, may_change}
 use Rattle.ec_play_laws.specs.Meanings.{IsReply}
-use Rattle.ec_play_laws.proofs.CountLemmas.{word-same}
+use Rattle.ec_play_laws.proofs.KeptLemmas.{word-same, steps-kept, open-out}
 use Rattle.ec_frame_laws.specs.Replies.{IsBackOf, AreBackOf, ReadsBackOf}
-use Rattle.ec_frame_laws.proofs.KeptLemmas.{and-none, front-shut, frame-kept}
 
 -- ---- bytes that no slave may change
+
+and-none : (b : Bool) → (b && false) ≡ false
+and-none true = refl
+and-none false = refl
 
 outside : (low high k : ℕ) → (k < low) ⊎ (high ≤ k) → (nat_le low k && nat_lt k high) ≡ false
 outside low high k (inl a) = let e : nat_le low k ≡ false = grind (arith, nat_tests) in ap (λ b. b && nat_lt k high) e
@@ -29,6 +34,11 @@ shut-if k at d p q =
     let e = outside (at + 2) (at + 4) k p in
     let f = outside (at + 10) (at + 12 + length d.bytes) k q in
     (λ i. (r && e i) || f i) ∙ ap (λ b. b || false) (and-none r)
+
+-- in front of the datagrams
+front-shut : (k at : ℕ) (ds : List Entry) → k < at → may_change at ds k ≡ false
+front-shut k at [] l = refl
+front-shut k at (d ∷ ds) l = λ i. shut-if k at d (inl (omega (arith, l))) (inl (omega (arith, l))) i || front-shut k (at + (length d.bytes + 12)) ds (omega (arith, l)) i
 
 moved : (at j : ℕ) → (j < 2) ⊎ (4 ≤ j) → (at + j < at + 2) ⊎ (at + 4 ≤ at + j)
 moved at j (inl a) = inl (omega (arith, a))
@@ -207,13 +217,28 @@ reply-reads sent back ds h r =
       back = read.back;
     }
 
--- ---- a line of slaves
+back-length : (ds es : List Entry) → AreBackOf ds es → length es ≡ length ds
+back-length [] [] h = refl
+back-length [] (e ∷ es) h = absurd h
+back-length (d ∷ ds) [] h = absurd h
+back-length (d ∷ ds) (e ∷ es) h = ap suc (back-length ds es h.1)
 
-back-open : (at k : ℕ) (d e : Entry) → IsBackOf d e → is_open at e k ≡ is_open at d k
-back-open at k d e h =
-    let c = h.command in
-    let n = h.size in
-    λ i. (is_raised (row_of (c i)).kind && (nat_le (at + 2) k && nat_lt k (at + 4))) || (nat_le (at + 10) k && nat_lt k (at + 12 + n i))
+pub as-many : (sent back : List ℕ) (ds es : List Entry) → ReadsAs sent ds → ReadsAs back es → IsReply ds sent back → length es ≡ length ds
+as-many sent back ds es h k r =
+    let read = reply-reads sent back ds h r in
+    ap length (law_one_reading back es read.entries k read.reads) ∙ back-length ds read.entries read.back
+
+-- ---- a slave, and a line of slaves
+
+pub frame-kept : (memory frame : List ℕ) (ds : List Entry) → ReadsAs frame ds → IsReply ds frame (frame_after memory frame)
+frame-kept memory frame ds h =
+    let fits = extent_fits frame ds h in
+    let step : frame_after memory frame ≡ (datagrams_step 16 ds (memory, frame)).1 = ap (λ s. s.1) (step_read memory frame ds h) in
+    subst (IsReply ds frame) (sym step)
+    (record {
+      len = (steps-kept ds 16 0 memory frame (omega (arith, fits)) (front-shut 0 16 ds (omega arith))).0;
+      bytes = λ k l shut. (steps-kept ds 16 k memory frame (omega (arith, fits)) shut).1;
+    })
 
 back-may : (at k : ℕ) (ds es : List Entry) → AreBackOf ds es → may_change at es k ≡ may_change at ds k
 back-may at k [] [] h = refl
@@ -221,7 +246,7 @@ back-may at k [] (e ∷ es) h = absurd h
 back-may at k (d ∷ ds) [] h = absurd h
 back-may at k (d ∷ ds) (e ∷ es) h =
     let rest = ap (λ m. may_change (at + (m + 12)) es k) h.0.size ∙ back-may (at + (length d.bytes + 12)) k ds es h.1 in
-    λ i. back-open at k d e h.0 i || rest i
+    λ i. open-out at k d e h.0.command h.0.size i || rest i
 
 pub line-kept : (slaves : List (List ℕ)) (frame : List ℕ) (ds : List Entry) → ReadsAs frame ds → IsReply ds frame (through frame_after memory_after slaves frame)
 line-kept [] frame ds h = record { len = refl; bytes = λ k l shut. refl }

@@ -1,6 +1,6 @@
 //! What frames that pass modelled slaves keep.
 
-ghost use Rattle.std.specs.Prelude.{ℕ, List};
+ghost use Rattle.std.specs.Prelude.{◌≡◌, ℕ, List, length};
 ghost use Rattle.ec_frames.specs.Reading.{Entry, ReadsAs};
 ghost use Rattle.ec_slave.specs.Step.{memory_after, frame_after};
 ghost use Rattle.ec_slave.specs.Journey.{through};
@@ -18,4 +18,9 @@ pub fn law_frames_are_kept()
 /// with its address but for a position (own profile, after ETG.1000.4, clause 5.4).
 pub fn law_replies_are_read()
     ensures { (sent back : List ℕ) (ds : List Entry) → ReadsAs sent ds → IsReply ds sent back → ReadsBackOf ds back }
+{}
+
+/// A reply has as many datagrams as the frame that was sent.
+pub fn law_as_many_datagrams()
+    ensures { (sent back : List ℕ) (ds es : List Entry) → ReadsAs sent ds → ReadsAs back es → IsReply ds sent back → length es ≡ length ds }
 {}

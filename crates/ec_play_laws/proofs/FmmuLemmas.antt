@@ -2,7 +2,7 @@
 -- A slave's two FMMUs are known by what a map through them can be (`IsChannel`): `place-none`, `place-some`,
 -- `source-none`, `source-some` are all that data, memory and counters ask. A slave that was started keeps that
 -- (`IsReady`): it is written in its area of outputs alone, from 4096 on.
-use Rattle.std.proofs.Common.{◌≡◌, ◌⊎◌, inl, inr, ℕ, ◌+◌, ◌*◌, ◌/◌, ◌%◌, ◌^◌, ◌<◌, ◌≤◌, ◌==◌, ◌&&◌, true, false, cond, List, [], ◌∷◌, ◌++◌, length, drop, get_or, replicate, Option, Some, None, refl, ap, sym, ◌∙◌, arith}
+use Rattle.std.proofs.Common.{◌≡◌, ◌≢◌, ◌⊎◌, inl, inr, ℕ, ◌+◌, ◌*◌, ◌/◌, ◌%◌, ◌^◌, ◌<◌, ◌≤◌, ◌==◌, ◌&&◌, true, false, cond, List, [], ◌∷◌, ◌++◌, length, drop, get_or, replicate, Option, Some, None, refl, ap, sym, ◌∙◌, subst, arith}
 use Rattle.std.proofs.lemmas.Bool.{false≢true, cases_eq, eq-eqb, ne_eqb}
 use Rattle.std.proofs.lemmas.List.{get_or-drop, get_or-append-add}
 use Rattle.std.proofs.Math.ListN.{get_or-append}
@@ -25,24 +25,22 @@ pub record IsChannel (f : Channel) (logical len physical : ℕ) (to : Direction)
   pub only : (d : Direction) → has f d ≡ true → (d ≡ to) × (f.logical ≡ logical) × (f.len ≡ len) × (f.physical ≡ physical)
   pub live : 0 < len → has f to ≡ true
 
-abbrev HasBytes : List ℕ → ℕ → Fmmu → Type 0
+-- a memory holds the bytes of a record from here on
+abbrev pub HasBytes : List ℕ → ℕ → Fmmu → Type 0
 HasBytes m at f = (k : ℕ) → k < 16 → get_or m (at + k) 0 ≡ get_or (record_bytes f) k 0
 
-for-none : (kind logical len physical : ℕ) → len ≡ 0 → fmmu_for kind logical len physical ≡ unused
-for-none kind logical len physical e = ap (λ b. cond b unused (record { logical = logical; len = len; physical = physical; kind = kind; active = true })) (eq-eqb len 0 e)
+-- ---- one record
 
-abbrev used : ℕ → ℕ → ℕ → ℕ → Fmmu
-used kind logical len physical = record { logical = logical; len = len; physical = physical; kind = kind; active = true }
+abbrev used_bytes : Fmmu → List ℕ
+used_bytes f =
+    f.logical % 256 ∷ f.logical / 256 % 256 ∷ f.logical / 65536 % 256 ∷ f.logical / 16777216 % 256
+    ∷ f.len % 256 ∷ f.len / 256 % 256 ∷ 0 ∷ 7 ∷ f.physical % 256 ∷ f.physical / 256 % 256 ∷ 0 ∷ f.kind ∷ cond f.active 1 0 ∷ 0 ∷ 0 ∷ 0 ∷ []
 
-abbrev used_bytes : ℕ → ℕ → ℕ → ℕ → List ℕ
-used_bytes kind logical len physical =
-    logical % 256 ∷ logical / 256 % 256 ∷ logical / 65536 % 256 ∷ logical / 16777216 % 256
-    ∷ len % 256 ∷ len / 256 % 256 ∷ 0 ∷ 7 ∷ physical % 256 ∷ physical / 256 % 256 ∷ 0 ∷ kind ∷ 1 ∷ 0 ∷ 0 ∷ 0 ∷ []
+bytes-used : (f : Fmmu) → 0 < f.len → record_bytes f ≡ used_bytes f
+bytes-used f l = ap (λ b. cond b (replicate 16 0) (used_bytes f)) (ne_eqb f.len 0 (λ e. absurd (omega (arith, l, e))))
 
-bytes-some : (kind logical len physical : ℕ) → 0 < len → record_bytes (fmmu_for kind logical len physical) ≡ used_bytes kind logical len physical
-bytes-some kind logical len physical l =
-    let n : (len == 0) ≡ false = ne_eqb len 0 (λ e. absurd (omega (arith, l, e))) in
-    ap record_bytes (ap (λ b. cond b unused (used kind logical len physical)) n) ∙ ap (λ b. cond b (replicate 16 0) (used_bytes kind logical len physical)) n
+bytes-unused : (f : Fmmu) → f.len ≡ 0 → record_bytes f ≡ replicate 16 0
+bytes-unused f e = ap (λ b. cond b (replicate 16 0) (used_bytes f)) (eq-eqb f.len 0 e)
 
 -- numbers of bytes in the midst of a memory
 from-at : (m : List ℕ) (at i j n : ℕ) → i + j ≡ n → get_or (drop (at + i) m) j 0 ≡ get_or m (at + n) 0
@@ -63,41 +61,47 @@ four-at m at x y z w a b c d =
     let s = get_or-drop at m 3 0 ∙ d in
     λ j. p j + 256 * (q j + 256 * (r j + 256 * (s j + 256 * 0)))
 
--- a record without bytes maps nothing
-off-at : (m : List ℕ) (at kind logical len physical : ℕ) (d : Direction) → len ≡ 0 → HasBytes m at (fmmu_for kind logical len physical) → has (fmmu_at m at) d ≡ false
-off-at m at kind logical len physical direction.Reads e h =
-    let b : get_or m (at + 12) 0 ≡ 0 = h 12 (omega arith) ∙ ap (λ f. get_or (record_bytes f) 12 0) (for-none kind logical len physical e) in
-    ap (λ x. (x % 2 == 1) && (get_or m (at + 11) 0 % 2 == 1)) b
-off-at m at kind logical len physical direction.Writes e h =
-    let b : get_or m (at + 12) 0 ≡ 0 = h 12 (omega arith) ∙ ap (λ f. get_or (record_bytes f) 12 0) (for-none kind logical len physical e) in
-    ap (λ x. (x % 2 == 1) && (get_or m (at + 11) 0 / 2 % 2 == 1)) b
+-- a record with bytes: its numbers, and the two bytes of its type and of whether it is active
+pub record IsHeld (f : Fmmu) (m : List ℕ) (at : ℕ) : Type 0 where
+  pub logical_is : (fmmu_at m at).logical ≡ f.logical
+  pub len_is : (fmmu_at m at).len ≡ f.len
+  pub physical_is : (fmmu_at m at).physical ≡ f.physical
+  pub kind_is : get_or m (at + 11) 0 ≡ f.kind
+  pub active_is : get_or m (at + 12) 0 ≡ cond f.active 1 0
 
--- a record with bytes: its numbers
-record Numbers (f : Channel) (logical len physical : ℕ) : Type 0 where
-  logical_is : f.logical ≡ logical
-  len_is : f.len ≡ len
-  physical_is : f.physical ≡ physical
-
-numbers-at : (m : List ℕ) (at kind logical len physical : ℕ) → 0 < len → logical < 2 ^ 32 → len < 65536 → physical < 65536 → HasBytes m at (fmmu_for kind logical len physical) → Numbers (fmmu_at m at) logical len physical
-numbers-at m at kind logical len physical some wide short low h =
-    let at_k : (k : ℕ) → k < 16 → get_or m (at + k) 0 ≡ get_or (used_bytes kind logical len physical) k 0 = λ k l. h k l ∙ ap (λ w. get_or w k 0) (bytes-some kind logical len physical some) in
-    let a = four-at m at (logical % 256) (logical / 256 % 256) (logical / 65536 % 256) (logical / 16777216 % 256) (at_k 0 (omega arith)) (at_k 1 (omega arith)) (at_k 2 (omega arith)) (at_k 3 (omega arith)) in
-    let b = two-at m at 4 (len % 256) (len / 256 % 256) (at_k 4 (omega arith)) (at_k 5 (omega arith)) in
-    let c = two-at m at 8 (physical % 256) (physical / 256 % 256) (at_k 8 (omega arith)) (at_k 9 (omega arith)) in
+pub held-is : (f : Fmmu) (m : List ℕ) (at : ℕ) → 0 < f.len → f.logical < 2 ^ 32 → f.len < 65536 → f.physical < 65536 → HasBytes m at f → IsHeld f m at
+held-is f m at some wide short low h =
+    let at_k : (k : ℕ) → k < 16 → get_or m (at + k) 0 ≡ get_or (used_bytes f) k 0 = λ k l. h k l ∙ ap (λ w. get_or w k 0) (bytes-used f some) in
+    let a = four-at m at (f.logical % 256) (f.logical / 256 % 256) (f.logical / 65536 % 256) (f.logical / 16777216 % 256) (at_k 0 (omega arith)) (at_k 1 (omega arith)) (at_k 2 (omega arith)) (at_k 3 (omega arith)) in
+    let b = two-at m at 4 (f.len % 256) (f.len / 256 % 256) (at_k 4 (omega arith)) (at_k 5 (omega arith)) in
+    let c = two-at m at 8 (f.physical % 256) (f.physical / 256 % 256) (at_k 8 (omega arith)) (at_k 9 (omega arith)) in
     record {
-      logical_is = a ∙ (let z : logical % 256 + 256 * (logical / 256 % 256 + 256 * (logical / 65536 % 256 + 256 * (logical / 16777216 % 256 + 256 * 0))) ≡ logical = omega (arith, wide) in z);
-      len_is = b ∙ (let z : len % 256 + 256 * (len / 256 % 256 + 256 * 0) ≡ len = omega (arith, short) in z);
-      physical_is = c ∙ (let z : physical % 256 + 256 * (physical / 256 % 256 + 256 * 0) ≡ physical = omega (arith, low) in z);
+      logical_is = a ∙ (let z : f.logical % 256 + 256 * (f.logical / 256 % 256 + 256 * (f.logical / 65536 % 256 + 256 * (f.logical / 16777216 % 256 + 256 * 0))) ≡ f.logical = omega (arith, wide) in z);
+      len_is = b ∙ (let z : f.len % 256 + 256 * (f.len / 256 % 256 + 256 * 0) ≡ f.len = omega (arith, short) in z);
+      physical_is = c ∙ (let z : f.physical % 256 + 256 * (f.physical / 256 % 256 + 256 * 0) ≡ f.physical = omega (arith, low) in z);
+      kind_is = at_k 11 (omega arith);
+      active_is = at_k 12 (omega arith);
     }
 
--- the directions of a record of each type
-side-of : (m : List ℕ) (at kind logical len physical : ℕ) → 0 < len → HasBytes m at (fmmu_for kind logical len physical) →
-    (has (fmmu_at m at) direction.Reads ≡ ((1 % 2 == 1) && (kind % 2 == 1))) × (has (fmmu_at m at) direction.Writes ≡ ((1 % 2 == 1) && (kind / 2 % 2 == 1)))
-side-of m at kind logical len physical some h =
-    let at_k : (k : ℕ) → k < 16 → get_or m (at + k) 0 ≡ get_or (used_bytes kind logical len physical) k 0 = λ k l. h k l ∙ ap (λ w. get_or w k 0) (bytes-some kind logical len physical some) in
-    let a = at_k 12 (omega arith) in
-    let b = at_k 11 (omega arith) in
-    ((λ i. (a i % 2 == 1) && (b i % 2 == 1)), (λ i. (a i % 2 == 1) && (b i / 2 % 2 == 1)))
+-- a record without bytes maps nothing
+pub off-at : (f : Fmmu) (m : List ℕ) (at : ℕ) (d : Direction) → f.len ≡ 0 → HasBytes m at f → has (fmmu_at m at) d ≡ false
+off-at f m at direction.Reads e h =
+    let b : get_or m (at + 12) 0 ≡ 0 = h 12 (omega arith) ∙ ap (λ w. get_or w 12 0) (bytes-unused f e) in
+    ap (λ x. (x % 2 == 1) && (get_or m (at + 11) 0 % 2 == 1)) b
+off-at f m at direction.Writes e h =
+    let b : get_or m (at + 12) 0 ≡ 0 = h 12 (omega arith) ∙ ap (λ w. get_or w 12 0) (bytes-unused f e) in
+    ap (λ x. (x % 2 == 1) && (get_or m (at + 11) 0 / 2 % 2 == 1)) b
+
+-- ---- a record for so many bytes
+
+abbrev used : ℕ → ℕ → ℕ → ℕ → Fmmu
+used kind logical len physical = record { logical = logical; len = len; physical = physical; kind = kind; active = true }
+
+for-none : (kind logical len physical : ℕ) → len ≡ 0 → fmmu_for kind logical len physical ≡ unused
+for-none kind logical len physical e = ap (λ b. cond b unused (used kind logical len physical)) (eq-eqb len 0 e)
+
+for-some : (kind logical len physical : ℕ) → len ≢ 0 → fmmu_for kind logical len physical ≡ used kind logical len physical
+for-some kind logical len physical n = ap (λ b. cond b unused (used kind logical len physical)) (ne_eqb len 0 n)
 
 outputs-only : (f : Channel) (d : Direction) → has f direction.Reads ≡ false → has f d ≡ true → d ≡ direction.Writes
 outputs-only f direction.Reads h t = absurd (false≢true (sym h ∙ t))
@@ -107,20 +111,32 @@ inputs-only : (f : Channel) (d : Direction) → has f direction.Writes ≡ false
 inputs-only f direction.Reads h t = refl
 inputs-only f direction.Writes h t = absurd (false≢true (sym h ∙ t))
 
+-- the directions of a record of each type
+side-of : (f : Fmmu) (m : List ℕ) (at : ℕ) → IsHeld f m at → f.active ≡ true →
+    (has (fmmu_at m at) direction.Reads ≡ (f.kind % 2 == 1)) × (has (fmmu_at m at) direction.Writes ≡ (f.kind / 2 % 2 == 1))
+side-of f m at h on =
+    let a : get_or m (at + 12) 0 ≡ 1 = h.active_is ∙ ap (λ b. cond b 1 0) on in
+    let b = h.kind_is in
+    ((λ i. (a i % 2 == 1) && (b i % 2 == 1)), (λ i. (a i % 2 == 1) && (b i / 2 % 2 == 1)))
+
+for-held : (m : List ℕ) (at kind logical len physical : ℕ) → len ≢ 0 → logical < 2 ^ 32 → len < 65536 → (0 < len → physical < 65536) → HasBytes m at (fmmu_for kind logical len physical) →
+    IsHeld (used kind logical len physical) m at
+for-held m at kind logical len physical n wide short low h =
+    held-is (used kind logical len physical) m at (omega (arith, n)) wide short (low (omega (arith, n))) (subst (HasBytes m at) (for-some kind logical len physical n) h)
+
 out-channel : (m : List ℕ) (at logical len physical : ℕ) → logical < 2 ^ 32 → len < 65536 → (0 < len → physical < 65536) → HasBytes m at (fmmu_for 2 logical len physical) →
     IsChannel (fmmu_at m at) logical len physical direction.Writes
 out-channel m at logical len physical wide short low h =
     elim (cases_eq len 0) [
       | inl e ↦ record {
-        only = λ d t. absurd (false≢true (sym (off-at m at 2 logical len physical d e h) ∙ t));
+        only = λ d t. absurd (false≢true (sym (off-at unused m at d refl (subst (HasBytes m at) (for-none 2 logical len physical e) h)) ∙ t));
         live = λ l. absurd (omega (arith, l, e));
       }
       | inr n ↦
-          let some : 0 < len = omega (arith, n) in
-          let sides = side-of m at 2 logical len physical some h in
-          let numbers = numbers-at m at 2 logical len physical some wide short (low some) h in
+          let held = for-held m at 2 logical len physical n wide short low h in
+          let sides = side-of (used 2 logical len physical) m at held refl in
           record {
-            only = λ d t. (outputs-only (fmmu_at m at) d sides.0 t, numbers.logical_is, numbers.len_is, numbers.physical_is);
+            only = λ d t. (outputs-only (fmmu_at m at) d sides.0 t, held.logical_is, held.len_is, held.physical_is);
             live = λ l. sides.1;
           }
     ]
@@ -130,28 +146,27 @@ in-channel : (m : List ℕ) (at logical len physical : ℕ) → logical < 2 ^ 32
 in-channel m at logical len physical wide short low h =
     elim (cases_eq len 0) [
       | inl e ↦ record {
-        only = λ d t. absurd (false≢true (sym (off-at m at 1 logical len physical d e h) ∙ t));
+        only = λ d t. absurd (false≢true (sym (off-at unused m at d refl (subst (HasBytes m at) (for-none 1 logical len physical e) h)) ∙ t));
         live = λ l. absurd (omega (arith, l, e));
       }
       | inr n ↦
-          let some : 0 < len = omega (arith, n) in
-          let sides = side-of m at 1 logical len physical some h in
-          let numbers = numbers-at m at 1 logical len physical some wide short (low some) h in
+          let held = for-held m at 1 logical len physical n wide short low h in
+          let sides = side-of (used 1 logical len physical) m at held refl in
           record {
-            only = λ d t. (inputs-only (fmmu_at m at) d sides.1 t, numbers.logical_is, numbers.len_is, numbers.physical_is);
+            only = λ d t. (inputs-only (fmmu_at m at) d sides.1 t, held.logical_is, held.len_is, held.physical_is);
             live = λ l. sides.0;
           }
     ]
 
 -- ---- the two channels of a slave
 
-first-bytes : (seats : List Seat) (s : Seat) (m : List ℕ) → IsReady seats s m → HasBytes m 1536 (fmmu_for 2 (address_of seats (process_byte s outputs 0)) s.out_bytes s.out_at)
+pub first-bytes : (seats : List Seat) (s : Seat) (m : List ℕ) → IsReady seats s m → HasBytes m 1536 (fmmu_for 2 (address_of seats (process_byte s outputs 0)) s.out_bytes s.out_at)
 first-bytes seats s m h k l =
     let f = fmmu_for 2 (address_of seats (process_byte s outputs 0)) s.out_bytes s.out_at in
     let g = fmmu_for 1 (address_of seats (process_byte s inputs 0)) s.in_bytes s.in_at in
     h.records k (omega (arith, l)) ∙ get_or-append (record_bytes f) (record_bytes g ++ []) 0 k (omega (arith, l, length-record f))
 
-second-bytes : (seats : List Seat) (s : Seat) (m : List ℕ) → IsReady seats s m → HasBytes m 1552 (fmmu_for 1 (address_of seats (process_byte s inputs 0)) s.in_bytes s.in_at)
+pub second-bytes : (seats : List Seat) (s : Seat) (m : List ℕ) → IsReady seats s m → HasBytes m 1552 (fmmu_for 1 (address_of seats (process_byte s inputs 0)) s.in_bytes s.in_at)
 second-bytes seats s m h k l =
     let f = fmmu_for 2 (address_of seats (process_byte s outputs 0)) s.out_bytes s.out_at in
     let g = fmmu_for 1 (address_of seats (process_byte s inputs 0)) s.in_bytes s.in_at in

@@ -1,13 +1,13 @@
 -- A frame that passes modelled slaves keeps each byte that no slave may change, so it is a reply.
 -- Byte by byte: each `put` keeps byte k if it stands apart (`put-apart`). Which bytes may change depends on commands
 -- and lengths alone, which no slave changes.
-use Rattle.std.proofs.Common.{◌≡◌, ◌⊎◌, inl, inr, ℕ, ◌+◌, ◌-◌, ◌%◌, ◌<◌, ◌≤◌, ◌==◌, ◌&&◌, ◌||◌, Bool, true, false, cond, List, [], ◌∷◌, ◌++◌, length, take, drop, get_or, Option, Some, None, unwrap_or, refl, ap, sym, ◌∙◌, subst, arith, length-append, length-drop}
+use Rattle.std.proofs.Common.{◌≡◌, ◌⊎◌, inl, inr, ℕ, ◌+◌, ◌-◌, ◌*◌, ◌%◌, ◌<◌, ◌≤◌, ◌==◌, ◌&&◌, ◌||◌, Bool, true, false, cond, List, [], ◌∷◌, ◌++◌, length, take, drop, get_or, Option, Some, None, unwrap_or, refl, ap, sym, ◌∙◌, subst, arith, length-append, length-drop}
 use Rattle.std.specs.Prelude.{nat_lt, nat_le}
 use Rattle.std.proofs.lemmas.Bool.{true≢false, cases_lt, and_from, lt-ltb}
 use Rattle.std.proofs.lemmas.Bool.Decides.{nat_tests}
 use Rattle.std.proofs.lemmas.List.{get_or-drop, get_or-take, get_or-append-add, length-take-le}
 use Rattle.std.proofs.Math.ListN.{get_or-append}
-use Rattle.byteorder.specs.Endian.{little_bytes}
+use Rattle.byteorder.specs.Endian.{little_bytes, little_number}
 use Rattle.ec_frames.specs.declared.command.AddressKind.{AddressKind}
 use Rattle.ec_frames.specs.Reading.{Entry}
 use Rattle.ec_slave.specs.declared.request.Request.{Request}
@@ -63,6 +63,13 @@ pub put-apart : (at : ℕ) (y l : List ℕ) (k : ℕ) → at + length y ≤ leng
 put-apart at y l k h (inl a) = put-before at y l k h a
 put-apart at y l k h (inr b) = put-behind at y l k h b
 
+-- two bytes that are the same are one number
+pub word-same : (p q : List ℕ) (n : ℕ) → get_or q n 0 ≡ get_or p n 0 → get_or q (n + 1) 0 ≡ get_or p (n + 1) 0 → little_number 2 (drop n q) ≡ little_number 2 (drop n p)
+word-same p q n e f =
+    let low = get_or-drop n q 0 0 ∙ ap (λ k. get_or q k 0) (let z : n + 0 ≡ n = omega arith in z) ∙ e ∙ ap (λ k. get_or p k 0) (let z : n ≡ n + 0 = omega arith in z) ∙ sym (get_or-drop n p 0 0) in
+    let high = get_or-drop n q 1 0 ∙ f ∙ sym (get_or-drop n p 1 0) in
+    λ i. low i + 256 * (high i + 256 * 0)
+
 -- ---- a datagram
 
 or-none : (a b : Bool) → (a || b) ≡ false → (a ≡ false) × (b ≡ false)
@@ -83,7 +90,7 @@ shut-apart low high k h =
     ]
 
 -- the same length, and the same byte k
-abbrev IsKept : ℕ → List ℕ → List ℕ → Type 0
+abbrev pub IsKept : ℕ → List ℕ → List ℕ → Type 0
 IsKept k old new = (length new ≡ length old) × (get_or new k 0 ≡ get_or old k 0)
 
 kept-on : (k : ℕ) (a b c : List ℕ) → IsKept k a b → IsKept k b c → IsKept k a c
@@ -162,7 +169,7 @@ datagram-kept : (at k : ℕ) (d : Entry) (memory l : List ℕ) → at + 12 + len
 unfolding datagram_step
 datagram-kept at k d memory l fits shut = asked-kept (request_of d.command) at k d memory l fits (λ r h. some-row _ (row_of d.command) r h) shut
 
-steps-kept : (ds : List Entry) (at k : ℕ) (memory l : List ℕ) → at + extent ds ≤ length l → may_change at ds k ≡ false → IsKept k l (datagrams_step at ds (memory, l)).1
+pub steps-kept : (ds : List Entry) (at k : ℕ) (memory l : List ℕ) → at + extent ds ≤ length l → may_change at ds k ≡ false → IsKept k l (datagrams_step at ds (memory, l)).1
 steps-kept [] at k memory l fits shut = (refl, refl)
 steps-kept (d ∷ ds) at k memory l fits shut =
     let parts = or-none (is_open at d k) (may_change (at + (length d.bytes + 12)) ds k) shut in
@@ -183,7 +190,7 @@ command-out : (memory : List ℕ) (d : Entry) → (entry_out memory d).command �
 unfolding entry_out
 command-out memory d = out-command memory d (request_of d.command)
 
-open-out : (at k : ℕ) (d e : Entry) → e.command ≡ d.command → length e.bytes ≡ length d.bytes → is_open at e k ≡ is_open at d k
+pub open-out : (at k : ℕ) (d e : Entry) → e.command ≡ d.command → length e.bytes ≡ length d.bytes → is_open at e k ≡ is_open at d k
 open-out at k d e c n = λ i. (is_raised (row_of (c i)).kind && (nat_le (at + 2) k && nat_lt k (at + 4))) || (nat_le (at + 10) k && nat_lt k (at + 12 + n i))
 
 may-outs : (ds : List Entry) (memory : List ℕ) (at k : ℕ) → may_change at (outs entry_out entry_next memory ds) k ≡ may_change at ds k

@@ -1,6 +1,5 @@
 pub mod MeaningLemmas
 pub mod CounterLemmas
-pub mod CountLemmas
 pub mod KeptLemmas
 pub mod RightLemmas
 pub mod AskLemmas

@@ -15,8 +15,7 @@ use Rattle.ec_slave.specs.Access.{put, station_of}
 use Rattle.ec_frame_builder.specs.Start.{roll_call, naming, mapping_frame, namings, mapping_frames, start_list, position_of}
 use Rattle.ec_player.specs.Sent.{start_sent}
 use Rattle.ec_play_laws.specs.Started.{AreMemories, with_station, with_records, started}
-use Rattle.ec_play_laws.proofs.CountLemmas.{word-same}
-use Rattle.ec_play_laws.proofs.KeptLemmas.{length-put, put-apart}
+use Rattle.ec_play_laws.proofs.KeptLemmas.{length-put, put-apart, word-same}
 use Rattle.ec_play_laws.proofs.AskLemmas.{ask, Goes, brd-goes, name-goes, map-goes, IsElsewhere}
 use Rattle.ec_play_laws.proofs.RunLemmas.{Runs, runs-none, runs-append, runs-start, IsAsked}
 

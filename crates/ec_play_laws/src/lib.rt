@@ -34,11 +34,6 @@ pub fn law_what_is_faulty()
     ensures reply { (ds : List Entry) (sent back : List ℕ) → (is_reply_of ds sent back ≡ true) ↔ IsReply ds sent back }
 {}
 
-/// A reply has as many datagrams as the frame that was sent.
-pub fn law_as_many_datagrams()
-    ensures { (sent back : List ℕ) (ds es : List Entry) → ReadsAs sent ds → ReadsAs back es → IsReply ds sent back → length es ≡ length ds }
-{}
-
 /// A wrong counter is the first that isn't the one that is wanted; where there is none, all are.
 pub fn law_wrong_counters()
     ensures wrong { (wants gots : List ℕ) (w : Wrong) → first_wrong 0 wants gots ≡ Some w → IsFirstWrong wants gots w }

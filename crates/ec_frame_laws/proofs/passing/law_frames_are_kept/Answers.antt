@@ -1,5 +1,4 @@
-use Rattle.ec_frame_laws.proofs.KeptLemmas.{frame-kept}
-use Rattle.ec_frame_laws.proofs.ReplyLemmas.{line-kept}
+use Rattle.ec_frame_laws.proofs.ReplyLemmas.{frame-kept, line-kept}
 use Rattle.ec_frame_laws.proofs.passing.law_frames_are_kept.Goals as goal
 
 pub returns-clause-slave : goal.returns-clause-slave
