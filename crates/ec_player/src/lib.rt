@@ -10,7 +10,9 @@ mod playing;
 mod rows;
 mod trips;
 
+pub use ec_frame_builder::{start_frames, tick_frames};
 pub use ec_outcome::PlayFault;
+pub use ec_slave::{Pass, SlaveBox};
 pub use faults::{Stage, Wrong};
 pub use images::{bring, image_of};
 pub use journeys::judge_trip;
