@@ -3,7 +3,7 @@
 ghost use Rattle.std.specs.Prelude.{◌+◌, ◌≤◌, length};
 
 use crate::needs::Size;
-use crate::tops::{Class, head_of};
+use crate::tops::{Class, is_open};
 use crate::waiting::MOST_TICKS;
 
 /// A limit in bytes at which every unit has room.
@@ -22,7 +22,7 @@ pub(crate) struct Rooms {
 fn room_of(class: Class, limit: u32) -> u32
     ensures { result ≤ limit }
 {
-    limit.saturating_sub(u32::from(class.top) + u32::from(head_of(class)))
+    limit.saturating_sub(u32::from(class.full))
 }
 
 /// With the room of one more class.
@@ -35,7 +35,7 @@ fn with_room(rooms: Rooms, room: u32, class: Class) -> Rooms
     ensures closed { result.closed ≤ rooms.closed + 100000 }
     ensures count { result.count ≤ rooms.count + 1 }
 {
-    if head_of(class) == 0 {
+    if is_open(class) {
         return Rooms {
             open: rooms.open + room,
             closed: rooms.closed,

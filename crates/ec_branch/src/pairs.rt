@@ -5,7 +5,7 @@ ghost use Rattle.ec_loads.specs.Search.{IsShortPair};
 
 use crate::classes::{Rooms, fill_rooms};
 use crate::needs::Need;
-use crate::tops::{Class, Tops, head_of};
+use crate::tops::{Class, Tops, is_open};
 use crate::waiting::{MOST_TICKS, MOST_UNITS};
 use ec_loads::Pair;
 use std::alloc::{AllocError, Global};
@@ -33,7 +33,7 @@ fn greatest(row: &[Class], rooms: &[u32; MOST_TICKS]) -> usize
     let mut at = 0usize;
     let mut most = 0u32;
     for i in 0..row.len() {
-        if head_of(row[i]) != 0 && rooms[i] > most {
+        if !is_open(row[i]) && rooms[i] > most {
             most = rooms[i];
             at = i;
         }

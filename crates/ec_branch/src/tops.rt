@@ -16,38 +16,47 @@ const FRAME_BYTES: u16 = 40;
 /// More than any tick: a mark is so many times what the group of its class costs, and a tick.
 const MARK: u16 = 4096;
 
-/// A class: the greatest of 40 bytes and of what its ticks cost without padding; and the mark of what its group costs,
-/// nothing where it is open, and of a tick that costs as much as the top, where one does.
+/// A class: the greatest of 40 bytes and of what its ticks cost without padding, its top, and what its group costs,
+/// nothing where it is open, together; and the mark of what its group costs and of a tick that costs as much as the top,
+/// where one does.
 #[derive(Clone, Copy, Debug)]
 pub(crate) struct Class {
-    pub top: u16,
+    pub full: u16,
     pub mark: u16,
 }
 
 /// A class with nothing in it.
 const EMPTY: Class = Class {
-    top: FRAME_BYTES,
+    full: FRAME_BYTES + GROUP_BYTES as u16,
     mark: GROUP_BYTES as u16 * MARK,
 };
 
+/// Whether a class is open.
+pub(crate) fn is_open(class: Class) -> bool {
+    class.mark < MARK
+}
+
 /// What the group of a class costs; nothing where it is open.
-pub(crate) fn head_of(class: Class) -> u16
+fn head_of(class: Class) -> u16
     ensures { result ≤ 15 }
 {
     class.mark / MARK
 }
 
 /// Raises the top of a class to what a tick of it costs, and keeps that.
-fn raise_class(class: &mut Class, cost: u16, tick: u32) {
-    if cost > class.top {
-        class.top = cost;
+fn raise_class(class: &mut Class, cost: u16, tick: u32)
+    requires { cost ≤ 60000 }
+{
+    let full = cost + head_of(*class);
+    if full > class.full {
+        class.full = full;
         class.mark = (class.mark & !(MARK - 1)) | (tick % u32::from(MARK)) as u16;
     }
 }
 
 /// The tick of one of these classes, by its number; 0 where there is none.
 fn tick_at(classes: &[Class], at: usize) -> u32
-    ensures { result ≡ (get_or classes.now at (record { top = 0; mark = 0 })).mark % 4096 }
+    ensures { result ≡ (get_or classes.now at (record { full = 0; mark = 0 })).mark % 4096 }
 {
     match classes.get(at) {
         Some(class) => u32::from(class.mark % MARK),
@@ -75,7 +84,7 @@ pub(crate) struct Costly<'a> {
 }
 
 impl<'a> Ticks for Costly<'a> {
-    ghost ticks = { λ s p f. (get_or s.classes.now (get_or s.starts.now p 0 + f) (record { top = 0; mark = 0 })).mark % 4096 };
+    ghost ticks = { λ s p f. (get_or s.classes.now (get_or s.starts.now p 0 + f) (record { full = 0; mark = 0 })).mark % 4096 };
 
     fn tick(&self, period: u16, phase: u16) -> u32 {
         tick_at(
@@ -102,8 +111,10 @@ pub(crate) struct Tops {
 }
 
 /// What a tick costs without padding.
-fn raw_at(loads: &Loads, tick: u32) -> u16 {
-    loads.raw(tick).min(65_535) as u16
+fn raw_at(loads: &Loads, tick: u32) -> u16
+    ensures { result ≤ 60000 }
+{
+    loads.raw(tick).min(60_000) as u16
 }
 
 /// Raises the tops of the classes of a period to what the ticks of a unit cost, and keeps these.
@@ -145,6 +156,7 @@ fn raise_all(row: &mut [Class], loads: &Loads)
 fn open(row: &mut [Class], phase: u16) {
     let phase = usize::from(phase);
     if phase < row.len() {
+        row[phase].full = row[phase].full.saturating_sub(head_of(row[phase]));
         row[phase].mark %= MARK;
     }
 }
