@@ -5,6 +5,7 @@ use crate::hostile::Hostile;
 use crate::lines::{ONE, TWO, line_of};
 use crate::meeting::Meeter;
 use crate::slaves::{Tiring, Wire};
+use crate::tests::{all_have, has_rows};
 use ec_frames::FrameFault;
 use ec_player::{PlayFault, Played, play_plain};
 use ec_player_threads::play_threads;
@@ -42,6 +43,86 @@ fn play_by<X: Pass + Send + Drop, R: Threads + Wait + Sync>(
         }
         None => Ok(None),
     }
+}
+
+/// Whether a play of one unit for a tick is as it should be: outputs AA BB go out, inputs 0A 0B 0C 0D come in.
+fn one_is_right<R: Threads + Wait + Sync>(
+    rt: &R,
+    alloc: Global,
+    threads: bool,
+) -> Result<bool, AllocError> {
+    let mut slave = SlaveBox::new(alloc)?;
+    slave.poke(8192, 0x0A);
+    slave.poke(8193, 0x0B);
+    slave.poke(8194, 0x0C);
+    slave.poke(8195, 0x0D);
+    let mut slaves = Vec::new(alloc);
+    slaves.push(slave)?;
+    match play_by(
+        rt,
+        alloc,
+        threads,
+        ONE,
+        &[0],
+        &[0xAA, 0xBB, 0, 0, 0, 0],
+        1,
+        slaves,
+    )? {
+        Some(Ok(played)) => {
+            Ok(
+                played.start == 3
+                    && played.image.as_slice() == [0xAA, 0xBB, 0x0A, 0x0B, 0x0C, 0x0D].as_slice()
+                    && has_rows(&played, 1, 84, 3)
+                    && all_have(&played, 4096, 0xAA)
+                    && all_have(&played, 4097, 0xBB),
+            )
+        }
+        _ => Ok(false),
+    }
+}
+
+#[test]
+fn one_unit_by_both_calls(rt: HostRuntime) -> Result<(), Fail> {
+    for threads in CALLS.as_slice() {
+        assert!(rt; one_is_right(&rt, rt.alloc(), *threads)?);
+    }
+    Ok(())
+}
+
+/// Whether a play of no tick leaves the image but for its inputs, of which none came.
+fn none_is_right<R: Threads + Wait + Sync>(
+    rt: &R,
+    alloc: Global,
+    threads: bool,
+) -> Result<bool, AllocError> {
+    let mut slaves = Vec::new(alloc);
+    slaves.push(SlaveBox::new(alloc)?)?;
+    match play_by(
+        rt,
+        alloc,
+        threads,
+        ONE,
+        &[0],
+        &[1, 2, 3, 4, 5, 6],
+        0,
+        slaves,
+    )? {
+        Some(Ok(played)) => {
+            Ok(
+                played.image.as_slice() == [1, 2, 0, 0, 0, 0].as_slice()
+                    && played.ticks.as_slice().is_empty(),
+            )
+        }
+        _ => Ok(false),
+    }
+}
+
+#[test]
+fn no_tick_by_both_calls(rt: HostRuntime) -> Result<(), Fail> {
+    for threads in CALLS.as_slice() {
+        assert!(rt; none_is_right(&rt, rt.alloc(), *threads)?);
+    }
+    Ok(())
 }
 
 /// The fault of a play of one tick of one unit through this slave, if it has one.

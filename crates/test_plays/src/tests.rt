@@ -26,7 +26,7 @@ fn play<X: Pass + Drop>(
 }
 
 /// Whether a play had so many ticks, in each one frame of so many wire bytes whose one datagram was counted so.
-fn has_rows(played: &Played<SlaveBox>, ticks: usize, bytes: u64, counter: u16) -> bool {
+pub(crate) fn has_rows(played: &Played<SlaveBox>, ticks: usize, bytes: u64, counter: u16) -> bool {
     let rows = played.ticks.as_slice();
     for row in rows {
         if row.frames != 1
@@ -40,63 +40,13 @@ fn has_rows(played: &Played<SlaveBox>, ticks: usize, bytes: u64, counter: u16) -
 }
 
 /// Whether a byte of each slave's memory is so after a play.
-fn all_have(played: &Played<SlaveBox>, at: u16, byte: u8) -> bool {
+pub(crate) fn all_have(played: &Played<SlaveBox>, at: u16, byte: u8) -> bool {
     for slave in played.slaves.as_slice() {
         if slave.peek(at) != byte {
             return false;
         }
     }
     true
-}
-
-/// Whether a play of one unit for a tick is as it should be: outputs AA BB go out, inputs 0A 0B 0C 0D come in.
-fn one_is_right(alloc: Global) -> Result<bool, AllocError> {
-    let mut slave = SlaveBox::new(alloc)?;
-    slave.poke(8192, 0x0A);
-    slave.poke(8193, 0x0B);
-    slave.poke(8194, 0x0C);
-    slave.poke(8195, 0x0D);
-    let mut slaves = Vec::new(alloc);
-    slaves.push(slave)?;
-    match play(alloc, ONE, &[0], &[0xAA, 0xBB, 0, 0, 0, 0], 1, slaves)? {
-        Some(Ok(played)) => {
-            Ok(
-                played.start == 3
-                    && played.image.as_slice() == [0xAA, 0xBB, 0x0A, 0x0B, 0x0C, 0x0D].as_slice()
-                    && has_rows(&played, 1, 84, 3)
-                    && all_have(&played, 4096, 0xAA)
-                    && all_have(&played, 4097, 0xBB),
-            )
-        }
-        _ => Ok(false),
-    }
-}
-
-#[test]
-fn one_unit(rt: HostRuntime) -> Result<(), Fail> {
-    assert!(rt; one_is_right(rt.alloc())?);
-    Ok(())
-}
-
-/// Whether a play of no tick leaves the image but for its inputs, of which none came.
-fn none_is_right(alloc: Global) -> Result<bool, AllocError> {
-    let mut slaves = Vec::new(alloc);
-    slaves.push(SlaveBox::new(alloc)?)?;
-    match play(alloc, ONE, &[0], &[1, 2, 3, 4, 5, 6], 0, slaves)? {
-        Some(Ok(played)) => {
-            Ok(
-                played.image.as_slice() == [1, 2, 0, 0, 0, 0].as_slice()
-                    && played.ticks.as_slice().is_empty(),
-            )
-        }
-        _ => Ok(false),
-    }
-}
-
-#[test]
-fn no_tick(rt: HostRuntime) -> Result<(), Fail> {
-    assert!(rt; none_is_right(rt.alloc())?);
-    Ok(())
 }
 
 /// Whether a play of two units that take turns is as it should be: 100 outputs of 7 go to each.
