@@ -5,7 +5,7 @@
 //   search [--version 1|2|3] [--nodes N] [--workers N] [--out PATH] [--stats] < units.toml
 //   search --resume CERT [--nodes N] [--workers N] [--out PATH] < units.toml
 //   search --check CERT [--known 1|2|3] < units.toml
-//   search --scripts FILE --version V
+//   search --scripts FILE --version V          (the books of `unturned` are of version 1)
 //   search --line SLOTS BYTES/PERIOD[/NAME] .. [--version ..]
 //
 // With more workers than one the seeding alone differs.
@@ -115,7 +115,7 @@ struct ScriptGuide : Guide {
     bool stopped() override { return halted; }
 };
 struct Scripts {
-    int version;
+    int asked, version;
     Line L;
     string subject;
     unique_ptr<Book> book;
@@ -131,6 +131,8 @@ struct Scripts {
     bool head(const string &t) {
         auto w = split_ws(t);
         subject = word(w, 0);
+        version = subject == "unturned" ? 1 : asked;
+        if (subject == "unturned") subject = "book";
         pool.clear();
         wpool.clear();
         book.reset();
@@ -508,7 +510,7 @@ int main(int argc, char **argv) {
         ifstream f(scripts);
         string t = slurp(f);
         Scripts sc;
-        sc.version = version;
+        sc.asked = version;
         bool first = true, ok = false;
         int no = 0;
         size_t at = 0;

@@ -23,11 +23,12 @@ use std::alloc::{AllocError, Global};
 use std::marker::Model;
 use std::mem;
 
-/// Units and an order of them with a book for these.
+/// Units and an order of them with a book for these by some rules.
 #[derive(Drop)]
 pub(crate) struct Desk {
     units: Units,
     order: Vec<u8>,
+    rules: Rules,
     nodes: u64,
     book: Book,
 }
@@ -35,8 +36,8 @@ pub(crate) struct Desk {
 impl Model for Desk {
     ghost use Rattle.std.specs.Prelude.{length};
     ghost use Rattle.std.specs.Coded.{codes};
-    ghost use Rattle.ec_loads.specs.Line.{turned_time};
     ghost use Rattle.ec_symmetry.specs.Orders.{IsOrder};
+    ghost use Rattle.ec_symmetry.specs.Ruled.{line_rules};
     ghost use Rattle.ec_book.specs.ShapeCode.{shape_code};
     ghost use Rattle.ec_book.specs.Views.{BookView};
     ghost use Rattle.ec_book.specs.Books.{IsBookOf};
@@ -47,7 +48,7 @@ impl Model for Desk {
 
     ghost view = { λ d. d.book };
 
-    ghost invariant = { λ d. IsOrder (length d.units.units) d.order.items × IsBookOf d.units.units d.units.slots d.order.items turned_time d.book };
+    ghost invariant = { λ d. IsOrder (length d.units.units) d.order.items × IsBookOf d.units.units d.units.slots d.order.items (line_rules d.rules) d.book };
 }
 
 /// Whether a tree splits or closes a node.
@@ -102,13 +103,19 @@ fn resumed(
 }
 
 impl Desk {
-    /// A desk for these units in the order of the search.
-    pub(crate) fn new(alloc: Global, units: Units, nodes: u64) -> Result<Desk, AllocError> {
+    /// A desk for these units in the order of the search, by these rules.
+    pub(crate) fn new(
+        alloc: Global,
+        units: Units,
+        rules: Rules,
+        nodes: u64,
+    ) -> Result<Desk, AllocError> {
         let order = search_order(alloc, &units)?;
-        let book = Book::new(alloc, &units, order.as_slice(), Rules::Turned, nodes)?;
+        let book = Book::new(alloc, &units, order.as_slice(), rules, nodes)?;
         Ok(Desk {
             units,
             order,
+            rules,
             nodes,
             book,
         })
@@ -130,10 +137,10 @@ impl Desk {
             grant: call.count(4),
         };
         let order = self.order.as_slice();
-        if wish.grant == 0 || !is_reached(&self.units, order, prefix) {
+        if wish.grant == 0 || !is_reached(&self.units, order, self.rules, prefix) {
             return out.add("no node, or a place that is not reached");
         }
-        let Ok((sub, _)) = found_below(alloc, &self.units, order, prefix, wish) else {
+        let Ok((sub, _)) = found_below(alloc, &self.units, order, self.rules, prefix, wish) else {
             return out.give_up();
         };
         if !has_nodes(&sub.tree) {
@@ -196,7 +203,7 @@ impl Desk {
     /// Ends the book, and begins another.
     fn finish(&mut self, alloc: Global, out: &mut Draft) {
         let order = self.order.as_slice();
-        let Ok(fresh) = Book::new(alloc, &self.units, order, Rules::Turned, self.nodes) else {
+        let Ok(fresh) = Book::new(alloc, &self.units, order, self.rules, self.nodes) else {
             return out.give_up();
         };
         let Ok(done) = mem::replace(&mut self.book, fresh).finish() else {
@@ -221,6 +228,7 @@ impl Desk {
             Ok((book, order)) => {
                 drop(mem::replace(&mut self.book, book));
                 self.order = order;
+                self.rules = Rules::Turned;
                 self.nodes = nodes;
                 out.add("Ok(())");
             }

@@ -3,10 +3,12 @@
 ghost use Rattle.std.specs.Prelude.{◌≡◌, ℕ, ◌≤◌, IsTrue, IfOk, length, drop, [], ◌∷◌};
 ghost use Rattle.std.specs.Option.{ForSome};
 ghost use Rattle.ec_units.specs.Load.{loads_of};
-ghost use Rattle.ec_loads.specs.Line.{turned_time, line_by};
+ghost use Rattle.ec_loads.specs.Line.{line_by};
 ghost use Rattle.ec_loads.specs.Search.{IsPartialTree};
 ghost use Rattle.ec_symmetry.specs.Orders.{IsOrder, IsReachedPrefix, prefix_of};
+ghost use Rattle.ec_symmetry.specs.Ruled.{line_rules};
 ghost use Rattle.ec_cert.specs.Shapes.{shape_of};
+ghost use Rattle.test_scripts.specs.Firsts.{IsFirstPhase};
 
 use ec_branch::{Guide, explore};
 use ec_cert::Subtree;
@@ -81,28 +83,41 @@ impl<'a> Guide for Own<'a> {
     }
 }
 
-/// Whether the first unit of the order can take this place: phase 0 of the first slot, as time is turned.
-fn is_first_child(units: &Units, order: &[u8], place: Place) -> bool
+/// Whether a unit that is the first of the order can have this phase: each, and where time is turned 0 alone. By the
+/// strong rules this isn't said.
+fn is_first_phase(rules: Rules, period: u16, phase: u16) -> bool
+    ensures { IsTrue result → IsFirstPhase rules period phase }
+{
+    match rules {
+        Rules::Plain => phase < period,
+        Rules::Turned => phase < period.min(1),
+        Rules::Strong => false,
+    }
+}
+
+/// Whether the first unit of the order can take this place, in the first slot.
+fn is_first_child(units: &Units, order: &[u8], rules: Rules, place: Place) -> bool
     requires { IsOrder (length units.now.units) order.now }
-    ensures { IsTrue result → IsReachedPrefix (line_by turned_time (loads_of units.now.units) units.now.slots) order.now (place ∷ []) }
+    ensures { IsTrue result → IsReachedPrefix (line_by (line_rules rules) (loads_of units.now.units) units.now.slots) order.now (place ∷ []) }
 {
     match order.split_first() {
         None => false,
         Some((unit, _)) => {
             let unit = usize::from(*unit);
-            place.phase < units.units.as_slice()[unit].period.min(1) && place.slot == 0
+            let period = units.units.as_slice()[unit].period;
+            place.slot == 0 && is_first_phase(rules, period, place.phase)
         }
     }
 }
 
 /// Whether this is no place or one that the first unit can take.
-pub(crate) fn is_reached(units: &Units, order: &[u8], prefix: &[Place]) -> bool
+pub(crate) fn is_reached(units: &Units, order: &[u8], rules: Rules, prefix: &[Place]) -> bool
     requires { IsOrder (length units.now.units) order.now }
-    ensures { IsTrue result → IsReachedPrefix (line_by turned_time (loads_of units.now.units) units.now.slots) order.now prefix.now }
+    ensures { IsTrue result → IsReachedPrefix (line_by (line_rules rules) (loads_of units.now.units) units.now.slots) order.now prefix.now }
 {
     match prefix {
         [] => true,
-        [place] => is_first_child(units, order, *place),
+        [place] => is_first_child(units, order, rules, *place),
         _ => false,
     }
 }
@@ -122,13 +137,14 @@ pub(crate) fn found_below(
     alloc: Global,
     units: &Units,
     order: &[u8],
+    rules: Rules,
     prefix: &[Place],
     wish: Wish,
 ) -> Result<(Subtree, Heard), AllocError>
     requires order { IsOrder (length units.now.units) order.now }
-    requires reached { IsReachedPrefix (line_by turned_time (loads_of units.now.units) units.now.slots) order.now prefix.now }
+    requires reached { IsReachedPrefix (line_by (line_rules rules) (loads_of units.now.units) units.now.slots) order.now prefix.now }
     requires some { 1 ≤ wish.grant }
-    ensures { IfOk result (λ r. IsPartialTree (line_by turned_time (loads_of units.now.units) units.now.slots) r.0.threshold (shape_of r.0.tree) (prefix_of (loads_of units.now.units) order.now prefix.now) (drop (length prefix.now) order.now)) }
+    ensures { IfOk result (λ r. IsPartialTree (line_by (line_rules rules) (loads_of units.now.units) units.now.slots) r.0.threshold (shape_of r.0.tree) (prefix_of (loads_of units.now.units) order.now prefix.now) (drop (length prefix.now) order.now)) }
 {
     let mut guide = Own {
         units,
@@ -142,14 +158,6 @@ pub(crate) fn found_below(
         },
         halted: false,
     };
-    let sub = explore(
-        alloc,
-        units,
-        order,
-        Rules::Turned,
-        prefix,
-        &mut guide,
-        wish.grant,
-    )?;
+    let sub = explore(alloc, units, order, rules, prefix, &mut guide, wish.grant)?;
     Ok((sub, guide.heard))
 }

@@ -5,6 +5,7 @@ use crate::call::Call;
 use crate::desk::Desk;
 use crate::samples::line_of;
 use crate::{certs, layouts, plans, searching, sweep, texts};
+use ec_symmetry::Rules;
 use ec_text_builder::Draft;
 use ec_units::Units;
 use std::alloc::Global;
@@ -47,9 +48,10 @@ fn loads_for(alloc: Global, units: &Units) -> Option<Script> {
     }
 }
 
-/// A book for a line, with so many nodes.
-fn book_for(alloc: Global, units: Units, nodes: u64) -> Option<Script> {
-    match Desk::new(alloc, units, nodes) {
+/// The book of a first line, by these rules: for its line, with so many nodes.
+fn book_for(alloc: Global, head: Call<'_>, rules: Rules) -> Option<Script> {
+    let units = line_of(alloc, head.small(1), head.after(3))?;
+    match Desk::new(alloc, units, rules, head.number(2).unwrap_or(0)) {
         Ok(desk) => Some(Script::Book(desk)),
         Err(_) => None,
     }
@@ -79,10 +81,8 @@ impl Script {
         match head.name() {
             "texts" => Some(Script::Texts),
             "sweep" => Some(Script::Sweep(head.small(1))),
-            "book" => match line_of(alloc, head.small(1), head.after(3)) {
-                Some(units) => book_for(alloc, units, head.number(2).unwrap_or(0)),
-                None => None,
-            },
+            "book" => book_for(alloc, head, Rules::Turned),
+            "unturned" => book_for(alloc, head, Rules::Plain),
             _ => match line_of(alloc, head.small(1), head.after(2)) {
                 Some(units) => Script::about(alloc, head.name(), units),
                 None => None,

@@ -11,6 +11,7 @@ use crate::samples::add_places;
 use ec_branch::{first_plan, greedy, search_order, strong_order};
 use ec_cert::Subtree;
 use ec_loads::{Plan, busiest, is_legal};
+use ec_symmetry::Rules;
 use ec_text_builder::Draft;
 use ec_units::Units;
 use std::alloc::Global;
@@ -163,10 +164,10 @@ fn explore_in(out: &mut Draft, alloc: Global, units: &Units, order: &[u8], call:
         stops: call.word(4) == "stops",
     };
     let prefix = call.places(alloc, 5, out);
-    if wish.grant == 0 || !is_reached(units, order, prefix.as_slice()) {
+    if wish.grant == 0 || !is_reached(units, order, Rules::Turned, prefix.as_slice()) {
         return out.add("no node, or a place that is not reached");
     }
-    match found_below(alloc, units, order, prefix.as_slice(), wish) {
+    match found_below(alloc, units, order, Rules::Turned, prefix.as_slice(), wish) {
         Ok((sub, heard)) => {
             add_tree(out, &sub, heard);
             drop(sub);
