@@ -1,6 +1,6 @@
 -- From what the checker answers to what is written.
-use Rattle.std.proofs.Common.{◌≡◌, ◌≢◌, ℕ, ◌<◌, List, length, Option, Some, None, Result, Ok, Err, refl, sym, ap, ◌∙◌, inl, inr}
-use Rattle.std.specs.Prelude.{◌⊎◌, IfSome}
+use Rattle.std.proofs.Common.{◌≡◌, ◌≢◌, ℕ, ◌<◌, List, length, Err, refl, ap, ◌∙◌, inl, inr}
+use Rattle.std.specs.Prelude.{◌⊎◌}
 use Rattle.std.proofs.lemmas.Bool.{lt-ltb}
 use Rattle.ec_units.specs.declared.units.Units.{Units}
 use Rattle.ec_units.specs.Views.{units_view}
@@ -12,11 +12,9 @@ use Rattle.ec_checker.specs.declared.fault.CheckFault.TheVariants as check
 use Rattle.ec_checker.specs.declared.fault.Verdict.{Verdict}
 use Rattle.ec_checker.specs.Certified.{IsCertified, IsFaultOf, verdict_of}
 use Rattle.ec_cli_text.specs.declared.answer.Answer.{Answer}
-use Rattle.ec_cli_refusals.specs.declared.refusal.Refusal.{Refusal}
 use Rattle.ec_cli_refusals.specs.declared.refusal.Refusal.TheVariants as refusal
 use Rattle.ec_cli_command.specs.declared.job.Job.TheVariants as job
-use Rattle.ec_cli_inputs.specs.Input.{AnswersUnits, IsInputFault}
-use Rattle.ec_cli_text.specs.Output.{IsCheckedOutput, IsCheckOutput, IsOutput, Answers, shown, refused, verdict_output}
+use Rattle.ec_cli_text.specs.Output.{IsCheckedOutput, shown, refused, verdict_output}
 use Rattle.ec_cli_refusals.specs.Refusals.{IsMemory}
 
 -- a yes

@@ -1,11 +1,9 @@
--- From units, a certificate and what the checker answers to the frames, or the play, that are written.
--- What is told of a plan has its text as a parameter (`IsTextFor IsFramesText`). A new text of a plan is a relation
--- between units, places and bytes that there is once, its lines of `IsUnitsOutput`, and lemmas that hand `text_for` on.
+-- From units, a certificate and what the checker answers to the plan whose text is written, or why there is none.
 use Rattle.std.proofs.Common.{◌≡◌, ℕ, List, Option, Some, None, Result, Ok, Err, refl, sym, ap, subst, inl, inr}
-use Rattle.std.specs.Prelude.{◌⊎◌, IfSome, IfOk, IfErr}
+use Rattle.std.specs.Prelude.{◌⊎◌, IfOk, IfErr}
 use Rattle.ec_units.specs.declared.slave.Place.{Place}
 use Rattle.ec_units.specs.declared.units.Units.{Units}
-use Rattle.ec_units.specs.Views.{UnitsView, units_view, view_loads}
+use Rattle.ec_units.specs.Views.{units_view}
 use Rattle.ec_units.specs.Load.{loads_of}
 use Rattle.ec_loads.specs.Legal.{IsLegal}
 use Rattle.ec_loads.specs.declared.plan.Plan.{Plan}
@@ -16,12 +14,10 @@ use Rattle.ec_cert_text.specs.Reading.{reading as cert_reading}
 use Rattle.ec_checker.specs.declared.fault.CheckFault.{CheckFault}
 use Rattle.ec_checker.specs.Certified.{IsCertified, IsFaultOf}
 use Rattle.ec_frame_text.specs.Lines.{IsFramesText}
-use Rattle.ec_cli_text.specs.declared.answer.Answer.{Answer}
 use Rattle.ec_cli_refusals.specs.declared.refusal.Refusal.{Refusal}
 use Rattle.ec_cli_refusals.specs.declared.refusal.Refusal.TheVariants as refusal
-use Rattle.ec_cli_command.specs.declared.job.Job.TheVariants as job
-use Rattle.ec_cli_text.specs.Framed.{IsPlacedPlan, IsBestPlanOf, IsCertPlan, IsFramedPlan}
-use Rattle.ec_cli_text.specs.Output.{Written, IsBestText, IsOwnText, IsCertText, IsReadText, IsTextFor, IsOutput, Answers, refused, shown}
+use Rattle.ec_cli_text.specs.Framed.{IsBestPlanOf, IsCertPlan, IsFramedPlan}
+use Rattle.ec_cli_text.specs.Output.{IsBestText, IsCertText, IsReadText, IsTextFor, refused}
 use Rattle.ec_cli_refusals.specs.Refusals.{IsFramesMemory}
 use Rattle.ec_cli_inputs.specs.Input.{AnswersUnits, IsUnread, Says, text_given}
 use Rattle.ec_cli_inputs.specs.declared.input.Inputs.{Inputs}
@@ -65,28 +61,6 @@ pub units_fault : (cert : Option (List ℕ)) (bytes : List ℕ) (r : Refusal) �
 units_fault cert bytes r (inl e) = inl (inl e)
 units_fault cert bytes r (inr (inl h)) = inr (inl (h.0, rw h.1.1 (ap refused h.1.2)))
 units_fault cert bytes r (inr (inr h)) = inr (inr (h.0, ap refused h.1))
-
--- ---- what is written for them
-
--- the text of the plan
-pub text_for : (IsText : UnitsView → List Place → List ℕ → Type 0) (cert : Option (List ℕ)) (v : UnitsView) (places : List Place) (w : Written) → IsFramedPlan cert v places → IsText v places w.text → w.code ≡ 0 → IsTextFor IsText cert v w
-text_for IsText None v places w plan text code = rw plan.all (inr (
-  subst (λ (ps : List Place). IsLegal (view_loads v.units) v.slots ps) plan.given plan.legal,
-  subst (λ (ps : List Place). IsText v ps w.text) plan.given text,
-  code,
-))
-text_for IsText (Some t) v places w plan text code =
-    let own : IsText (units_view plan.units) plan.plan.best.plan.places w.text =
-    subst (λ (u : UnitsView). IsText u plan.plan.best.plan.places w.text) (sym plan.seen) (subst (λ (ps : List Place). IsText v ps w.text) plan.plan.plan text) in
-    rw plan.said (plan.units, plan.seen, inl (plan.plan.right, subst (λ (o : Option Best). IsBestText IsText (units_view plan.units) o w) (sym plan.plan.held) (own, code)))
-
-framed_output : (cert : Option (List ℕ)) (bytes : List ℕ) (us : Units) (plan : Plan) (w : Written) → FramesFrom cert (Ok (us, plan)) bytes → IsFramesText (units_view us) plan.places w.text → w.code ≡ 0 → IsOutput job.Frames bytes cert w
-framed_output cert bytes us plan w from text code = inl (from.0, rw from.1 (text_for IsFramesText cert (units_view us) plan.places w from.2 text code))
-
-pub answered : (cert : Option (List ℕ)) (bytes : List ℕ) (us : Units) (plan : Plan) (answer : Result Answer Refusal) → FramesFrom cert (Ok (us, plan)) bytes → Answers job.Frames answer (λ w. IsFramesText (units_view us) plan.places w.text × (w.code ≡ 0)) → Answers job.Frames answer (IsOutput job.Frames bytes cert)
-answered cert bytes us plan (Ok a) from h = framed_output cert bytes us plan (shown a) from h.0 h.1
-answered cert bytes us plan (Err r) from (inl memory) = inl memory
-answered cert bytes us plan (Err r) from (inr h) = inr (framed_output cert bytes us plan (refused r) from h.0 h.1)
 
 -- ---- the plan for the bytes that the inputs were read of
 

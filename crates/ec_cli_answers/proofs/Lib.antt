@@ -2,6 +2,6 @@ pub mod CheckedLemmas
 pub mod FramedLemmas
 pub mod MergedLemmas
 pub mod PlanLemmas
-pub mod PlayedLemmas
 pub mod ResumeLemmas
+pub mod TextLemmas
 pub mod ToldLemmas

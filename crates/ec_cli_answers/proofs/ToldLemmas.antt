@@ -18,19 +18,21 @@ use Rattle.ec_cli_command.specs.declared.job.Job.{Job}
 use Rattle.ec_cli_command.specs.declared.job.Job.TheVariants as job
 use Rattle.ec_cli_text.specs.declared.answer.Answer.{Answer}
 use Rattle.ec_cli_text.specs.Outcomes.{IsLevelOf, outcome_output}
-use Rattle.ec_cli_text.specs.Output.{Written, Answers, IsCheckOutput, IsCostOutput, IsNoMemory, IsOutput, refused, shown, written_of}
+use Rattle.ec_cli_text.specs.Output.{Written, Answers, IsCheckOutput, IsCostOutput, IsCostsText, IsNoMemory, IsOutput, refused, shown, written_of}
 use Rattle.ec_cli_inputs.specs.Input.{AnswersUnits, IsUnread, Says, text_given}
 use Rattle.ec_cli_inputs.specs.declared.input.Inputs.{Inputs}
+use Rattle.ec_frame_text.specs.Lines.{IsFramesText}
+use Rattle.ec_play_text.specs.Plays.{IsPlayText}
 use Rattle.ec_workers.specs.Answers.{asked_for, GoesBeyond, HasSearchOrder, IsOutcome, IsSolveFault}
 use Rattle.ec_cli_answers.specs.Captures.{FramesFrom, IsFramesFault}
 use Rattle.ec_cli_answers.specs.Planned.{GoesOnFrom, IsPlanFault, IsPlanOf, IsResumeFault, IsResumeOf, IsShownAt, IsStoppedFrom, outcome_cert}
 use Rattle.ec_cli_answers.specs.Told.{HasInput, IsCaptureTold, IsOfPlan, IsPlanTold, IsTold, TellsFor, file_bytes, file_of, told}
 use Rattle.ec_cli_answers.specs.declared.told.Told.{Told}
 use Rattle.ec_cli_answers.proofs.CheckedLemmas.{too_long}
-use Rattle.ec_cli_answers.proofs.FramedLemmas.{answered, unread_fault}
-use Rattle.ec_cli_answers.proofs.PlayedLemmas.{played, play_fault, priced, priced_fault}
+use Rattle.ec_cli_answers.proofs.FramedLemmas.{unread_fault}
 use Rattle.ec_cli_answers.proofs.PlanLemmas.{outcome_tells, search_untold}
 use Rattle.ec_cli_answers.proofs.ResumeLemmas.{resume_of, stopped_text, unresumed}
+use Rattle.ec_cli_answers.proofs.TextLemmas.{answered, answers_so, unanswered}
 
 -- ---- a job without a file
 
@@ -68,17 +70,13 @@ simple_untold j bytes cert r t simple is h = simple_tells j bytes cert (Err r) t
 -- ---- a cost, and a check
 
 cost_said : (bytes : List ℕ) (cert : Option (List ℕ)) (us : Units) (a : Result Answer Refusal) → AnswersUnits (Ok us) bytes → Answers job.Cost a (IsCostOutput (units_view us)) → Answers job.Cost a (IsOutput job.Cost bytes cert)
-cost_said bytes cert us (Ok a) read h = inl (read.0, rw read.1 h)
-cost_said bytes cert us (Err r) read (inl memory) = inl memory
-cost_said bytes cert us (Err r) read (inr h) = inr (inl (read.0, rw read.1 h))
+cost_said bytes cert us a read h = answers_so job.Cost a (IsCostOutput (units_view us)) (IsOutput job.Cost bytes cert) (λ w is. inl (read.0, rw read.1 is)) h
 
 pub cost_tells : (bytes : List ℕ) (cert : Option (List ℕ)) (us : Units) (a : Result Answer Refusal) (t : Result Told Refusal) → AnswersUnits (Ok us) bytes → told t ≡ written_of a → file_of t ≡ None → Answers job.Cost a (IsCostOutput (units_view us)) → TellsFor job.Cost bytes cert t
 cost_tells bytes cert us a t read text none h = simple_tells job.Cost bytes cert a t tt text none (cost_said bytes cert us a read h)
 
 check_said : (bytes text : List ℕ) (us : Units) (a : Result Answer Refusal) → AnswersUnits (Ok us) bytes → Answers job.Check a (IsCheckOutput (units_view us) text) → Answers job.Check a (IsOutput job.Check bytes (Some text))
-check_said bytes text us (Ok a) read h = inl (read.0, rw read.1 h)
-check_said bytes text us (Err r) read (inl memory) = inl memory
-check_said bytes text us (Err r) read (inr h) = inr (inl (read.0, rw read.1 h))
+check_said bytes text us a read h = answers_so job.Check a (IsCheckOutput (units_view us) text) (IsOutput job.Check bytes (Some text)) (λ w is. inl (read.0, rw read.1 is)) h
 
 pub check_tells : (bytes : List ℕ) (cert : Option (List ℕ)) (us : Units) (text : List ℕ) (a : Result Answer Refusal) (t : Result Told Refusal) → AnswersUnits (Ok us) bytes → Some text ≡ cert → told t ≡ written_of a → file_of t ≡ None
     → Answers job.Check a (IsCheckOutput (units_view us) text) → TellsFor job.Check bytes cert t
@@ -112,10 +110,10 @@ plan_tells job.Cost bytes cert us plan t of from h = absurd of
 plan_tells (job.Plan workers nodes strong) bytes cert us plan t of from h = absurd of
 plan_tells (job.Resume workers nodes part) bytes cert us plan t of from h = absurd of
 plan_tells job.Check bytes cert us plan t of from h = absurd of
-plan_tells job.Frames bytes cert us plan t of from h = simple_tells job.Frames bytes cert h.0 t tt h.1 h.2 (answered cert bytes us plan h.0 from h.3)
+plan_tells job.Frames bytes cert us plan t of from h = simple_tells job.Frames bytes cert h.0 t tt h.1 h.2 (answered IsFramesText job.Frames cert bytes us plan h.0 from h.3)
 plan_tells job.Capture bytes cert us plan t of from h = capture_tells bytes cert us plan t from h
-plan_tells job.PlanCost bytes cert us plan t of from h = simple_tells job.PlanCost bytes cert h.0 t tt h.1 h.2 (priced cert bytes us plan h.0 from h.3)
-plan_tells job.Play bytes cert us plan t of from h = simple_tells job.Play bytes cert h.0 t tt h.1 h.2 (played cert bytes us plan h.0 from h.3)
+plan_tells job.PlanCost bytes cert us plan t of from h = simple_tells job.PlanCost bytes cert h.0 t tt h.1 h.2 (answered IsCostsText job.PlanCost cert bytes us plan h.0 from h.3)
+plan_tells job.Play bytes cert us plan t of from h = simple_tells job.Play bytes cert h.0 t tt h.1 h.2 (answered IsPlayText job.Play cert bytes us plan h.0 from h.3)
 
 pub fault_tells : (j : Job) (bytes : List ℕ) (cert : Option (List ℕ)) (r : Refusal) (t : Result Told Refusal) → IsOfPlan j → t ≡ Err r → IsFramesFault cert bytes r → TellsFor j bytes cert t
 fault_tells job.Cost bytes cert r t of is h = absurd of
@@ -124,8 +122,8 @@ fault_tells (job.Resume workers nodes part) bytes cert r t of is h = absurd of
 fault_tells job.Check bytes cert r t of is h = absurd of
 fault_tells job.Frames bytes cert r t of is h = simple_untold job.Frames bytes cert r t tt is h
 fault_tells job.Capture bytes cert r t of is h = rw is (record { file = None; is = inr (record { refusal = r; fault = h; line = refl; none = refl }); made = refl })
-fault_tells job.PlanCost bytes cert r t of is h = simple_untold job.PlanCost bytes cert r t tt is (priced_fault cert bytes r h)
-fault_tells job.Play bytes cert r t of is h = simple_untold job.Play bytes cert r t tt is (play_fault cert bytes r h)
+fault_tells job.PlanCost bytes cert r t of is h = simple_untold job.PlanCost bytes cert r t tt is (unanswered IsCostsText job.PlanCost cert bytes r (λ m. m) h)
+fault_tells job.Play bytes cert r t of is h = simple_untold job.Play bytes cert r t tt is (unanswered IsPlayText job.Play cert bytes r (λ m. inl m) h)
 
 -- ---- what is told of a search
 

@@ -12,7 +12,7 @@ use Rattle.ec_frame_text.specs.Lines.{IsFramesText}
 use Rattle.ec_cli_command.specs.declared.job.Job.TheVariants as job
 use Rattle.ec_cli_text.specs.Framed.{IsFramedPlan, IsCaptureFor, IsCaptured}
 use Rattle.ec_cli_text.specs.Output.{Written, IsOutput}
-use Rattle.ec_cli_answers.proofs.FramedLemmas.{text_for}
+use Rattle.ec_cli_answers.proofs.TextLemmas.{text_of}
 
 ok_once : {A E : Type 0} (r : Result A E) (a b : A) → r ≡ Ok a → r ≡ Ok b → a ≡ b
 ok_once r a b h k = cc
@@ -36,4 +36,4 @@ file_once cert bytes a b h k =
     capture_once k.units k.places a b own k.capture
 
 pub frames_told : (cert : Option (List ℕ)) (bytes : List ℕ) (w : Written) (file : List ℕ) → IsCaptured cert bytes w file → IsOutput job.Frames bytes cert w
-frames_told cert bytes w file h = inl (h.drawn.short, rw h.drawn.said (text_for IsFramesText cert h.drawn.units h.drawn.places w h.drawn.plan h.text h.status))
+frames_told cert bytes w file h = text_of IsFramesText cert bytes h.drawn.units h.drawn.places w h.drawn.short h.drawn.said h.drawn.plan h.text h.status
