@@ -83,8 +83,8 @@ impl<'a> Guide for Own<'a> {
     }
 }
 
-/// Whether a unit that is the first of the order can have this phase: each, and where time is turned 0 alone. By the
-/// strong rules this isn't said.
+/// Whether a unit that is the first of the order can have this phase: each below its period, in ticks, and where time is
+/// turned 0 alone. By the strong rules this isn't said.
 fn is_first_phase(rules: Rules, period: u16, phase: u16) -> bool
     ensures { IsTrue result → IsFirstPhase rules period phase }
 {
