@@ -15,7 +15,7 @@ use Rattle.ec_book.specs.declared.taken.Taken.{Taken as Handed}
 use Rattle.ec_book.specs.declared.taken.Taken.TheVariants as handed
 use Rattle.ec_book.specs.declared.taken.Took.{Took as Given}
 use Rattle.ec_book.specs.Steps.{granted, taken_count, IsBelow}
-use Rattle.ec_cert.specs.BestPlan.{value_of}
+use Rattle.ec_cert.specs.IsBestPlan.{value_of}
 use Rattle.ec_book.specs.Views.{BookView, ours, after_took}
 use Rattle.ec_book.specs.Kept.{NoneFreeBelow}
 

@@ -9,7 +9,7 @@ use Rattle.ec_book.specs.Numbered.{Numbered, numbered, draw, plain, NumberedTree
 use Rattle.ec_book.specs.Open.{StandsAt}
 use Rattle.ec_book.specs.Grown.{HasPieces}
 use Rattle.ec_book.specs.Parts.{LeavesOthers, ClosesPart}
-use Rattle.ec_cert.specs.BestPlan.{value_of, IsBestPlan}
+use Rattle.ec_cert.specs.IsBestPlan.{value_of, IsBestPlan}
 use Rattle.ec_book.specs.declared.book.Finished.{Finished}
 use Rattle.ec_book.specs.Steps.{live_count, IsHistory, replay}
 use Rattle.ec_book.specs.Views.{BookView, state_of, opening, given_nodes}

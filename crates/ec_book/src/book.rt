@@ -13,7 +13,7 @@ ghost use Rattle.ec_symmetry.specs.Ruled.{line_rules};
 ghost use Rattle.ec_book.specs.declared.piece.Piece.TheVariants.{Free};
 ghost use Rattle.ec_book.specs.Steps.{live_one, live_count, taken_count, IsHistory};
 ghost use Rattle.ec_book.specs.Open.{open_places, AreOpened, IsAddedTo};
-ghost use Rattle.ec_cert.specs.BestPlan.{value_of, IsBestPlan};
+ghost use Rattle.ec_cert.specs.IsBestPlan.{value_of, IsBestPlan};
 ghost use Rattle.ec_loads.specs.Legal.{IsIllegalBy};
 ghost use Rattle.ec_book.specs.Views.{book_view, ours as ours_of, state_of, opening, after_back, after_better, after_report};
 ghost use Rattle.ec_book.specs.Kept.{NoneFreeBelow};

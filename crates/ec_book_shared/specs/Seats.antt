@@ -9,7 +9,7 @@ use Rattle.ec_loads.specs.Legal.{IsIllegalBy}
 use Rattle.ec_loads.specs.Search.{node_count}
 use Rattle.ec_loads.specs.Shape.{Shape}
 use Rattle.ec_cert.specs.declared.part.Part.{Part}
-use Rattle.ec_cert.specs.BestPlan.{value_of, IsBestPlan}
+use Rattle.ec_cert.specs.IsBestPlan.{value_of, IsBestPlan}
 use Rattle.ec_symmetry.specs.Orders.{IsOrder}
 use Rattle.ec_book.specs.declared.step.Step.{Step}
 use Rattle.ec_book.specs.declared.step.Step.TheVariants.{Reported}

@@ -5,7 +5,7 @@ ghost use Rattle.std.specs.Coded.{Coded-set};
 ghost use Rattle.std.proofs.Props.{props};
 ghost use Rattle.ec_loads.specs.Line.{line_by};
 ghost use Rattle.ec_loads.specs.Search.{IsPartialTree, node_count as node_count_of};
-ghost use Rattle.ec_cert.specs.BestPlan.{value_of};
+ghost use Rattle.ec_cert.specs.IsBestPlan.{value_of};
 ghost use Rattle.ec_cert.specs.Shapes.{shape_of};
 ghost use Rattle.ec_symmetry.specs.Orders.{prefix_of};
 ghost use Rattle.ec_book.specs.declared.fault.BookFault.TheVariants.{OutOfMemory};

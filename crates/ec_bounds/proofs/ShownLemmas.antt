@@ -1,6 +1,6 @@
 -- What the ticks of a table show holds: no tick of a class is above its top (`tick_top-low`), so each class seems to have no less room (`room-shown`).
 use Rattle.std.proofs.Common.{◌≡◌, ℕ, ◌+◌, ◌-◌, ◌/◌, ◌%◌, ◌<◌, ◌≤◌, ◌==◌, ◌&&◌, max, cond, List, Option, arith, inl, inr}
-use Rattle.std.specs.Prelude.{nat_lt, ◌↔◌}
+use Rattle.std.specs.Prelude.{nat_lt}
 use Rattle.std.proofs.lemmas.Bool.{and_parts, cases_Bool, cond-true, cond-false}
 use Rattle.ec_hyper.specs.Lcm.{lcm_of}
 use Rattle.ec_units.specs.declared.unit.Load.{Load}
@@ -8,9 +8,9 @@ use Rattle.ec_units.specs.Load.{periods_of}
 use Rattle.ec_loads.specs.declared.item.Item.{Item}
 use Rattle.ec_loads.specs.declared.pair.Pair.{Pair}
 use Rattle.ec_loads.specs.Cost.{items, raw_cost}
-use Rattle.ec_loads.specs.Rooms.{is_open, top, unplaced, periods_in, CountHolds, IsNeeded, GroupsHold}
+use Rattle.ec_loads.specs.Rooms.{is_open, top, unplaced, periods_in, CountHolds, IsNeeded, GroupsHold, room_by, room_beside_by, IsNeededBy}
 use Rattle.ec_loads.specs.Search.{Prefix}
-use Rattle.ec_bounds.specs.Shown.{tick_top, shown_tops, room_by, room_beside_by, IsNeededBy, GroupsHoldBy, CountShows, GroupsShow}
+use Rattle.ec_bounds.specs.Shown.{tick_top, shown_tops, CountShows, GroupsShow}
 use Rattle.ec_bounds.proofs.SubLemmas.{sum_below-le}
 use Rattle.ec_bounds.proofs.LeftLemmas.{below_from}
 use Rattle.ec_bounds.proofs.RoomLemmas.{greatest-first, greatest-each}
@@ -72,10 +72,3 @@ groups-shown loads n val ps pairs ticks shown =
         above = all.above;
       },
     )
-
--- by the tops themselves nothing else is said
-pub groups-walked : (loads : List Load) (n : ℕ) (val : Option ℕ) (ps : Prefix) (pairs : List Pair) → GroupsHoldBy loads n (top (items loads ps) n (lcm_of (periods_of loads))) val ps pairs ↔ GroupsHold loads n val ps pairs
-groups-walked loads n val ps pairs = (
-  λ said. let all = said.2 in (said.0, said.1, record { some = all.some; needed = all.needed; above = all.above }),
-  λ holds. let all = holds.2 in (holds.0, holds.1, record { some = all.some; needed = all.needed; above = all.above }),
-)

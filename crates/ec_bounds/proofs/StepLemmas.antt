@@ -14,11 +14,10 @@ use Rattle.ec_loads.specs.declared.item.Item.{Item}
 use Rattle.ec_loads.specs.declared.pair.Pair.{Pair}
 use Rattle.ec_loads.specs.Cost.{items, raw_cost, sum_below}
 use Rattle.ec_loads.specs.Held.{Held}
-use Rattle.ec_loads.specs.Rooms.{is_open, top, unplaced, is_above_slot_0, MergeHolds, is_large, has_period, periods_in, group_bytes, sent_bytes}
+use Rattle.ec_loads.specs.Rooms.{is_open, top, unplaced, is_above_slot_0, MergeHolds, is_large, has_period, periods_in, group_bytes, sent_bytes, room_count_by, CountHoldsBy, IsNeededBy, GroupsHoldBy}
 use Rattle.ec_loads.specs.Search.{Prefix}
 use Rattle.ec_loads.proofs.ExcessLemmas.{next_tick}
 use Rattle.ec_bounds.specs.Left.{Left, IsRestOf, left_loads, is_placed_in}
-use Rattle.ec_bounds.specs.Shown.{room_count_by, CountHoldsBy, IsNeededBy, GroupsHoldBy}
 use Rattle.ec_bounds.proofs.LeftLemmas.{some_same, below_from, below_to}
 use Rattle.ec_bounds.proofs.RoomLemmas.{greatest-most, greatest-first, greatest-each}
 

@@ -1,3 +1,4 @@
+pub mod Examples
 pub mod Laws
 pub mod Left
 pub mod RoomLaws

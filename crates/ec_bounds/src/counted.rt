@@ -2,9 +2,9 @@
 
 ghost use Rattle.std.specs.Prelude.{◌≡◌, ◌-◌, ◌<◌, ◌≤◌, ◌↔◌, IsTrue, length, take, count_by};
 ghost use Rattle.ec_loads.specs.Held.{items_of};
-ghost use Rattle.ec_loads.specs.Rooms.{is_large as large, CountHolds};
+ghost use Rattle.ec_loads.specs.Rooms.{is_large as large, CountHolds, room_count_by, CountHoldsBy};
 ghost use Rattle.ec_bounds.specs.Left.{left_loads, IsRestOf};
-ghost use Rattle.ec_bounds.specs.Shown.{room_count_by, CountHoldsBy, CountShows};
+ghost use Rattle.ec_bounds.specs.Shown.{CountShows};
 
 use crate::rest::{MOST_UNITS, Rest};
 use crate::rooms::{open_classes, room};

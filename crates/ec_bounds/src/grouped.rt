@@ -3,9 +3,9 @@
 ghost use Rattle.std.specs.Prelude.{◌≡◌, ℕ, ◌||◌, false, get_or, ◌+◌, ◌-◌, ◌*◌, ◌/◌, ◌<◌, ◌≤◌, ◌↔◌, IsTrue, All, length, take};
 ghost use Rattle.std.specs.List.{AllZip, list_any};
 ghost use Rattle.ec_loads.specs.Held.{items_of};
-ghost use Rattle.ec_loads.specs.Rooms.{has_period as of_period, periods_in, bytes_at as bytes_in, group_bytes as group_bytes_of, GroupsHold};
+ghost use Rattle.ec_loads.specs.Rooms.{has_period as of_period, periods_in, bytes_at as bytes_in, group_bytes as group_bytes_of, GroupsHold, room_below_by, IsNeededBy, GroupsHoldBy};
 ghost use Rattle.ec_bounds.specs.Left.{IsRestOf};
-ghost use Rattle.ec_bounds.specs.Shown.{room_below_by, IsNeededBy, GroupsHoldBy, GroupsShow};
+ghost use Rattle.ec_bounds.specs.Shown.{GroupsShow};
 
 use crate::counted::{NO_UNITS, fill_left};
 use crate::rest::Rest;

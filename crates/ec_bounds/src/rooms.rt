@@ -3,9 +3,8 @@
 
 ghost use Rattle.std.specs.Prelude.{◌≡◌, ℕ, ◌<◌, ◌||◌, false, get_or};
 ghost use Rattle.ec_loads.specs.Held.{items_of};
-ghost use Rattle.ec_loads.specs.Rooms.{is_open as open_in};
+ghost use Rattle.ec_loads.specs.Rooms.{is_open as open_in, room_by, room_beside_by};
 ghost use Rattle.ec_bounds.specs.Left.{is_placed_in as placed_in};
-ghost use Rattle.ec_bounds.specs.Shown.{room_by, room_beside_by};
 
 use crate::tops::Tops;
 use ec_loads::{GROUP_BYTES, Loads};

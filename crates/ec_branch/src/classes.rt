@@ -22,7 +22,7 @@ pub(crate) struct Rooms {
 fn room_of(class: Class, limit: u32) -> u32
     ensures { result ≤ limit }
 {
-    limit.saturating_sub(u32::from(class.full))
+    limit.saturating_sub(u32::from(class.cost))
 }
 
 /// With the room of one more class.

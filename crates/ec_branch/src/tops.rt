@@ -16,18 +16,18 @@ const FRAME_BYTES: u16 = 40;
 /// More than any tick: a mark is so many times what the group of its class costs, and a tick.
 const MARK: u16 = 4096;
 
-/// A class: the greatest of 40 bytes and of what its ticks cost without padding, its top, and what its group costs,
-/// nothing where it is open, together; and the mark of what its group costs and of a tick that costs as much as the top,
-/// where one does.
+/// A class: its cost, which is its top, the greatest of 40 bytes and of what its ticks cost without padding, and what its
+/// group costs, nothing where it is open, in bytes together; and the mark of what its group costs and of a tick that costs
+/// as much as the top, where one does.
 #[derive(Clone, Copy, Debug)]
 pub(crate) struct Class {
-    pub full: u16,
+    pub cost: u16,
     pub mark: u16,
 }
 
 /// A class with nothing in it.
 const EMPTY: Class = Class {
-    full: FRAME_BYTES + GROUP_BYTES as u16,
+    cost: FRAME_BYTES + GROUP_BYTES as u16,
     mark: GROUP_BYTES as u16 * MARK,
 };
 
@@ -36,27 +36,27 @@ pub(crate) fn is_open(class: Class) -> bool {
     class.mark < MARK
 }
 
-/// What the group of a class costs; nothing where it is open.
+/// What the group of a class costs, in bytes; 0 where it is open.
 fn head_of(class: Class) -> u16
     ensures { result ≤ 15 }
 {
     class.mark / MARK
 }
 
-/// Raises the top of a class to what a tick of it costs, and keeps that.
+/// Raises the top of a class to what a tick of it costs without padding, in bytes, and keeps the tick where that is more.
 fn raise_class(class: &mut Class, cost: u16, tick: u32)
     requires { cost ≤ 60000 }
 {
-    let full = cost + head_of(*class);
-    if full > class.full {
-        class.full = full;
+    let raised = cost + head_of(*class);
+    if raised > class.cost {
+        class.cost = raised;
         class.mark = (class.mark & !(MARK - 1)) | (tick % u32::from(MARK)) as u16;
     }
 }
 
 /// The tick of one of these classes, by its number; 0 where there is none.
 fn tick_at(classes: &[Class], at: usize) -> u32
-    ensures { result ≡ (get_or classes.now at (record { full = 0; mark = 0 })).mark % 4096 }
+    ensures { result ≡ (get_or classes.now at (record { cost = 0; mark = 0 })).mark % 4096 }
 {
     match classes.get(at) {
         Some(class) => u32::from(class.mark % MARK),
@@ -84,7 +84,7 @@ pub(crate) struct Costly<'a> {
 }
 
 impl<'a> Ticks for Costly<'a> {
-    ghost ticks = { λ s p f. (get_or s.classes.now (get_or s.starts.now p 0 + f) (record { full = 0; mark = 0 })).mark % 4096 };
+    ghost ticks = { λ s p f. (get_or s.classes.now (get_or s.starts.now p 0 + f) (record { cost = 0; mark = 0 })).mark % 4096 };
 
     fn tick(&self, period: u16, phase: u16) -> u32 {
         tick_at(
@@ -110,14 +110,14 @@ pub(crate) struct Tops {
     classes: Vec<Class>,
 }
 
-/// What a tick costs without padding.
+/// What a tick costs without padding, in bytes; 60,000 at most, above what any tick with room costs.
 fn raw_at(loads: &Loads, tick: u32) -> u16
     ensures { result ≤ 60000 }
 {
     loads.raw(tick).min(60_000) as u16
 }
 
-/// Raises the tops of the classes of a period to what the ticks of a unit cost, and keeps these.
+/// Raises the tops of the classes of a period to what the ticks of a unit cost, and keeps the ticks that cost more.
 fn raise(row: &mut [Class], loads: &Loads, last: Last)
     requires { 0 < length row.old }
 {
@@ -137,7 +137,7 @@ fn raise(row: &mut [Class], loads: &Loads, last: Last)
     }
 }
 
-/// Raises the tops of the classes of a period to what all ticks cost, and keeps these.
+/// Raises the tops of the classes of a period to what all ticks cost, and keeps those that cost most.
 fn raise_all(row: &mut [Class], loads: &Loads)
     requires { 0 < length row.old }
 {
@@ -156,7 +156,7 @@ fn raise_all(row: &mut [Class], loads: &Loads)
 fn open(row: &mut [Class], phase: u16) {
     let phase = usize::from(phase);
     if phase < row.len() {
-        row[phase].full = row[phase].full.saturating_sub(head_of(row[phase]));
+        row[phase].cost = row[phase].cost.saturating_sub(head_of(row[phase]));
         row[phase].mark %= MARK;
     }
 }

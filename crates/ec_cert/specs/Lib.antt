@@ -1,4 +1,4 @@
-pub mod BestPlan
+pub mod IsBestPlan
 pub mod LeafKinds
 pub mod Parts
 pub mod Shapes

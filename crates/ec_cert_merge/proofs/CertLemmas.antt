@@ -21,7 +21,7 @@ use Rattle.ec_symmetry.specs.Reached.{In}
 use Rattle.ec_tree.specs.Trees.{LevelsBound}
 use Rattle.ec_cert.specs.declared.cert.Best.{Best}
 use Rattle.ec_cert.specs.declared.kinds.Kinds.{Kinds}
-use Rattle.ec_cert.specs.BestPlan.{value_of, IsBestPlan}
+use Rattle.ec_cert.specs.IsBestPlan.{value_of, IsBestPlan}
 use Rattle.ec_cert.specs.LeafKinds.{kinds_in}
 use Rattle.ec_cert.specs.Shapes.{CertView}
 use Rattle.ec_cert.specs.Versions.{rules_of}

@@ -12,7 +12,7 @@ use Rattle.ec_loads.proofs.ItemLemmas.{AreLoads-loads_of}
 use Rattle.ec_symmetry.specs.Orders.{IsOrder}
 use Rattle.ec_tree.specs.Trees.{TreesBound, LevelsBound}
 use Rattle.ec_cert.specs.declared.cert.Best.{Best}
-use Rattle.ec_cert.specs.BestPlan.{value_of, IsBestPlan}
+use Rattle.ec_cert.specs.IsBestPlan.{value_of, IsBestPlan}
 use Rattle.ec_cert.specs.Shapes.{CertView}
 use Rattle.ec_cert.specs.Versions.{rules_of}
 use Rattle.ec_checker.specs.Certified.{IsShown, IsAnswer, verdict_of}

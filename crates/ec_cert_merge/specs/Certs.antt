@@ -5,7 +5,7 @@ use Rattle.ec_loads.specs.Line.{Rules, slots_alone, turned_time, strong}
 use Rattle.ec_loads.specs.Search.{IsAtMost, open_count}
 use Rattle.ec_loads.specs.Shape.{Shape}
 use Rattle.ec_cert.specs.declared.cert.Best.{Best}
-use Rattle.ec_cert.specs.BestPlan.{value_of}
+use Rattle.ec_cert.specs.IsBestPlan.{value_of}
 use Rattle.ec_cert.specs.Shapes.{CertView}
 use Rattle.ec_cert.specs.Versions.{rules_of}
 use Rattle.ec_cert.specs.WellFormed.{IsWellFormed}

@@ -2,7 +2,7 @@
 
 ghost use Rattle.std.specs.Prelude.{◌≡◌, ℕ, ◌<◌, None, Some, IfOk};
 ghost use Rattle.ec_loads.specs.Search.{open_count};
-ghost use Rattle.ec_cert.specs.BestPlan.{value_of};
+ghost use Rattle.ec_cert.specs.IsBestPlan.{value_of};
 ghost use Rattle.ec_cert.specs.Shapes.{cert_view, shape_of};
 ghost use Rattle.ec_outcome.specs.declared.search.Cut.TheVariants.{Parts};
 ghost use Rattle.ec_workers.specs.Answers.{Asked, HasCut, HasLevelFrom, HasOrder, HasRules, IsOutcome, is_strong, tree_in, value_in};

@@ -12,7 +12,7 @@ use Rattle.ec_wire.specs.Stream.{WritesFront}
 use Rattle.ec_loads.specs.Shape.{split}
 use Rattle.ec_cert.specs.Shapes.{shape_of, shapes_of}
 use Rattle.ec_cert_text.specs.Text.{node_lines, row_lines, split_line}
-use Rattle.ec_cert_text.specs.Waiting.{Gathers, GathersFront}
+use Rattle.ec_cert_text.specs.Gathers.{Gathers, GathersFront}
 use Rattle.ec_cert.specs.declared.tree.Tree.{Tree}
 use Rattle.ec_cert.proofs.TreeLemmas.{shape_count-shapes_of, shapes_of-drop}
 

@@ -3,4 +3,4 @@ pub mod NodeWords
 pub mod Reading
 pub mod Text
 pub mod Views
-pub mod Waiting
+pub mod Gathers

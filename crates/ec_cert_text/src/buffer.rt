@@ -3,7 +3,7 @@
 ghost use Rattle.std.specs.Prelude.{◌≡◌, ◌++◌, [], true, OnOk, OnErr};
 ghost use Rattle.std.specs.Io.KnownBytes.{Appends};
 ghost use Rattle.ec_wire.specs.Stream.{stream, has_failed, WritesFront};
-ghost use Rattle.ec_cert_text.specs.Waiting.{Gathers, GathersFront};
+ghost use Rattle.ec_cert_text.specs.Gathers.{Gathers, GathersFront};
 
 use arrayvec::ArrayVec;
 use ec_wire::{Io, WriteFault};

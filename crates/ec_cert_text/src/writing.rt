@@ -5,7 +5,7 @@ ghost use Rattle.std.specs.Fmt.{decimal};
 ghost use Rattle.std.specs.List.{All, flat_map};
 ghost use Rattle.std.specs.Io.KnownBytes.{Appends};
 ghost use Rattle.ec_wire.specs.Stream.{stream, has_failed, WritesFront};
-ghost use Rattle.ec_cert_text.specs.Waiting.{Gathers, GathersFront};
+ghost use Rattle.ec_cert_text.specs.Gathers.{Gathers, GathersFront};
 ghost use Rattle.ec_cert.specs.Shapes.{shape_of, shapes_of, cert_view};
 ghost use Rattle.ec_cert.specs.WellFormed.{IsUnitLine, IsWellFormed};
 ghost use Rattle.ec_cert_text.specs.Text.{unit_line as unit_line_spec, index_word, order_line, place_line, best_lines, level_line, weights_line, pair_words as pair_words_spec, groups_line, node_lines, row_lines, tree_lines, certificate_text};

@@ -1,6 +1,6 @@
 -- A level that holds at a prefix holds at each longer one.
 -- One unit more: `least-more` for the average, `extends-set` for the ticks; `level-below` for the trees below a prefix.
-use Rattle.std.proofs.Common.{◌≡◌, ℕ, zero, suc, ◌+◌, ◌*◌, ◌/◌, ◌<◌, ◌≤◌, All, List, [], ◌∷◌, length, set, get_or, slice_get, map, Option, Some, None, refl, sym, ap, ◌∙◌, subst, arith, inl, inr, le_trans, cond, ◌%◌, ◌==◌, mul-zero, mul-suc, mul_comm, mod-eq_of_lt}
+use Rattle.std.proofs.Common.{◌≡◌, ℕ, zero, suc, ◌+◌, ◌*◌, ◌/◌, ◌<◌, ◌≤◌, All, List, [], ◌∷◌, length, set, get_or, slice_get, Option, Some, None, refl, sym, ap, ◌∙◌, subst, arith, inl, inr, le_trans, cond, ◌%◌, ◌==◌, mul-zero, mul-suc, mul_comm, mod-eq_of_lt}
 use Prim.Native.Nat.{◌∣◌}
 use native.Mathlib.Nat.{mul-div_cancel'}
 use Rattle.std.proofs.lemmas.Bool.{cases_eq, eq-eqb, ne_eqb, cond-true, cond-false}
@@ -12,7 +12,7 @@ use Rattle.ec_units.specs.declared.slave.Place.{Place}
 use Rattle.ec_units.specs.declared.unit.Load.{Load}
 use Rattle.ec_units.specs.Load.{periods_of}
 use Rattle.ec_loads.specs.declared.item.Item.{Item}
-use Rattle.ec_loads.specs.Cost.{item, items, raw_cost, sum_below, tick_cost}
+use Rattle.ec_loads.specs.Cost.{item, items, raw_cost, sum_below}
 use Rattle.ec_loads.specs.Held.{AreLoads, no_places}
 use Rattle.ec_loads.specs.Line.{Line}
 use Rattle.ec_loads.specs.Shape.{Shape, Shapes, split, leaf, open_leaf, no_shapes, more}

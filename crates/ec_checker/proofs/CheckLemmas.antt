@@ -20,7 +20,7 @@ use Rattle.ec_tree.specs.Trees.{TreesBound, LevelsBound}
 use Rattle.ec_checker.specs.declared.fault.CheckFault.{CheckFault}
 use Rattle.ec_checker.specs.declared.fault.CheckFault.TheVariants as fault
 use Rattle.ec_checker.specs.declared.fault.Verdict.{Verdict}
-use Rattle.ec_cert.specs.BestPlan.{value_of, IsBestPlan}
+use Rattle.ec_cert.specs.IsBestPlan.{value_of, IsBestPlan}
 use Rattle.ec_checker.specs.Certified.{IsFor, HasHead, IsLevelIn, IsShown, IsCertified, verdict_of, tree_found, IsLevelFault, IsPlanFault, IsNodeFault, IsFaultOf, IsClaim}
 use Rattle.ec_checker.specs.Judged.{tree_judged}
 use Rattle.ec_checker.specs.Laws.{FaultsRefute}

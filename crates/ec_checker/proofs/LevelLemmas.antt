@@ -1,5 +1,5 @@
 -- The level at an open leaf, and the greatest one of all open leaves.
-use Rattle.std.proofs.Common.{◌≡◌, ◌⊎◌, ◌↔◌, ℕ, ◌+◌, ◌<◌, ◌≤◌, min, max, is_some, MatchOption, List, [], ◌∷◌, length, set, drop, get_or, All, Option, Some, None, Vec, Global, refl, sym, subst, inl, inr, arith, rules}
+use Rattle.std.proofs.Common.{◌≡◌, ◌⊎◌, ◌↔◌, ℕ, ◌+◌, ◌<◌, ◌≤◌, min, max, is_some, MatchOption, List, [], ◌∷◌, length, set, drop, get_or, All, Option, Some, None, Vec, Global, refl, sym, ap, ◌∙◌, subst, inl, inr, arith, rules}
 use Rattle.std.proofs.lemmas.Bool.{cases_lt, false_from_ne_true}
 use Rattle.std.proofs.lemmas.List.{drop_all}
 use Rattle.std.proofs.lemmas.List.Elements.{All-head, All-tail}
@@ -15,7 +15,7 @@ use Rattle.ec_cert.specs.declared.tree.Tree.{Tree, OpenLeaf, the_lemmas}
 use Rattle.ec_cert.specs.Shapes.{shape_of, shapes_of}
 use Rattle.ec_cert.proofs.TreeLemmas.{shapes_of-drop}
 use Rattle.ec_checker.specs.Judged.{tick_reaches, IsReady}
-use Rattle.ec_checker.specs.Levels.{IsGreatestLevel, IsLowered, AreIn}
+use Rattle.ec_checker.specs.Levels.{IsGreatestLevel, IsLowered, AreAtMost, AreIn}
 use Rattle.ec_checker.proofs.BelowLemmas.{level-below, level-next, slots-set}
 use Rattle.ec_checker.proofs.FoundLemmas.{reaches_from, reaches_to}
 
@@ -174,6 +174,56 @@ lowered_open rules held tree order most own least is all low =
 
 pub shape_of-OpenLeaf : shape_of OpenLeaf ≡ open_leaf
 shape_of-OpenLeaf = search (rules, the_lemmas)
+
+-- ---- the open leaves of a split, which are looked at first
+
+abbrev HoldAt : Rules → Held → ℕ → Option ℕ → Shapes → ℕ → List ℕ → List Place → Type 0
+HoldAt rules held m v ss u order places = TreesWith (λ qs _. LevelHolds (line_of rules held) (Some m) qs) (line_of rules held) v ss held.places u order places
+
+-- a level that holds at all of them is at most what is so far, and holds at those that are left
+abbrev pub Follows : Rules → Held → List Tree → ℕ → List Place → ℕ → ℕ → ℕ → Type 0
+Follows rules held ts u places i most so_far =
+    (v : Option ℕ) (order : List ℕ) (m : ℕ) → m ≤ most → HoldAt rules held m v (shapes_of ts) u order (kids_of rules held u) → (m ≤ so_far) × HoldAt rules held m v (shapes_of (drop i ts)) u order places
+
+pub follows_first : (rules : Rules) (held : Held) (ts : List Tree) (u : ℕ) (places : List Place) (most : ℕ) → places ≡ kids_of rules held u → Follows rules held ts u places 0 most most
+follows_first rules held ts u places most is v order m low all = (low, subst (λ w. HoldAt rules held m v (shapes_of ts) u order w) (sym is) all)
+
+-- what holds at those that are left holds at the next one
+next_holds : (rules : Rules) (held : Held) (ts : List Tree) (u : ℕ) (places rest : List Place) (p : Place) (i : ℕ) (t : Tree) (v : Option ℕ) (order : List ℕ) (m : ℕ) → i < length ts → places ≡ p ∷ rest → HoldAt rules held m v (shapes_of (drop i ts)) u order places
+    → TreeWith (λ qs _. LevelHolds (line_of rules held) (Some m) qs) (line_of rules held) v (shape_of (get_or ts i t)) (set held.places u (Some p)) order × HoldAt rules held m v (shapes_of (drop (i + 1) ts)) u order rest
+next_holds rules held ts u places rest p i t v order m h first all =
+    subst (λ s. HoldAt rules held m v s u order (p ∷ rest)) (shapes_of-drop ts i t h) (subst (λ w. HoldAt rules held m v (shapes_of (drop i ts)) u order w) first all)
+
+pub follows_skip : (rules : Rules) (held : Held) (ts : List Tree) (u : ℕ) (places rest : List Place) (p : Place) (i most so_far : ℕ) (t : Tree) → i < length ts → places ≡ p ∷ rest → Follows rules held ts u places i most so_far → Follows rules held ts u rest (i + 1) most so_far
+follows_skip rules held ts u places rest p i most so_far t h first f v order m low all =
+    let now = f v order m low all in
+    (now.0, (next_holds rules held ts u places rest p i t v order m h first now.1).1)
+
+pub follows_open : (rules : Rules) (held placed : Held) (ts : List Tree) (u : ℕ) (places rest : List Place) (p : Place) (i most so_far own least : ℕ) (t : Tree) → i < length ts → t ≡ get_or ts i t → places ≡ p ∷ rest → placed ≡ with_place held u (Some p) → shape_of t ≡ open_leaf
+    → ((m : ℕ) → (m ≤ own) ↔ LevelHolds (line_of rules placed) (Some m) placed.places) → least ≡ min so_far own → Follows rules held ts u places i most so_far → Follows rules held ts u rest (i + 1) most least
+follows_open rules held placed ts u places rest p i most so_far own least t h is first made open_is all low f v order m under holds =
+    let now = f v order m under holds in
+    let next = next_holds rules held ts u places rest p i t v order m h first now.1 in
+    let line = line_of rules held in
+    let below = set held.places u (Some p) in
+    let shape : shape_of (get_or ts i t) ≡ open_leaf = ap shape_of (sym is) ∙ open_is in
+    let at : LevelHolds line (Some m) below = subst (λ s. TreeWith (λ qs _. LevelHolds line (Some m) qs) line v s below order) shape next.0 in
+    let there : LevelHolds (line_of rules placed) (Some m) placed.places = subst (λ (w : Held). LevelHolds (line_of rules w) (Some m) w.places) (sym made) at in
+    let few = (all m).1 there in
+    (omega (arith, few, low, now.0), next.1)
+
+pub follows_all : (rules : Rules) (held : Held) (ts : List Tree) (u : ℕ) (places : List Place) (i most so_far : ℕ) → Follows rules held ts u places i most so_far → AreAtMost (line_of rules held) (shapes_of ts) held.places u most so_far
+follows_all rules held ts u places i most so_far f v order m low all = (f v order m low all).0
+
+-- the levels that a split lowers the first one to are those that it lowers the greatest one to
+pub lowered_first : (rules : Rules) (held : Held) (tree : Tree) (trees : Vec Tree Global) (order later : List ℕ) (u most first least : ℕ) → shape_of tree ≡ split (shapes_of trees.items) → order ≡ u ∷ later → first ≤ most
+    → AreAtMost (line_of rules held) (shapes_of trees.items) held.places u most first → IsLowered (line_of rules held) (shape_of tree) held.places order first least → IsLowered (line_of rules held) (shape_of tree) held.places order most least
+lowered_first rules held tree trees order later u most first least is from low each all v has m =
+    let line = line_of rules held in
+    let own = all v has m in (
+      λ under. let h = own.0 under in (omega (arith, h.0, low), h.1),
+      λ q. own.1 (each v later m q.0 (subst (λ o. TreeWith (λ qs _. LevelHolds line (Some m) qs) line v (split (shapes_of trees.items)) held.places o) from (subst (λ s. TreeWith (λ qs _. LevelHolds line (Some m) qs) line v s held.places order) is q.1)), q.1),
+    )
 
 -- ---- the greatest level of a tree
 

@@ -13,7 +13,7 @@ use Rattle.ec_loads.specs.Shape.{Shape}
 use Rattle.ec_symmetry.specs.Orders.{IsOrder}
 use Rattle.ec_cert.specs.declared.lists.UnitLine.{UnitLine}
 use Rattle.ec_cert.specs.declared.cert.Best.{Best}
-use Rattle.ec_cert.specs.BestPlan.{value_of, IsBestPlan}
+use Rattle.ec_cert.specs.IsBestPlan.{value_of, IsBestPlan}
 use Rattle.ec_cert.specs.Shapes.{CertView}
 use Rattle.ec_cert.specs.Versions.{rules_of}
 use Rattle.ec_checker.specs.declared.fault.CheckFault.{CheckFault}

@@ -2,7 +2,7 @@
 
 ghost use Rattle.std.specs.Prelude.{◌≡◌, Some, IfOk, IfErr};
 ghost use Rattle.ec_units.specs.Load.{loads_of};
-ghost use Rattle.ec_cert.specs.BestPlan.{value_of as value_of_best, IsBestPlan};
+ghost use Rattle.ec_cert.specs.IsBestPlan.{value_of as value_of_best, IsBestPlan};
 ghost use Rattle.ec_checker.specs.Certified.{IsPlanFault};
 
 use crate::fault::CheckFault;

@@ -3,7 +3,7 @@
 ghost use Rattle.std.specs.Prelude.{◌≡◌, ◌≢◌, Option, IfOk, IfErr, Err};
 ghost use Rattle.ec_units.specs.Load.{loads_of};
 ghost use Rattle.ec_cert.specs.declared.cert.Best.{Best};
-ghost use Rattle.ec_cert.specs.BestPlan.{value_of as value_of_best};
+ghost use Rattle.ec_cert.specs.IsBestPlan.{value_of as value_of_best};
 ghost use Rattle.ec_cert.specs.Shapes.{cert_view};
 ghost use Rattle.ec_cert.specs.Versions.{rules_of};
 ghost use Rattle.ec_loads.specs.Held.{no_places};

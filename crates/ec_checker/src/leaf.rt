@@ -58,7 +58,7 @@ fn is_strong(rules: Rules) -> bool
 }
 
 /// Whether two slots can be one at the value.
-fn law_slots_merge(loads: &Loads, value: Option<u64>) -> bool
+fn slots_merge(loads: &Loads, value: Option<u64>) -> bool
     ensures { result ≡ merge_holds_of value loads.now.places }
 {
     merge_bound(loads, value)
@@ -84,7 +84,7 @@ fn groups_left(loads: &Loads, rest: &Rest, pairs: &[Pair], value: Option<u64>) -
 pub(crate) fn merge_holds(loads: &Loads, rules: Rules, value: Option<u64>) -> bool
     ensures { result ≡ leaf_holds (line_of (line_rules rules) loads.now) value loads.now.places merging }
 {
-    is_strong(rules) && law_slots_merge(loads, value)
+    is_strong(rules) && slots_merge(loads, value)
 }
 
 /// Whether a count of units of this period, in ticks, and with at least so many bytes holds, by the strong rules alone.

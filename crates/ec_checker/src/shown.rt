@@ -1,17 +1,18 @@
 //! The greatest level that a tree with open leaves shows.
 
-ghost use Rattle.std.specs.Prelude.{◌≡◌, ◌⊎◌, ℕ, ◌<◌, ◌≤◌, ◌↔◌, IsTrue, All, Some, IfOk, length, MatchOption};
+ghost use Rattle.std.specs.Prelude.{◌≡◌, ◌⊎◌, ℕ, ◌<◌, ◌≤◌, ◌↔◌, IsTrue, All, Some, None, IfOk, length, slice_get};
 ghost use Rattle.ec_units.specs.Load.{loads_of};
 ghost use Rattle.ec_loads.specs.Held.{no_places};
 ghost use Rattle.ec_loads.specs.Line.{Rules as LineRules, line_of, line_by};
 ghost use Rattle.ec_loads.specs.Search.{LevelHolds, IsPartialTree, IsAtMost, open_count};
 ghost use Rattle.ec_bounds.specs.Left.{IsRestOf};
-ghost use Rattle.ec_cert.specs.BestPlan.{value_of, IsBestPlan};
-ghost use Rattle.ec_cert.specs.Shapes.{shape_of};
+ghost use Rattle.ec_cert.specs.IsBestPlan.{value_of, IsBestPlan};
+ghost use Rattle.ec_loads.specs.Shape.{open_leaf};
+ghost use Rattle.ec_cert.specs.Shapes.{shape_of, shapes_of};
 ghost use Rattle.ec_symmetry.specs.Orders.{IsOrder};
 ghost use Rattle.ec_symmetry.specs.Ruled.{line_rules};
 ghost use Rattle.ec_checker.specs.Judged.{IsReady};
-ghost use Rattle.ec_checker.specs.Levels.{IsGreatestLevel, IsLowered, AreIn};
+ghost use Rattle.ec_checker.specs.Levels.{IsGreatestLevel, IsLowered, AreAtMost, AreIn};
 
 use ec_bounds::{Rest, average_level};
 use ec_cert::{Best, Tree, is_closed};
@@ -62,9 +63,54 @@ fn is_kept(level: u64, here: u64, tree: &Tree) -> bool
     level <= here || is_closed(tree)
 }
 
+/// Whether a tree is an open leaf.
+fn is_open(tree: &Tree) -> bool
+    ensures { IsTrue result → shape_of tree.now ≡ open_leaf }
+{
+    match tree {
+        Tree::OpenLeaf => true,
+        _ => false,
+    }
+}
+
+/// What the trees for the children of a unit lower a level to that are open leaves themselves. The places are as before
+/// afterwards.
+fn lowered_at_once(
+    loads: &mut Loads,
+    rest: &mut Rest,
+    rules: Rules,
+    level: u64,
+    unit: usize,
+    trees: &[Tree],
+) -> u64
+    requires free { slice_get loads.old.places unit ≡ Some None }
+    requires left { IsRestOf rest.old loads.old }
+    ensures same { loads.new ≡ loads.old }
+    ensures left { IsRestOf rest.new loads.new }
+    ensures low { result ≤ level }
+    ensures most { AreAtMost (line_of (line_rules rules) loads.old) (shapes_of trees.now) loads.old.places unit level result }
+{
+    let mut places = children_by(loads, unit, rules);
+    let mut least = level;
+    for i in 0..trees.len() {
+        let Some(place) = places.next() else {
+            return least;
+        };
+        if is_open(&trees[i]) {
+            loads.place(unit, place);
+            rest.placed(unit);
+            least = least.min(open_level(loads, rest));
+            loads.remove(unit);
+            rest.unplaced(unit);
+        }
+    }
+    least
+}
+
 /// The greatest level of at most this one that holds at each open leaf of a tree for the places so far, its children
 /// by these rules. The places are as before afterwards. Where the level holds at the places themselves it holds below them, so
-/// nothing is looked at there. No recursion is deeper than the order is long.
+/// nothing is looked at there; to lower it soon, the open leaves of a split are looked at before its other trees. No recursion is
+/// deeper than the order is long.
 fn lowered(
     loads: &mut Loads,
     rest: &mut Rest,
@@ -87,13 +133,17 @@ fn lowered(
             Some((unit, later)) => {
                 let _ticks = loads.ticks();
                 let here = open_level(loads, rest);
-                if is_kept(level, here, tree) {
+                if level <= here {
                     return level;
                 }
                 let trees = trees.as_ref();
                 let unit = usize::from(*unit);
+                let first = lowered_at_once(loads, rest, rules, level, unit, trees.as_slice());
+                if is_kept(first, here, tree) {
+                    return first;
+                }
                 let mut places = children_by(loads, unit, rules);
-                let mut least = level;
+                let mut least = first;
                 for i in 0..trees.len() {
                     let Some(place) = places.next() else {
                         return least;

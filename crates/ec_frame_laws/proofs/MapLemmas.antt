@@ -19,13 +19,13 @@ use Rattle.ec_slave.specs.Fmmus.{fmmu_at, fmmus_in, has}
 use Rattle.ec_slave.specs.Step.{memory_after, frame_after}
 use Rattle.ec_player.specs.Sent.{start_sents, ticks_sents, all_sents}
 use Rattle.ec_player.specs.Lines.{slaves_after}
-use Rattle.ec_play_laws.specs.Ready.{IsReady, AreReady}
+use Rattle.ec_play_laws.specs.IsReady.{IsReady, AreReady}
 use Rattle.ec_play_laws.specs.Started.{started}
 use Rattle.ec_play_laws.proofs.FmmuLemmas.{IsHeld, held-is, off-at, Fits, first-bytes, second-bytes}
 use Rattle.ec_play_laws.proofs.PlayLemmas.{IsSet, seats_in, fits-in, ticks-pass, ready-in}
 use Rattle.ec_play_laws.proofs.RunLemmas.{runs-append}
 use Rattle.ec_play_laws.proofs.StartLaw.{start-runs}
-use Rattle.ec_frame_laws.specs.Settings.{IsLine}
+use Rattle.ec_frame_laws.specs.IsLine.{IsLine}
 use Rattle.ec_frame_laws.specs.Maps.{IsNarrow, HoldsRecord, side_of, MapsAt, SlaveMaps}
 
 -- ---- directions

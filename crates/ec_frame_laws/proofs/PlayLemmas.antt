@@ -14,7 +14,7 @@ use Rattle.ec_player.specs.Lines.{slaves_after}
 use Rattle.ec_player.specs.Plays.{IsAnswer, IsPlayed}
 use Rattle.ec_play_laws.specs.Arrivals.{OutputsArrived, InputsArrived, InputsAreAbsent}
 use Rattle.ec_play_laws.proofs.PlayLaw.{play-runs, outputs-arrive, inputs-arrive, inputs-absent}
-use Rattle.ec_frame_laws.specs.Settings.{IsLine}
+use Rattle.ec_frame_laws.specs.IsLine.{IsLine}
 
 pub only-lacks : (lacks : PlayFault → Type 0) (us : Units) (ps : List Place) (m : Mapping) (image : List ℕ) (n : ℕ) (slaves : List (List ℕ)) (f : PlayFault) → IsLine us ps m slaves → length image ≡ m.total →
     IsAnswer frame_after memory_after lacks us m image n slaves (Err f) → lacks f

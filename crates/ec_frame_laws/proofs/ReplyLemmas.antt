@@ -14,7 +14,7 @@ use Rattle.ec_slave.specs.Step.{memory_after, frame_after, is_raised, datagrams_
 use Rattle.ec_slave.specs.Journey.{through}
 use Rattle.ec_slave.proofs.StepLemmas.{extent_fits, step_read}
 use Rattle.ec_player.specs.Faults.{is_open, may_change}
-use Rattle.ec_play_laws.specs.Meanings.{IsReply}
+use Rattle.ec_play_laws.specs.IsReply.{IsReply}
 use Rattle.ec_play_laws.proofs.KeptLemmas.{word-same, steps-kept, open-out}
 use Rattle.ec_frame_laws.specs.Replies.{IsBackOf, AreBackOf, ReadsBackOf}
 

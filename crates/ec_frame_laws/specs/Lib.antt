@@ -1,4 +1,4 @@
-pub mod Settings
+pub mod IsLine
 pub mod Replies
 pub mod Maps
 pub mod Stamps

@@ -13,7 +13,7 @@ ghost use Rattle.ec_fmmu.specs.Mappings.{IsWanted};
 ghost use Rattle.ec_slave.specs.Step.{memory_after, frame_after};
 ghost use Rattle.ec_player.specs.Sent.{all_sents};
 ghost use Rattle.ec_player.specs.Lines.{slaves_after};
-ghost use Rattle.ec_frame_laws.specs.Settings.{IsLine};
+ghost use Rattle.ec_frame_laws.specs.IsLine.{IsLine};
 ghost use Rattle.ec_frame_laws.specs.Maps.{IsNarrow, HoldsRecord, MapsAt, SlaveMaps};
 
 /// A slave maps by a record in its memory the bytes that the record maps (ETG.1000.4, clause 6.6). So each slave of a layout, once the

@@ -4,7 +4,7 @@ ghost use Rattle.std.specs.Prelude.{◌≡◌, ℕ, List, length};
 ghost use Rattle.ec_frames.specs.Reading.{Entry, ReadsAs};
 ghost use Rattle.ec_slave.specs.Step.{memory_after, frame_after};
 ghost use Rattle.ec_slave.specs.Journey.{through};
-ghost use Rattle.ec_play_laws.specs.Meanings.{IsReply};
+ghost use Rattle.ec_play_laws.specs.IsReply.{IsReply};
 ghost use Rattle.ec_frame_laws.specs.Replies.{ReadsBackOf};
 
 /// A frame that passes a modelled slave comes out as a reply: of the same length, and with each byte as it was that is none of a

@@ -12,7 +12,7 @@ ghost use Rattle.ec_player.specs.declared.playing.Played.{Played};
 ghost use Rattle.ec_player.specs.Plays.{IsAnswer, IsPlayed};
 ghost use Rattle.ec_player_threads.specs.Plays.{IsLack};
 ghost use Rattle.ec_play_laws.specs.Arrivals.{OutputsArrived, InputsArrived, InputsAreAbsent};
-ghost use Rattle.ec_frame_laws.specs.Settings.{IsLine};
+ghost use Rattle.ec_frame_laws.specs.IsLine.{IsLine};
 
 /// A play through modelled slaves that fails lacked what it needs, whatever that may be, and no frame of it was faulty. With a thread
 /// for each slave it lacked memory, a ring or a thread.

@@ -13,7 +13,7 @@ use Rattle.ec_frames.specs.declared.writing.Datagram.{Datagram}
 use Rattle.ec_frames.specs.Table.{command_with}
 use Rattle.ec_frames.specs.Written.{code_in, length_word, datagram_bytes, datagrams_bytes, more_than_none, total_of, ethernet_header, padded, written, AreBuildable}
 use Rattle.ec_frames.specs.Reading.{Entry, word_at, size_at, BeginsWith, AreDatagrams, header_at, length_at, type_at, payload_of, ReadsAs}
-use Rattle.ec_frames.specs.RoundTrip.{read_back, IsReadBack}
+use Rattle.ec_frames.specs.IsReadBack.{read_back, IsReadBack}
 use Rattle.ec_frames.proofs.ReadingFrames.{law_one_reading}
 
 code_again : (c : Command) → command_with (code_in c) ≡ Some c

@@ -3,5 +3,5 @@ pub mod Written
 pub mod Reading
 pub mod Parsing
 pub mod EntryViews
-pub mod RoundTrip
+pub mod IsReadBack
 pub mod FaultTexts

@@ -1,7 +1,7 @@
 ghost use Rattle.std.specs.Prelude.{◌≡◌, ◌<◌, ◌^◌, ℕ, List, All, length, sum_by};
 ghost use Rattle.ec_frames.specs.declared.writing.Datagram.{Datagram};
 ghost use Rattle.ec_frames.specs.Reading.{Entry, ReadsAs};
-ghost use Rattle.ec_frames.specs.RoundTrip.{IsReadBack};
+ghost use Rattle.ec_frames.specs.IsReadBack.{IsReadBack};
 ghost use Rattle.ec_frames.specs.Written.{AreBuildable};
 
 /// The frame of datagrams is read as the same datagrams, with indexes 0, 1, .. and every other field 0,

@@ -33,7 +33,8 @@ less-items (l ∷ ls) (Some q ∷ ps) zero d o p h k e = subst (λ w. IsOneMore 
 less-items (l ∷ ls) (None ∷ ps) (suc u) d o p h k e = less-items ls ps u d o p (le_of_suc-le-suc h) (le_of_suc-le-suc k) e
 less-items (l ∷ ls) (Some q ∷ ps) (suc u) d o p h k e = later (less-items ls ps u d o p (le_of_suc-le-suc h) (le_of_suc-le-suc k) e)
 
-or_swap : (a b c : Bool) → (a || (b || c)) ≡ (b || (a || c))
+-- the first of three can be asked second
+pub or_swap : (a b c : Bool) → (a || (b || c)) ≡ (b || (a || c))
 or_swap true true c = refl
 or_swap true false c = refl
 or_swap false b c = refl

@@ -1,5 +1,5 @@
 -- The slots that a prefix uses, when one more unit has its place: how often each is named, and how many they are.
-use Rattle.std.proofs.Common.{◌≡◌, ℕ, zero, suc, ◌+◌, ◌<◌, ◌≤◌, ◌==◌, ◌||◌, Bool, true, false, cond, if◌then◌else◌, List, [], ◌∷◌, length, replicate, set, get_or, slice_get, Some, None, refl, sym, ap, ◌∙◌, arith, inl, inr}
+use Rattle.std.proofs.Common.{◌≡◌, ℕ, zero, suc, ◌+◌, ◌≤◌, ◌==◌, ◌||◌, Bool, true, false, cond, if◌then◌else◌, List, [], ◌∷◌, length, replicate, set, get_or, slice_get, Some, None, refl, sym, ap, ◌∙◌, arith, inl, inr}
 use Rattle.std.specs.List.{list_any, count_by}
 use Rattle.std.proofs.lemmas.Bool.{cases_Bool, cases_eq, eq-eqb, ne_eqb}
 use Rattle.std.proofs.lemmas.List.Sums.{sum_by-cons, count_by-le-length}
@@ -9,6 +9,8 @@ use Rattle.ec_loads.specs.declared.in_use.InUse.{InUse}
 use Rattle.ec_loads.specs.Held.{no_places}
 use Rattle.ec_loads.specs.InUse.{IsOneMoreIn, HoldsSlots}
 use Rattle.ec_loads.specs.Search.{Prefix, slots_in, different_numbers, used}
+use Rattle.ec_loads.proofs.MoreLemmas.{or_swap}
+use Rattle.ec_loads.proofs.TrafficLemmas.{zero_at}
 
 -- s is one of the numbers
 abbrev pub member : ℕ → List ℕ → Bool
@@ -17,12 +19,6 @@ member s ns = list_any (λ m. s == m) ns
 -- a number counts unless it comes again
 abbrev pub once : Bool → ℕ
 once b = if b then 0 else 1
-
-pub or_swap : (a b c : Bool) → (a || (b || c)) ≡ (b || (a || c))
-or_swap true true c = refl
-or_swap true false c = refl
-or_swap false true c = refl
-or_swap false false c = refl
 
 pub member-set : (s : ℕ) (ps : Prefix) (u : ℕ) (p : Place) → slice_get ps u ≡ Some None → member s (slots_in (set ps u (Some p))) ≡ ((s == p.slot) || member s (slots_in ps))
 member-set s [] u p h = cc
@@ -105,18 +101,13 @@ set-out [] u p h = cc
 set-out (q ∷ ps) zero p h = refl
 set-out (q ∷ ps) (suc u) p h = set-out ps u p h
 
-nothing : (n s : ℕ) → let none : ℕ = 0 in get_or (replicate n none) s 0 ≡ none
-nothing zero s = refl
-nothing (suc n) zero = refl
-nothing (suc n) (suc s) = nothing n s
-
 -- the counts before any unit has its place
 pub slots-held_none : (loads : List Load) (c : InUse) → c.counts ≡ replicate 256 0 → c.different ≡ 0 → HoldsSlots (no_places loads) c.counts c.different
 slots-held_none loads c all none =
     let no_slots : slots_in (no_places loads) ≡ [] = slots-none loads in
     record {
       size = ap length all;
-      each = λ s. ap (λ w. get_or w s 0) all ∙ nothing 256 s ∙ sym (ap (count_by (λ n. s == n)) no_slots);
+      each = λ s. ap (λ w. get_or w s 0) all ∙ zero_at 256 s ∙ sym (ap (count_by (λ n. s == n)) no_slots);
       number = none ∙ sym (ap different_numbers no_slots);
     }
 

@@ -1,5 +1,5 @@
 -- How many places name each slot, and how many slots some place names.
-use Rattle.std.specs.Prelude.{◌≡◌, ℕ, ◌+◌, ◌<◌, ◌==◌, if◌then◌else◌, List, length, get_or}
+use Rattle.std.specs.Prelude.{◌≡◌, ℕ, ◌+◌, ◌==◌, if◌then◌else◌, List, length, get_or}
 use Rattle.std.specs.List.{count_by}
 use Rattle.ec_loads.specs.declared.in_use.InUse.{InUse}
 use Rattle.ec_loads.specs.Prefix.{Prefix, slots_in, used}

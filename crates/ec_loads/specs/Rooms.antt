@@ -27,9 +27,13 @@ greatest_below b f (suc n) = max (greatest_below b f n) (f n)
 abbrev pub top : List Item → ℕ → ℕ → ℕ → ℕ → ℕ
 top xs n h p f = greatest_below 40 (λ t. if travels p f t then raw_cost xs n t else 0) h
 
--- the room of a class at a value: how far its top is below one less than the value; of a closed class 12 less, for its group
+-- the room of a class at a value, where the tops of the classes are these: how far its top is below one less than the value; of a closed class 12 less, for its group
+abbrev pub room_by : List Item → (ℕ → ℕ → ℕ) → ℕ → ℕ → ℕ → ℕ
+room_by xs tops v p f = (v - 1) - (tops p f + (if is_open xs p f then 0 else 12))
+
+-- the room of a class at a value
 abbrev pub room : List Item → ℕ → ℕ → ℕ → ℕ → ℕ → ℕ
-room xs n h v p f = (v - 1) - (top xs n h p f + (if is_open xs p f then 0 else 12))
+room xs n h = room_by xs (top xs n h)
 
 -- the loads that have no place, in file order
 abbrev pub unplaced : List Load → List (Option Place) → List Load
@@ -55,14 +59,22 @@ MergeHolds v places = (b : ℕ) × (v ≡ Some b) × (b ≤ 1579) × (list_any i
 abbrev pub is_large : ℕ → ℕ → Load → Bool
 is_large p c l = (l.period == p) && nat_le c l.bytes
 
--- how many units of c bytes the classes of a period have room for
-abbrev pub room_count : List Item → ℕ → ℕ → ℕ → ℕ → ℕ → ℕ
-room_count xs n h v p c = sum_below (λ f. room xs n h v p f / c) p
+-- how many units of c bytes the classes of a period have room for, where the tops are these
+abbrev pub room_count_by : List Item → (ℕ → ℕ → ℕ) → ℕ → ℕ → ℕ → ℕ
+room_count_by xs tops v p c = sum_below (λ f. room_by xs tops v p f / c) p
 
--- the units without a place of this period and with at least c bytes are more than its classes have room for
+-- how many they have room for
+abbrev pub room_count : List Item → ℕ → ℕ → ℕ → ℕ → ℕ → ℕ
+room_count xs n h = room_count_by xs (top xs n h)
+
+-- the units without a place of this period and with at least c bytes are more than its classes have room for, where the tops are these
+abbrev pub CountHoldsBy : List Load → (ℕ → ℕ → ℕ) → Option ℕ → List (Option Place) → ℕ → ℕ → Type 0
+CountHoldsBy loads tops v places p c =
+    (b : ℕ) × (v ≡ Some b) × (0 < c) × (room_count_by (items loads places) tops b p c < count_by (is_large p c) (unplaced loads places))
+
+-- they are more than its classes have room for
 abbrev pub CountHolds : List Load → ℕ → Option ℕ → List (Option Place) → ℕ → ℕ → Type 0
-CountHolds loads n v places p c =
-    (b : ℕ) × (v ≡ Some b) × (0 < c) × (room_count (items loads places) n (lcm_of (periods_of loads)) b p c < count_by (is_large p c) (unplaced loads places))
+CountHolds loads n v places = CountHoldsBy loads (top (items loads places) n (lcm_of (periods_of loads))) v places
 
 -- whether a load has this period
 abbrev pub has_period : ℕ → Load → Bool
@@ -77,16 +89,25 @@ abbrev pub bytes_at : ℕ → List Load → ℕ
 bytes_at p ls = sum_by (λ l. if has_period p l then l.bytes else 0) ls
 
 -- what a class has room for beside a group of x bytes: all of its room where it is open, else what its room is above x
+abbrev pub room_beside_by : List Item → (ℕ → ℕ → ℕ) → ℕ → ℕ → ℕ → ℕ → ℕ
+room_beside_by xs tops v p x f = if is_open xs p f then room_by xs tops v p f else room_by xs tops v p f - x
+
 abbrev pub room_beside : List Item → ℕ → ℕ → ℕ → ℕ → ℕ → ℕ → ℕ
-room_beside xs n h v p x f = if is_open xs p f then room xs n h v p f else room xs n h v p f - x
+room_beside xs n h = room_beside_by xs (top xs n h)
 
 -- the bytes that the classes of a period have room for at most where fewer than k closed ones are used: x for each of these, and what all have room for beside x
+abbrev pub room_below_by : List Item → (ℕ → ℕ → ℕ) → ℕ → ℕ → Pair → ℕ
+room_below_by xs tops v p pair = (pair.count - 1) * pair.room + sum_below (room_beside_by xs tops v p pair.room) p
+
 abbrev pub room_below : List Item → ℕ → ℕ → ℕ → ℕ → Pair → ℕ
-room_below xs n h v p pair = (pair.count - 1) * pair.room + sum_below (room_beside xs n h v p pair.room) p
+room_below xs n h = room_below_by xs (top xs n h)
 
 -- the loads of a period need at least so many of its closed classes; none is always right
+abbrev pub IsNeededBy : List Item → (ℕ → ℕ → ℕ) → ℕ → List Load → ℕ → Pair → Type 0
+IsNeededBy xs tops v ls p pair = 1 ≤ pair.count → room_below_by xs tops v p pair < bytes_at p ls
+
 abbrev pub IsNeeded : List Item → ℕ → ℕ → ℕ → List Load → ℕ → Pair → Type 0
-IsNeeded xs n h v ls p pair = 1 ≤ pair.count → room_below xs n h v p pair < bytes_at p ls
+IsNeeded xs n h = IsNeededBy xs (top xs n h)
 
 -- the bytes of new groups in h ticks: 12 in each tick of a class, for as many classes of each period as its pair says
 abbrev pub group_bytes : ℕ → List ℕ → List Pair → ℕ
@@ -98,12 +119,19 @@ group_bytes h (p ∷ ps) (pair ∷ pairs) = 12 * (h / p) * pair.count + group_by
 abbrev pub sent_bytes : ℕ → List Load → ℕ
 sent_bytes h ls = sum_by (λ l. l.bytes * (h / l.period)) ls
 
--- some unit has no place; each period of such units has a pair and needs as many new groups as it says; and the bytes of a hyperperiod with these groups are
--- above one less than the value in each tick
-pub record AreGroups (loads : List Load) (n b : ℕ) (places : List (Option Place)) (pairs : List Pair) : Type 0 where
+-- some unit has no place; each period of such units has a pair and needs as many new groups as it says, where the tops are these; and the bytes of a hyperperiod with
+-- these groups are above one less than the value in each tick
+pub record AreGroupsBy (loads : List Load) (n b : ℕ) (tops : ℕ → ℕ → ℕ) (places : List (Option Place)) (pairs : List Pair) : Type 0 where
   pub some : 0 < length (unplaced loads places)
-  pub needed : AllZip (IsNeeded (items loads places) n (lcm_of (periods_of loads)) b (unplaced loads places)) (periods_in (unplaced loads places)) pairs
+  pub needed : AllZip (IsNeededBy (items loads places) tops b (unplaced loads places)) (periods_in (unplaced loads places)) pairs
   pub above : (b - 1) * lcm_of (periods_of loads) < sum_below (raw_cost (items loads places) n) (lcm_of (periods_of loads)) + sent_bytes (lcm_of (periods_of loads)) (unplaced loads places) + group_bytes (lcm_of (periods_of loads)) (periods_in (unplaced loads places)) pairs
 
+abbrev pub AreGroups : List Load → ℕ → ℕ → List (Option Place) → List Pair → Type 0
+AreGroups loads n b places = AreGroupsBy loads n b (top (items loads places) n (lcm_of (periods_of loads))) places
+
+abbrev pub GroupsHoldBy : List Load → ℕ → (ℕ → ℕ → ℕ) → Option ℕ → List (Option Place) → List Pair → Type 0
+GroupsHoldBy loads n tops v places pairs = (b : ℕ) × (v ≡ Some b) × AreGroupsBy loads n b tops places pairs
+
+-- so many new groups are needed, and cost too much
 abbrev pub GroupsHold : List Load → ℕ → Option ℕ → List (Option Place) → List Pair → Type 0
-GroupsHold loads n v places pairs = (b : ℕ) × (v ≡ Some b) × AreGroups loads n b places pairs
+GroupsHold loads n v places = GroupsHoldBy loads n (top (items loads places) n (lcm_of (periods_of loads))) v places

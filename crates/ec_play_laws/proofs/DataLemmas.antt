@@ -21,7 +21,7 @@ use Rattle.ec_slave.specs.Logical.{first_of, byte_at, data_place, read_from, wri
 use Rattle.ec_slave.specs.Journey.{passed}
 use Rattle.ec_frame_builder.specs.Frames.{covers, is_input, sent, sent_byte, data_of}
 use Rattle.ec_slave_laws.specs.Datagrams.{entry_out, entry_next}
-use Rattle.ec_play_laws.specs.Ready.{IsReady, AreReady}
+use Rattle.ec_play_laws.specs.IsReady.{IsReady, AreReady}
 use Rattle.ec_play_laws.specs.Arrivals.{HoldsOutputs}
 use Rattle.ec_play_laws.proofs.RangeLemmas.{Lies, IsOne, outputs-lie, address-grows}
 use Rattle.ec_play_laws.proofs.FmmuLemmas.{Fits, out-ready, in-ready, place-none, source-some}

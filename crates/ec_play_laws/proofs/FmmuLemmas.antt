@@ -17,7 +17,7 @@ use Rattle.ec_slave.specs.declared.fmmu.Direction.{Direction}
 use Rattle.ec_slave.specs.declared.fmmu.Direction.TheVariants as direction
 use Rattle.ec_slave.specs.Fmmus.{fmmu_at, has, place_of, source_of}
 use Rattle.ec_slave.proofs.MapLemmas.{place_found, place_again, source_found, source_again}
-use Rattle.ec_play_laws.specs.Ready.{IsReady}
+use Rattle.ec_play_laws.specs.IsReady.{IsReady}
 use Rattle.ec_play_laws.proofs.StartLaw.{length-record}
 
 -- a channel of the slave maps these bytes in this direction, and no other

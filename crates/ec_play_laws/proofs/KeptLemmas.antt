@@ -22,7 +22,7 @@ use Rattle.ec_slave_laws.specs.Datagrams.{framed, AreWhole, out_by, entry_out, e
 use Rattle.ec_slave_laws.proofs.StepLemmas.{out-length, effect-even, framed-step, length-framed, extent-outs}
 use Rattle.ec_slave_laws.proofs.WholeLemmas.{outs-whole}
 use Rattle.ec_slave_laws.proofs.ReadLemmas.{framed-reads}
-use Rattle.ec_play_laws.specs.Meanings.{IsReply}
+use Rattle.ec_play_laws.specs.IsReply.{IsReply}
 
 -- ---- bytes that are put into a list
 

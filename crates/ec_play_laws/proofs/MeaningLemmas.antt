@@ -8,7 +8,7 @@ use Rattle.ec_frames.proofs.ReadingFrames.{read_is, fault_is}
 use Rattle.ec_outcome.specs.declared.play.PlayFault.TheVariants as fault
 use Rattle.ec_player.specs.Sent.{Sent}
 use Rattle.ec_player.specs.Faults.{entries_of, may_change, is_reply_of, first_wrong, counter_fault, fault_by, fault_of}
-use Rattle.ec_play_laws.specs.Meanings.{IsReply}
+use Rattle.ec_play_laws.specs.IsReply.{IsReply}
 
 all-within : (p : ℕ → Bool) (a n k : ℕ) → list_all p (range_with_len a n) ≡ true → a ≤ k → k < a + n → p k ≡ true
 all-within p a zero k h l m = absurd (omega (arith, l, m))

@@ -18,7 +18,7 @@ use Rattle.ec_player.specs.Images.{last_byte, all_entries, image_after}
 use Rattle.ec_fmmu.specs.declared.seat.Seat.{Seat}
 use Rattle.ec_player.specs.Plays.{IsAnswer}
 use Rattle.ec_play_laws.specs.Started.{AreMemories, started}
-use Rattle.ec_play_laws.specs.Ready.{AreReady}
+use Rattle.ec_play_laws.specs.IsReady.{AreReady}
 use Rattle.ec_play_laws.specs.Arrivals.{HoldsOutputs, OutputsArrived, inputs_after, InputsArrived, InputsAreAbsent}
 use Rattle.ec_play_laws.proofs.RunLemmas.{Runs, runs-append}
 use Rattle.ec_play_laws.proofs.StartLaw.{start-runs}

@@ -20,7 +20,7 @@ use Rattle.ec_units.specs.Together.{stations_of}
 use Rattle.ec_units.specs.Views.{slave_view, unit_view}
 use Rattle.ec_frames.specs.Reading.{Entry}
 use Rattle.ec_frames.specs.Written.{total_of, AreBuildable}
-use Rattle.ec_frames.specs.RoundTrip.{read_back}
+use Rattle.ec_frames.specs.IsReadBack.{read_back}
 use Rattle.ec_frames.specs.declared.writing.Datagram.{Datagram}
 use Rattle.ec_fmmu.specs.declared.seat.Key.{Key}
 use Rattle.ec_fmmu.specs.declared.seat.Seat.{Seat}
@@ -55,7 +55,7 @@ use Rattle.ec_player.proofs.LineLemmas.{came-append}
 use Rattle.ec_player.proofs.TickLemmas.{bytes-append}
 use Rattle.ec_play_laws.proofs.TellLemmas.{in_address, AreasApart, told-line, stays-line}
 use Rattle.ec_play_laws.specs.Started.{AreMemories, with_station, with_records, started}
-use Rattle.ec_play_laws.specs.Ready.{IsReady, AreReady}
+use Rattle.ec_play_laws.specs.IsReady.{IsReady, AreReady}
 use Rattle.ec_play_laws.proofs.StartLemmas.{length-named}
 use Rattle.ec_play_laws.proofs.KeptLemmas.{length-put}
 use Rattle.ec_play_laws.proofs.RangeLemmas.{all-ones}

@@ -13,7 +13,7 @@ use Rattle.ec_player.specs.Lines.{AreRight}
 use Rattle.ec_slave_laws.specs.Datagrams.{framed, AreWhole, entry_out, entry_next}
 use Rattle.ec_slave_laws.proofs.ReadLemmas.{framed-reads}
 use Rattle.ec_slave_laws.proofs.LineLemmas.{through-is, whole-is}
-use Rattle.ec_play_laws.specs.Meanings.{IsReply}
+use Rattle.ec_play_laws.specs.IsReply.{IsReply}
 use Rattle.ec_play_laws.proofs.MeaningLemmas.{counter-is}
 use Rattle.ec_play_laws.proofs.KeptLemmas.{line-reply}
 

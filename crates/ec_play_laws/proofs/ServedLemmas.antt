@@ -19,7 +19,7 @@ use Rattle.ec_slave.proofs.RangeLemmas.{any_at}
 use Rattle.ec_frame_builder.specs.Frames.{goes, going, carries}
 use Rattle.ec_frame_builder.proofs.FrameLemmas.{some-carried}
 use Rattle.ec_frame_builder.proofs.GoingLemmas.{goes_by}
-use Rattle.ec_play_laws.specs.Ready.{AreReady}
+use Rattle.ec_play_laws.specs.IsReady.{AreReady}
 use Rattle.ec_play_laws.specs.Arrivals.{HoldsOutputs}
 use Rattle.ec_play_laws.proofs.TickLemmas.{is_in}
 use Rattle.ec_play_laws.proofs.DataLemmas.{AreServed}

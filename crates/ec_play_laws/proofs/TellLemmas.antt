@@ -20,7 +20,7 @@ use Rattle.ec_slave.specs.Logical.{first_of, byte_at, read_from, written_to}
 use Rattle.ec_slave.specs.Journey.{through, passed}
 use Rattle.ec_player.specs.Images.{byte_in}
 use Rattle.ec_slave_laws.specs.Datagrams.{entry_out, entry_next}
-use Rattle.ec_play_laws.specs.Ready.{IsReady, AreReady}
+use Rattle.ec_play_laws.specs.IsReady.{IsReady, AreReady}
 use Rattle.ec_play_laws.proofs.RangeLemmas.{Lies, IsOne, inputs-lie, address-grows}
 use Rattle.ec_play_laws.proofs.FmmuLemmas.{Fits, out-ready, in-ready, place-none, place-some}
 use Rattle.ec_play_laws.proofs.TickLemmas.{is_in, gain_of, written-kept, lrw, lrw-out, lrw-next, length-read}

@@ -23,7 +23,7 @@ use Rattle.ec_slave.specs.Journey.{through, passed}
 use Rattle.ec_slave.specs.Step.{effect_of}
 use Rattle.ec_slave.proofs.RangeLemmas.{any_at, any_none}
 use Rattle.ec_slave_laws.specs.Datagrams.{entry_out, entry_next}
-use Rattle.ec_play_laws.specs.Ready.{IsReady, AreReady}
+use Rattle.ec_play_laws.specs.IsReady.{IsReady, AreReady}
 use Rattle.ec_play_laws.proofs.RangeLemmas.{Lies, IsOne, outputs-lie, inputs-lie}
 use Rattle.ec_play_laws.proofs.FmmuLemmas.{IsChannel, Fits, out-ready, in-ready, place-none, place-some, source-none}
 

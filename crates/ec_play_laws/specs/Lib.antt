@@ -1,6 +1,6 @@
-pub mod Meanings
+pub mod IsReply
 pub mod Counters
 pub mod Started
-pub mod Ready
+pub mod IsReady
 pub mod Arrivals
 pub mod Examples

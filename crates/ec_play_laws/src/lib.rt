@@ -19,7 +19,7 @@ ghost use Rattle.ec_player.specs.Sent.{Sent, start_sents, all_sents};
 ghost use Rattle.ec_player.specs.Faults.{entries_of, is_reply_of, first_wrong, counter_fault, fault_of};
 ghost use Rattle.ec_player.specs.Lines.{slaves_after, AreRight, IsMemory};
 ghost use Rattle.ec_player.specs.Plays.{IsAnswer};
-ghost use Rattle.ec_play_laws.specs.Meanings.{IsReply};
+ghost use Rattle.ec_play_laws.specs.IsReply.{IsReply};
 ghost use Rattle.ec_play_laws.specs.Started.{AreMemories, started};
 ghost use Rattle.ec_play_laws.specs.Arrivals.{OutputsArrived, inputs_after, InputsArrived, InputsAreAbsent};
 ghost use Rattle.ec_play_laws.specs.Counters.{IsFirstWrong, AreAlike};

@@ -14,7 +14,7 @@ use Rattle.ec_player.specs.Lines.{bytes_of}
 use Rattle.ec_player.specs.Trips.{sent_in}
 use Rattle.ec_player.proofs.TickLemmas.{ticks-more}
 use Rattle.ec_player_threads.specs.declared.ahead.Ahead.{Ahead}
-use Rattle.ec_player_threads.specs.Windows.{sents_in, IsAhead}
+use Rattle.ec_player_threads.specs.IsAhead.{sents_in, IsAhead}
 use Rattle.ec_player_threads.proofs.RoundLemmas.{bytes-append}
 
 -- at most 8 frames for each tick

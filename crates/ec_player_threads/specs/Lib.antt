@@ -1,5 +1,5 @@
 pub mod Frames
 pub mod Threads
 pub mod Rounds
-pub mod Windows
+pub mod IsAhead
 pub mod Plays

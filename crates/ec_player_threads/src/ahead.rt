@@ -6,7 +6,7 @@ ghost use Rattle.ec_frame_builder.specs.Frames.{HasLayout};
 ghost use Rattle.ec_player.specs.Sent.{tick_sents};
 ghost use Rattle.ec_player.specs.Lines.{bytes_of};
 ghost use Rattle.ec_player_threads.specs.Frames.{bytes_in};
-ghost use Rattle.ec_player_threads.specs.Windows.{sents_in, IsAhead};
+ghost use Rattle.ec_player_threads.specs.IsAhead.{sents_in, IsAhead};
 
 use crate::boxes::BoxedFrame;
 use crate::rounds::send_all;

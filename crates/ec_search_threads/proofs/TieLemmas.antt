@@ -9,7 +9,7 @@ use Rattle.ec_loads.specs.Search.{BoundsAll, IsAtMost}
 use Rattle.ec_loads.specs.Shape.{Shape}
 use Rattle.ec_cert.specs.declared.cert.Best.{Best}
 use Rattle.ec_cert.specs.declared.part.Part.{Part}
-use Rattle.ec_cert.specs.BestPlan.{value_of, IsBestPlan}
+use Rattle.ec_cert.specs.IsBestPlan.{value_of, IsBestPlan}
 use Rattle.ec_book_shared.specs.Seats.{HasBook}
 use Rattle.ec_search_queues.specs.Lowest.{IsAtMost as IsNotAbove}
 use Rattle.ec_search_threads.specs.Turns.{IsTied}

@@ -1,3 +1,3 @@
 pub mod Turns
-pub mod Crews
-pub mod Opening
+pub mod IsCrewed
+pub mod IsOpening

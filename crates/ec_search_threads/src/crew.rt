@@ -7,7 +7,7 @@ ghost use Rattle.ec_book.specs.Books.{IsBookOf, BeganWith};
 ghost use Rattle.ec_book_shared.specs.Seats.{AreOf, IsOf};
 ghost use Rattle.ec_book_shared.specs.Closing.{IsJournal};
 ghost use Rattle.ec_search_queues.specs.Lowest.{IsNewReader};
-ghost use Rattle.ec_search_threads.specs.Crews.{IsClosedFor, IsCrewed};
+ghost use Rattle.ec_search_threads.specs.IsCrewed.{IsClosedFor, IsCrewed};
 ghost use Rattle.ec_search_threads.specs.declared.ended.Ended.TheVariants.{Refused};
 
 use crate::ended::Ended;

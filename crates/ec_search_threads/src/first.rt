@@ -4,7 +4,7 @@ ghost use Rattle.std.specs.Prelude.{◌≡◌, IfOk};
 ghost use Rattle.std.specs.Option.{ForSome};
 ghost use Rattle.ec_units.specs.Load.{loads_of};
 ghost use Rattle.ec_loads.specs.Legal.{IsLegal};
-ghost use Rattle.ec_search_threads.specs.Opening.{IsOpening};
+ghost use Rattle.ec_search_threads.specs.IsOpening.{IsOpening};
 
 use ec_branch::{first_plan, greedy};
 use ec_loads::Plan;

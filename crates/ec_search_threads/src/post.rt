@@ -3,7 +3,7 @@
 ghost use Rattle.std.specs.Prelude.{◌≡◌, ◌≢◌, ◌⊎◌, ℕ, ◌≤◌, false, true, Some, IfOk, IfErr, IfSome, length};
 ghost use Rattle.ec_units.specs.Load.{loads_of};
 ghost use Rattle.ec_symmetry.specs.Orders.{IsOrder};
-ghost use Rattle.ec_cert.specs.BestPlan.{value_of};
+ghost use Rattle.ec_cert.specs.IsBestPlan.{value_of};
 ghost use Rattle.ec_book.specs.Faults.{IsPlanOf};
 ghost use Rattle.ec_book.specs.declared.step.Step.TheVariants.{Better};
 ghost use Rattle.ec_book_shared.specs.Receipts.{holds};

@@ -11,7 +11,7 @@ use Rattle.ec_slave.specs.declared.fmmu.Direction.{Direction}
 use Rattle.ec_slave.specs.declared.fmmu.Direction.TheVariants as direction
 use Rattle.ec_slave.specs.declared.stretch.Stretch.{Stretch}
 use Rattle.ec_slave.specs.Fmmus.{IsMapped, has, place_of}
-use Rattle.ec_slave.specs.Stretches.{IsStretch, maps}
+use Rattle.ec_slave.specs.IsStretch.{IsStretch, maps}
 use Rattle.ec_slave.specs.Logical.{first_of, met, meets}
 use Rattle.ec_slave.proofs.MapLemmas.{place_found, place_again}
 use Rattle.ec_slave.proofs.RangeLemmas.{any_at, any_none}

@@ -11,7 +11,7 @@ use Rattle.ec_slave.specs.declared.fmmu.Direction.TheVariants as direction
 use Rattle.ec_slave.specs.declared.stretch.Stretch.{Stretch}
 use Rattle.ec_slave.specs.Access.{put}
 use Rattle.ec_slave.specs.Fmmus.{IsMapped, place_of, source_of}
-use Rattle.ec_slave.specs.Stretches.{IsStretch}
+use Rattle.ec_slave.specs.IsStretch.{IsStretch}
 use Rattle.ec_slave.specs.Logical.{first_of, byte_at, data_place, sent_to, met, read_from, written_to}
 use Rattle.ec_slave.proofs.MapLemmas.{source_found, source_again}
 use Rattle.ec_slave.proofs.StretchLemmas.{place_inside, place_outside}

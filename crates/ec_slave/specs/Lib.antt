@@ -1,7 +1,7 @@
 pub mod Requests
 pub mod Access
 pub mod Fmmus
-pub mod Stretches
+pub mod IsStretch
 pub mod Logical
 pub mod Step
 pub mod Idle

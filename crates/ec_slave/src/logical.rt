@@ -4,7 +4,7 @@ ghost use Rattle.std.specs.Prelude.{◌≡◌, ℕ, ◌+◌, ◌≤◌, ◌<◌,
 ghost use Rattle.ec_slave.specs.declared.fmmu.Direction.{Direction};
 ghost use Rattle.ec_slave.specs.Fmmus.{place_of};
 ghost use Rattle.ec_slave.specs.Logical.{byte_at, read_from, sent_to, written_to, meets, mapped_gain, mapped, mapped_by};
-ghost use Rattle.ec_slave.specs.Stretches.{maps};
+ghost use Rattle.ec_slave.specs.IsStretch.{maps};
 
 use crate::bytes::put;
 use crate::fmmu::{Direction, Fmmu, Fmmus, fmmus_in};

@@ -2,7 +2,7 @@
 
 ghost use Rattle.std.specs.Prelude.{◌≡◌, ◌<◌};
 ghost use Rattle.ec_slave.specs.Logical.{meets};
-ghost use Rattle.ec_slave.specs.Stretches.{IsStretch};
+ghost use Rattle.ec_slave.specs.IsStretch.{IsStretch};
 
 use crate::fmmu::{Direction, Fmmu, Fmmus};
 

@@ -11,7 +11,7 @@ use Rattle.ec_frames.specs.declared.writing.Datagram.{Datagram}
 use Rattle.ec_frames.specs.Table.{command_with}
 use Rattle.ec_frames.specs.Written.{code_in, length_word, datagram_bytes, datagrams_bytes, more_than_none, total_of, written, AreBuildable}
 use Rattle.ec_frames.specs.Reading.{Entry, word_at, size_at, BeginsWith, AreDatagrams, header_at, length_at, type_at, payload_of, ReadsAs}
-use Rattle.ec_frames.specs.RoundTrip.{read_back}
+use Rattle.ec_frames.specs.IsReadBack.{read_back}
 use Rattle.ec_frames.proofs.WrittenReads.{length-datagrams_bytes}
 use Rattle.ec_slave.specs.Step.{extent}
 use Rattle.ec_slave_laws.specs.Datagrams.{entry_bytes, some_follow, entries_bytes, headers, framed, IsWhole, AreWhole}

@@ -3,7 +3,7 @@
 ghost use Rattle.std.specs.Prelude.{◌≡◌, ◌<◌, ◌^◌, ℕ, List, All, length, sum_by};
 ghost use Rattle.ec_frames.specs.declared.writing.Datagram.{Datagram};
 ghost use Rattle.ec_frames.specs.Reading.{Entry, ReadsAs};
-ghost use Rattle.ec_frames.specs.RoundTrip.{read_back};
+ghost use Rattle.ec_frames.specs.IsReadBack.{read_back};
 ghost use Rattle.ec_frames.specs.Written.{written, AreBuildable};
 ghost use Rattle.ec_slave.specs.Step.{memory_after, frame_after};
 ghost use Rattle.ec_slave.specs.Journey.{through, passed, journey, arrived};

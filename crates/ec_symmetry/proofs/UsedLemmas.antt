@@ -5,7 +5,8 @@ use Rattle.ec_units.specs.declared.slave.Place.{Place}
 use Rattle.ec_units.specs.declared.unit.Load.{Load}
 use Rattle.ec_loads.specs.Held.{no_places}
 use Rattle.ec_loads.specs.Search.{Prefix, slots_in, different_numbers, used}
-pub use Rattle.ec_loads.proofs.UsedLemmas.{member, once, or_swap, member-set, used-set, slots-none}
+pub use Rattle.ec_loads.proofs.MoreLemmas.{or_swap}
+pub use Rattle.ec_loads.proofs.UsedLemmas.{member, once, member-set, used-set, slots-none}
 
 -- the slots in use are 0, 1, .. without a gap
 pub record NoGap (ps : Prefix) : Type 0 where

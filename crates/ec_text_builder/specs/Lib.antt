@@ -1,1 +1,1 @@
-pub mod Drafts
+pub mod IsAdded

@@ -1,7 +1,7 @@
 //! A text under way.
 
 ghost use Rattle.std.specs.Prelude.{◌≡◌, [], None, Some, IfErr, IfOk, string_bytes};
-ghost use Rattle.ec_text_builder.specs.Drafts.{IsAdded};
+ghost use Rattle.ec_text_builder.specs.IsAdded.{IsAdded};
 
 use std::alloc::{AllocError, Global};
 use std::fmt::{Display, Write};

@@ -15,7 +15,7 @@ use Rattle.ec_loads.specs.Search.{BoundsAll, HasNoPlan, IsPartialTree, IsAtMost,
 use Rattle.ec_cert.specs.declared.lists.UnitLine.{UnitLine}
 use Rattle.ec_cert.specs.declared.cert.Best.{Best}
 use Rattle.ec_cert.specs.declared.part.Part.{Part}
-use Rattle.ec_cert.specs.BestPlan.{value_of, IsBestPlan}
+use Rattle.ec_cert.specs.IsBestPlan.{value_of, IsBestPlan}
 use Rattle.ec_cert.specs.Shapes.{CertView, shape_of}
 use Rattle.ec_tree.specs.Trees.{TreesBound}
 use Rattle.ec_checker.specs.Certified.{lines_of}
@@ -33,7 +33,7 @@ use Rattle.ec_book.specs.Books.{IsBookOf}
 use Rattle.ec_book.specs.Finishing.{GrowsFrom, IsFinishedOf}
 use Rattle.ec_book.specs.Parts.{LeavesOthers, ClosesPart}
 use Rattle.ec_book.specs.declared.book.Finished.{Finished}
-use Rattle.ec_search_threads.specs.Crews.{IsCrewed}
+use Rattle.ec_search_threads.specs.IsCrewed.{IsCrewed}
 use Rattle.std.specs.Prelude.{nat_lt, true, false}
 use Rattle.ec_workers.specs.Answers.{is_strong, Asked, asked_beyond, GoesBeyond, HasCut, IsCut, IsUnproved, IsOutcome, KeepsToPart, tree_in, value_in}
 use Rattle.ec_outcome.specs.Searched.{searched_by}

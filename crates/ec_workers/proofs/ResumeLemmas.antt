@@ -18,7 +18,7 @@ use Rattle.ec_symmetry.specs.Orders.{IsOrder}
 use Rattle.ec_tree.specs.Trees.{LevelsBound}
 use Rattle.ec_cert.specs.declared.cert.Best.{Best}
 use Rattle.ec_cert.specs.declared.part.Part.{Part}
-use Rattle.ec_cert.specs.BestPlan.{value_of, IsBestPlan}
+use Rattle.ec_cert.specs.IsBestPlan.{value_of, IsBestPlan}
 use Rattle.ec_cert.specs.Shapes.{CertView, shape_of}
 use Rattle.ec_cert.specs.Versions.{rules_of}
 use Rattle.ec_cert.specs.LeafKinds.{kinds_in}
@@ -27,7 +27,7 @@ use Rattle.ec_checker.specs.Certified.{IsShown}
 use Rattle.ec_checker.proofs.HeadLemmas.{order_ready}
 use Rattle.ec_book.specs.Finishing.{GrowsFrom}
 use Rattle.ec_book.specs.declared.book.Finished.{Finished}
-use Rattle.ec_search_threads.specs.Crews.{IsCrewed}
+use Rattle.ec_search_threads.specs.IsCrewed.{IsCrewed}
 use Rattle.ec_search_threads.proofs.TieLemmas.{least-at, at_most-best}
 use Rattle.ec_outcome.specs.declared.search.Outcome.{Outcome}
 use Rattle.ec_outcome.specs.declared.search.Outcome.TheVariants as outcome

@@ -24,7 +24,7 @@ use Rattle.ec_cert.specs.LeafKinds.{kinds_in}
 use Rattle.ec_cert.specs.Versions.{rules_of}
 use Rattle.ec_cert.specs.WellFormed.{HasLevels, IsUnitLine, IsPlaceLine, IsBestOrNone, IsLevelLine, IsWellFormed}
 use Rattle.ec_tree.specs.Trees.{TreesBound}
-use Rattle.ec_cert.specs.BestPlan.{value_of, IsBestPlan}
+use Rattle.ec_cert.specs.IsBestPlan.{value_of, IsBestPlan}
 use Rattle.ec_checker.specs.Certified.{line_of, lines_of, IsCertified, IsAnswer, verdict_of}
 use Rattle.ec_checker.specs.Laws.{FaultsRefute}
 use Rattle.ec_checker.specs.Levels.{IsGreatestLevel}

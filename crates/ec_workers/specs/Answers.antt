@@ -11,7 +11,7 @@ use Rattle.ec_symmetry.specs.Orders.{IsOrder}
 use Rattle.ec_cert.specs.declared.cert.Best.{Best}
 use Rattle.ec_cert.specs.declared.part.Part.{Part}
 use Rattle.ec_cert.specs.Shapes.{CertView, shape_of, cert_view}
-use Rattle.ec_cert.specs.BestPlan.{value_of, IsBestPlan}
+use Rattle.ec_cert.specs.IsBestPlan.{value_of, IsBestPlan}
 use Rattle.ec_checker.specs.Levels.{IsGreatestLevel}
 use Rattle.ec_branch.specs.Weights.{IsSearchOrder}
 use Rattle.ec_branch.specs.StrongOrders.{IsStrongOrder}

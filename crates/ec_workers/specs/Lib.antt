@@ -1,5 +1,5 @@
 pub mod Answers
-pub mod Desks
+pub mod IsClear
 pub mod Outcomes
-pub mod Rooms
+pub mod IsRoomFor
 pub mod Turns

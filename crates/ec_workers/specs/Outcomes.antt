@@ -13,7 +13,7 @@ use Rattle.ec_cert.specs.declared.cert.Best.{Best}
 use Rattle.ec_cert.specs.Shapes.{CertView}
 use Rattle.ec_cert.specs.WellFormed.{IsWellFormed}
 use Rattle.ec_loads.specs.Shape.{Shape}
-use Rattle.ec_cert.specs.BestPlan.{value_of, IsBestPlan}
+use Rattle.ec_cert.specs.IsBestPlan.{value_of, IsBestPlan}
 use Rattle.ec_checker.specs.Certified.{lines_of, IsCertified, IsAnswer}
 use Rattle.ec_checker.specs.declared.fault.CheckFault.{CheckFault}
 use Rattle.ec_checker.specs.declared.fault.CheckFault.TheVariants as fault

@@ -1,6 +1,6 @@
 -- What a turn of a worker finds.
 use Rattle.std.specs.Prelude.{◌≡◌, ℕ, Option, Some, None}
-use Rattle.ec_cert.specs.BestPlan.{value_of}
+use Rattle.ec_cert.specs.IsBestPlan.{value_of}
 use Rattle.ec_book.specs.Steps.{IsBelow}
 use Rattle.ec_book.specs.Views.{BookView}
 use Rattle.ec_workers.specs.declared.turn.Turn.{Turn}

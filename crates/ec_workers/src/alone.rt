@@ -5,7 +5,7 @@ ghost use Rattle.ec_units.specs.Load.{loads_of};
 ghost use Rattle.ec_loads.specs.Line.{line_by};
 ghost use Rattle.ec_symmetry.specs.Orders.{IsOrder, IsReachedPrefix};
 ghost use Rattle.ec_book.specs.Books.{IsBookOf, IsSameSearch};
-ghost use Rattle.ec_workers.specs.Desks.{IsClear};
+ghost use Rattle.ec_workers.specs.IsClear.{IsClear};
 
 use crate::desk::Desk;
 use crate::turn::{ALONE, Turn, take_turn};

@@ -1,7 +1,7 @@
 //! What a worker explores in.
 
 ghost use Rattle.std.specs.Prelude.{◌≡◌, IfOk};
-ghost use Rattle.ec_workers.specs.Desks.{IsClear};
+ghost use Rattle.ec_workers.specs.IsClear.{IsClear};
 
 use ec_bounds::Rest;
 use ec_loads::Loads;

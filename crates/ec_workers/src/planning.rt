@@ -5,7 +5,7 @@ ghost use Rattle.ec_units.specs.Load.{loads_of};
 ghost use Rattle.ec_loads.specs.Search.{open_count};
 ghost use Rattle.ec_loads.specs.Shape.{open_leaf};
 ghost use Rattle.ec_symmetry.specs.Orders.{IsOrder};
-ghost use Rattle.ec_cert.specs.BestPlan.{value_of};
+ghost use Rattle.ec_cert.specs.IsBestPlan.{value_of};
 ghost use Rattle.ec_cert.specs.Parts.{IsPart};
 ghost use Rattle.ec_cert.specs.Shapes.{cert_view, shape_of};
 ghost use Rattle.ec_book.specs.Books.{IsBookOf, IsSameSearch};
@@ -13,7 +13,7 @@ ghost use Rattle.ec_search_threads.specs.declared.ended.Ended.TheVariants.{Time 
 ghost use Rattle.ec_workers.specs.Answers.{Asked, asked_beyond, asked_for, GoesBeyond, HasCut, HasOrder, HasRules, HasSearchOrder, IsOutcome, is_strong as strong_spec, KeepsToPart, tree_in, value_in};
 ghost use Rattle.ec_outcome.specs.Searched.{searched_by};
 ghost use Rattle.ec_workers.specs.Outcomes.{IsFound, IsPartialCert};
-ghost use Rattle.ec_workers.specs.Rooms.{IsRoomFor};
+ghost use Rattle.ec_workers.specs.IsRoomFor.{IsRoomFor};
 ghost use Rattle.ec_outcome.specs.declared.search.Cut.{Cut};
 ghost use Rattle.ec_outcome.specs.declared.search.Cut.TheVariants.{Budget, Journal, Memory, Parts, Time};
 ghost use Rattle.ec_outcome.specs.declared.search.SolveFault.TheVariants.{OutOfMemory};

@@ -1,7 +1,7 @@
 //! What the end of a search is told with, made before it begins, so that its end takes no memory.
 
 ghost use Rattle.std.specs.Prelude.{◌≡◌, ◌≤◌, IfOk, length, vec_len, vec_capacity};
-ghost use Rattle.ec_workers.specs.Rooms.{IsRoomFor};
+ghost use Rattle.ec_workers.specs.IsRoomFor.{IsRoomFor};
 
 use crate::certify::lines_of;
 use ec_cert::UnitLines;

@@ -7,7 +7,7 @@ ghost use Rattle.ec_loads.specs.Search.{IsPartialTree, node_count};
 ghost use Rattle.ec_symmetry.specs.Orders.{IsOrder, IsReachedPrefix, prefix_of};
 ghost use Rattle.ec_cert.specs.Shapes.{shape_of};
 ghost use Rattle.ec_book.specs.Books.{IsBookOf, IsSameSearch};
-ghost use Rattle.ec_workers.specs.Desks.{IsClear};
+ghost use Rattle.ec_workers.specs.IsClear.{IsClear};
 ghost use Rattle.ec_workers.specs.Turns.{IsLowered, FindsLower};
 ghost use Rattle.ec_search_threads.specs.declared.ended.Ended.{Ended};
 ghost use Rattle.ec_workers.specs.declared.turn.Turn.TheVariants.{Stopped};

@@ -6,7 +6,7 @@ ghost use Rattle.ec_loads.specs.Held.{no_places};
 ghost use Rattle.ec_loads.specs.Line.{line_by};
 ghost use Rattle.ec_loads.specs.Search.{IsPartialTree};
 ghost use Rattle.ec_symmetry.specs.Orders.{IsOrder};
-ghost use Rattle.ec_cert.specs.BestPlan.{value_of, IsBestPlan};
+ghost use Rattle.ec_cert.specs.IsBestPlan.{value_of, IsBestPlan};
 ghost use Rattle.ec_cert.specs.Shapes.{cert_view, shape_of};
 ghost use Rattle.ec_checker.specs.Certified.{lines_of as lines_spec};
 ghost use Rattle.ec_checker.specs.Levels.{IsGreatestLevel};

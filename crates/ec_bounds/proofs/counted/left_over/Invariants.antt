@@ -1,6 +1,6 @@
 use Rattle.std.proofs.Common.{◌≡◌, ◌-◌, ◌/◌}
 use Rattle.ec_loads.specs.Cost.{items, sum_below}
-use Rattle.ec_bounds.specs.Shown.{room_by}
+use Rattle.ec_loads.specs.Rooms.{room_by}
 use Rattle.ec_bounds.proofs.counted.left_over.Given as goal
 
 abbrev pub invariant-loop-phase : goal.invariant-loop-phase

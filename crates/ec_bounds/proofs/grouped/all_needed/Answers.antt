@@ -1,6 +1,6 @@
 use Rattle.std.proofs.Common.{refl, arith}
 use Rattle.ec_loads.specs.Cost.{items}
-use Rattle.ec_bounds.specs.Shown.{IsNeededBy}
+use Rattle.ec_loads.specs.Rooms.{IsNeededBy}
 use Rattle.ec_bounds.proofs.StepLemmas.{zip_length, zip_first, zip_join, zip_done}
 use Rattle.ec_bounds.proofs.grouped.all_needed.Goals as goal
 

@@ -1,7 +1,7 @@
 use Rattle.std.proofs.Common.{drop}
 use Rattle.std.specs.List.{AllZip}
 use Rattle.ec_loads.specs.Cost.{items}
-use Rattle.ec_bounds.specs.Shown.{IsNeededBy}
+use Rattle.ec_loads.specs.Rooms.{IsNeededBy}
 use Rattle.ec_bounds.proofs.grouped.all_needed.Given as goal
 
 abbrev pub invariant-loop-i : goal.invariant-loop-i

@@ -3,9 +3,8 @@ use Rattle.std.specs.List.{AllZip}
 use Rattle.ec_hyper.specs.Lcm.{lcm_of}
 use Rattle.ec_units.specs.Load.{periods_of}
 use Rattle.ec_loads.specs.Cost.{items}
-use Rattle.ec_loads.specs.Rooms.{unplaced, periods_in, group_bytes, sent_bytes}
+use Rattle.ec_loads.specs.Rooms.{unplaced, periods_in, group_bytes, sent_bytes, IsNeededBy}
 use Rattle.ec_bounds.specs.Left.{demand_of}
-use Rattle.ec_bounds.specs.Shown.{IsNeededBy}
 use Rattle.ec_bounds.proofs.LeftLemmas.{demand-flags}
 use Rattle.ec_bounds.proofs.GroupLemmas.{sent-demand}
 use Rattle.ec_bounds.proofs.StepLemmas.{left_of, groups-iff, groups-need, zip_length}

@@ -1,8 +1,7 @@
 use Rattle.std.proofs.Common.{◌-◌, sym, ◌∙◌}
 use Rattle.ec_loads.specs.Cost.{items}
-use Rattle.ec_loads.specs.Rooms.{is_open}
+use Rattle.ec_loads.specs.Rooms.{is_open, room_by}
 use Rattle.std.proofs.lemmas.Bool.{cond-true, cond-false}
-use Rattle.ec_bounds.specs.Shown.{room_by}
 use Rattle.ec_bounds.proofs.rooms.room_beside.Goals as goal
 
 pub returns-then-is_open_in : goal.returns-then-is_open_in

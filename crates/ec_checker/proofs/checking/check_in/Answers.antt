@@ -6,7 +6,7 @@ use Rattle.ec_loads.specs.Held.{Held}
 use Rattle.ec_cert.specs.Shapes.{cert_view}
 use Rattle.ec_symmetry.specs.Orders.{IsOrder}
 use Rattle.ec_symmetry.specs.Ruled.{line_rules}
-use Rattle.ec_cert.specs.BestPlan.{value_of}
+use Rattle.ec_cert.specs.IsBestPlan.{value_of}
 use Rattle.ec_checker.specs.Certified.{HasHead, IsCertified, IsLevelIn, IsLevelFault}
 use Rattle.ec_checker.specs.Judged.{IsReady}
 use Rattle.ec_checker.specs.declared.fault.CheckFault.TheVariants.{OutOfMemory}

@@ -1,18 +1,18 @@
-use Rattle.std.proofs.Common.{◌≡◌, ◌<◌, All, ◌∷◌, length, slice_get, Some, None, ap, sym, subst, ◌∙◌, arith, refl, rules}
+use Rattle.std.proofs.Common.{◌≡◌, ◌<◌, All, ◌∷◌, length, slice_get, Some, None, ap, sym, subst, ◌∙◌, arith, inl, refl}
 use Rattle.std.proofs.lemmas.Grind.{common_steps}
 use Rattle.std.proofs.lemmas.List.Elements.{All-tail}
 use Rattle.std.proofs.lemmas.Option.{slice_get_within}
 use Rattle.ec_loads.specs.Held.{Held}
 use Rattle.ec_bounds.proofs.HeldLemmas.{with_place, restored, rest_follows, flags_count, still_within}
-use Rattle.ec_cert.specs.Shapes.{shape_of}
+use Rattle.ec_cert.specs.Shapes.{shape_of, shapes_of}
 use Rattle.ec_cert.proofs.TreeLemmas.{shape_of-trees}
 use Rattle.ec_symmetry.specs.Reached.{here, there}
 use Rattle.ec_symmetry.specs.Ruled.{line_rules}
 use Rattle.ec_checker.specs.Judged.{IsReady}
-use Rattle.ec_checker.specs.Levels.{AreIn}
+use Rattle.ec_checker.specs.Levels.{AreAtMost, AreIn}
 use Rattle.ec_loads.specs.Line.{line_of}
 use Rattle.ec_checker.proofs.BelowLemmas.{AreChildren, children-are, slots-set}
-use Rattle.ec_checker.proofs.LevelLemmas.{lowered_kept, lowered_pass, lowered_from, lowered_step, lowered_no_child, lowered_no_tree, lowered_split, lowered_open, shape_of-OpenLeaf}
+use Rattle.ec_checker.proofs.LevelLemmas.{kids_of, lowered_first, lowered_kept, lowered_pass, lowered_from, lowered_step, lowered_no_child, lowered_no_tree, lowered_split, lowered_open, shape_of-OpenLeaf}
 use Rattle.ec_checker.proofs.WalkLemmas.{ready_at}
 use Rattle.ec_checker.proofs.shown.+lowered.Goals.{then-not-is_passed, else-not-is_passed}
 use Rattle.ec_checker.proofs.shown.+lowered.Goals as goal
@@ -20,19 +20,25 @@ use Rattle.ec_checker.proofs.shown.+lowered.Goals as goal
 pub loop-i-init : goal.loop-i-init
 loop-i-init t c =
     let args = c.args.loads.now in
+    let first = c.lowered_at_once-first in
+    let kids = c.children_by-places.ensures ∙ ap (λ (w : Held). kids_of (line_rules c.args.rules) w c.from-unit.result) first.ensures.same in
     record {
-      same = refl;
-      left = c.requires.left;
-      each = subst (AreChildren (line_of (line_rules c.args.rules) args) c.from-unit.result) (sym c.children_by-places.ensures) (children-are (line_of (line_rules c.args.rules) args) args.places c.from-unit.result);
-      lowers = λ least all. subst (λ w. lowered_from (line_rules c.args.rules) args c.as_ref-trees.result.now.items c.from-unit.result c.in-Some.later.now w c.args.level least) c.children_by-places.ensures all;
+      same = first.ensures.same;
+      left = first.ensures.left;
+      each = subst (AreChildren (line_of (line_rules c.args.rules) args) c.from-unit.result) (sym kids) (children-are (line_of (line_rules c.args.rules) args) args.places c.from-unit.result);
+      lowers = λ least all. subst (λ w. lowered_from (line_rules c.args.rules) args c.as_ref-trees.result.now.items c.from-unit.result c.in-Some.later.now w first.result least) kids all;
     }
 
 pub returns-in_default-clause-lowered : goal.returns-in_default-clause-lowered
 returns-in_default-clause-lowered t c =
     let args = c.args.loads.now in
     let from = c.in-Some.ensures.cases.0 ∙ ap (λ w. w ∷ c.in-Some.later.now) (sym c.from-unit.ensures) in
-    lowered_split (line_rules c.args.rules) args c.args.tree.now c.as_ref-trees.result.now c.args.order.now c.in-Some.later.now c.from-unit.result c.args.level c.loop-i.least (shape_of-trees c.args.tree.now c.in-Split.trees c.as_ref-trees.result.now c.in-Split.is c.as_ref-trees.ensures) from
-    (c.loop-i.invariant.lowers c.loop-i.least (lowered_no_child (line_rules c.args.rules) args _ c.from-unit.result c.in-Some.later.now c.loop-i.places c.loop-i.least c.in_default.ensures.steps.0))
+    let first = c.lowered_at_once-first in
+    let shape = shape_of-trees c.args.tree.now c.in-Split.trees c.as_ref-trees.result.now c.in-Split.is c.as_ref-trees.ensures in
+    lowered_first (line_rules c.args.rules) args c.args.tree.now c.as_ref-trees.result.now c.args.order.now c.in-Some.later.now c.from-unit.result c.args.level first.result c.loop-i.least shape from first.ensures.low
+    (subst (λ ts. AreAtMost (line_of (line_rules c.args.rules) args) (shapes_of ts) args.places c.from-unit.result c.args.level first.result) c.as_slice.ensures.value first.ensures.most)
+    (lowered_split (line_rules c.args.rules) args c.args.tree.now c.as_ref-trees.result.now c.args.order.now c.in-Some.later.now c.from-unit.result first.result c.loop-i.least shape from
+    (c.loop-i.invariant.lowers c.loop-i.least (lowered_no_child (line_rules c.args.rules) args _ c.from-unit.result c.in-Some.later.now c.loop-i.places c.loop-i.least c.in_default.ensures.steps.0)))
 
 pub place-requires : goal.place-requires
 place-requires t c =
@@ -95,8 +101,12 @@ pub returns-after-loop-i-clause-lowered : goal.returns-after-loop-i-clause-lower
 returns-after-loop-i-clause-lowered t c =
     let args = c.args.loads.now in
     let from = c.in-Some.ensures.cases.0 ∙ ap (λ w. w ∷ c.in-Some.later.now) (sym c.from-unit.ensures) in
-    lowered_split (line_rules c.args.rules) args c.args.tree.now c.as_ref-trees.result.now c.args.order.now c.in-Some.later.now c.from-unit.result c.args.level c.loop-i.least (shape_of-trees c.args.tree.now c.in-Split.trees c.as_ref-trees.result.now c.in-Split.is c.as_ref-trees.ensures) from
-    (c.loop-i.invariant.lowers c.loop-i.least (lowered_no_tree (line_rules c.args.rules) args c.as_ref-trees.result.now.items c.from-unit.result c.in-Some.later.now c.loop-i.places c.loop-i.i c.loop-i.least (omega (arith, c.loop-i-test.false, c.len-i-end.ensures))))
+    let first = c.lowered_at_once-first in
+    let shape = shape_of-trees c.args.tree.now c.in-Split.trees c.as_ref-trees.result.now c.in-Split.is c.as_ref-trees.ensures in
+    lowered_first (line_rules c.args.rules) args c.args.tree.now c.as_ref-trees.result.now c.args.order.now c.in-Some.later.now c.from-unit.result c.args.level first.result c.loop-i.least shape from first.ensures.low
+    (subst (λ ts. AreAtMost (line_of (line_rules c.args.rules) args) (shapes_of ts) args.places c.from-unit.result c.args.level first.result) c.as_slice.ensures.value first.ensures.most)
+    (lowered_split (line_rules c.args.rules) args c.args.tree.now c.as_ref-trees.result.now c.args.order.now c.in-Some.later.now c.from-unit.result first.result c.loop-i.least shape from
+    (c.loop-i.invariant.lowers c.loop-i.least (lowered_no_tree (line_rules c.args.rules) args c.as_ref-trees.result.now.items c.from-unit.result c.in-Some.later.now c.loop-i.places c.loop-i.i c.loop-i.least (omega (arith, c.loop-i-test.false, c.len-i-end.ensures)))))
 
 pub returns-in-OpenLeaf-clause-lowered : goal.returns-in-OpenLeaf-clause-lowered
 returns-in-OpenLeaf-clause-lowered t c =
@@ -107,12 +117,29 @@ children_by-places-requires t c =
     let args = c.args.loads.now in
     let u = c.from-unit.result in
     let ready = ready_at args.places c.args.order.now c.in-Some.later.now c.in-Some.unit.now u c.requires.ready c.in-Some.ensures.cases.0 c.from-unit.ensures in
-    slice_get_within args.places u None ready.0
+    subst (λ (w : Held). u < length w.places) (sym c.lowered_at_once-first.ensures.same) (slice_get_within args.places u None ready.0)
+
+pub lowered_at_once-first-requires : goal.lowered_at_once-first-requires
+lowered_at_once-first-requires t c =
+    let args = c.args.loads.now in
+    let ready = ready_at args.places c.args.order.now c.in-Some.later.now c.in-Some.unit.now c.from-unit.result c.requires.ready c.in-Some.ensures.cases.0 c.from-unit.ensures in
+    record { free = ready.0; left = c.requires.left }
+
+pub returns-then-level-here-clause-lowered : goal.returns-then-level-here-clause-lowered
+returns-then-level-here-clause-lowered t c =
+    lowered_kept (line_rules c.args.rules) c.args.loads.now (shape_of c.args.tree.now) c.args.order.now c.args.level c.open_level-here.result c.ticks-ticks.ensures.units c.requires.ready c.requires.slots c.requires.units
+    (c.open_level-here.ensures (line_rules c.args.rules)) (inl c.if-level-here.true)
 
 pub returns-then-is_kept-clause-lowered : goal.returns-then-is_kept-clause-lowered
 returns-then-is_kept-clause-lowered t c =
-    lowered_kept (line_rules c.args.rules) c.args.loads.now (shape_of c.args.tree.now) c.args.order.now c.args.level c.open_level-here.result c.ticks-ticks.ensures.units c.requires.ready c.requires.slots c.requires.units
-    (c.open_level-here.ensures (line_rules c.args.rules)) (c.is_kept.ensures c.if-is_kept.true)
+    let args = c.args.loads.now in
+    let from = c.in-Some.ensures.cases.0 ∙ ap (λ w. w ∷ c.in-Some.later.now) (sym c.from-unit.ensures) in
+    let first = c.lowered_at_once-first in
+    let shape = shape_of-trees c.args.tree.now c.in-Split.trees c.as_ref-trees.result.now c.in-Split.is c.as_ref-trees.ensures in
+    lowered_first (line_rules c.args.rules) args c.args.tree.now c.as_ref-trees.result.now c.args.order.now c.in-Some.later.now c.from-unit.result c.args.level first.result first.result shape from first.ensures.low
+    (subst (λ ts. AreAtMost (line_of (line_rules c.args.rules) args) (shapes_of ts) args.places c.from-unit.result c.args.level first.result) c.as_slice.ensures.value first.ensures.most)
+    (lowered_kept (line_rules c.args.rules) args (shape_of c.args.tree.now) c.args.order.now first.result c.open_level-here.result c.ticks-ticks.ensures.units c.requires.ready c.requires.slots c.requires.units
+    (c.open_level-here.ensures (line_rules c.args.rules)) (c.is_kept.ensures c.if-is_kept.true))
 
 pub loop-i-preserved : goal.loop-i-preserved
 loop-i-preserved t c =

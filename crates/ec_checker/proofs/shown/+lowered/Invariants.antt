@@ -12,8 +12,8 @@ decreases-lowered l = length l.order.now
 abbrev pub invariant-loop-i : goal.invariant-loop-i
 invariant-loop-i l =
     record {
-      same : l.loads ≡ l.initial.loads;
+      same : l.loads ≡ l.fn.loads;
       left : IsRestOf l.rest l.loads;
-      each : AreChildren (line_of (line_rules l.rules) l.initial.loads) l.unit l.places;
-      lowers : Lowers (line_rules l.rules) l.initial.loads l.trees.items l.unit l.later l.places l.i l.level l.least;
+      each : AreChildren (line_of (line_rules l.rules) l.fn.loads) l.unit l.places;
+      lowers : Lowers (line_rules l.rules) l.fn.loads l.trees.items l.unit l.later l.places l.i l.first l.least;
     }

@@ -4,7 +4,7 @@ use Rattle.ec_units.specs.Load.{loads_of}
 use Rattle.ec_loads.specs.Line.{Rules}
 use Rattle.ec_loads.specs.Shape.{Shape}
 use Rattle.ec_cert.specs.declared.part.Part.{Part}
-use Rattle.ec_search_threads.specs.Crews.{IsClosedFor, IsCrewed}
+use Rattle.ec_search_threads.specs.IsCrewed.{IsClosedFor, IsCrewed}
 use Rattle.ec_search_threads.specs.declared.crew.Crewed.{Crewed}
 use Rattle.ec_search_threads.specs.declared.crew.CrewFault.{CrewFault}
 use Rattle.ec_search_threads.proofs.crew.search_by_crew.Goals as goal

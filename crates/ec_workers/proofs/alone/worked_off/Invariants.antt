@@ -1,5 +1,5 @@
 use Rattle.ec_book.specs.Books.{IsBookOf, IsSameSearch}
-use Rattle.ec_workers.specs.Desks.{IsClear}
+use Rattle.ec_workers.specs.IsClear.{IsClear}
 use Rattle.ec_workers.proofs.alone.worked_off.Given as goal
 
 abbrev pub invariant-loop : goal.invariant-loop

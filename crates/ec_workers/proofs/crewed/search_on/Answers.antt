@@ -1,6 +1,6 @@
 use Rattle.std.proofs.Common.{ℕ, List, subst, sym, arith}
 use Rattle.ec_cert.specs.declared.part.Part.{Part}
-use Rattle.ec_search_threads.specs.Crews.{IsCrewed}
+use Rattle.ec_search_threads.specs.IsCrewed.{IsCrewed}
 use Rattle.ec_outcome.specs.Searched.{searched_by}
 use Rattle.ec_workers.specs.Answers.{asked_beyond, IsOutcome, KeepsToPart}
 use Rattle.ec_workers.proofs.crewed.search_on.Goals as goal

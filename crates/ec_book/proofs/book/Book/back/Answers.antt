@@ -3,7 +3,7 @@ use Rattle.ec_loads.specs.Line.{line_by}
 use Rattle.ec_cert.specs.Shapes.{shape_of}
 use Rattle.ec_symmetry.specs.Ruled.{line_rules}
 use Rattle.ec_book.specs.declared.piece.Piece.TheVariants.{Free, Taken}
-use Rattle.ec_cert.specs.BestPlan.{value_of}
+use Rattle.ec_cert.specs.IsBestPlan.{value_of}
 use Rattle.ec_book.specs.Steps.{start}
 use Rattle.ec_book.specs.Views.{book_view}
 use Rattle.ec_book.proofs.HistoryLemmas.{granted-le, taken-le}

@@ -1,7 +1,7 @@
 use Rattle.std.proofs.Common.{◌≡◌, ◌∙◌, refl, sym, ap, arith, subst, All}
 use Rattle.ec_loads.specs.Line.{line_by}
 use Rattle.ec_cert.specs.Shapes.{shape_of}
-use Rattle.ec_cert.specs.BestPlan.{value_of}
+use Rattle.ec_cert.specs.IsBestPlan.{value_of}
 use Rattle.ec_symmetry.specs.Ruled.{line_rules}
 use Rattle.ec_book.specs.Numbered.{numbered, plain}
 use Rattle.ec_book.specs.Grown.{grown}
@@ -41,7 +41,10 @@ returns-clause-ok c =
       closed = drawn-closed given line order pieces prefixes reports value b.spent made shape is;
       pieces = (grown (numbered 0 given) reports, is, made.pieces_are, made.tree);
       live = drawn-open given line order pieces prefixes reports value b.spent made shape is;
-      left = c.open_pieces-left.ensures ∙ ap (λ v. live_count v.pieces) (sym c.self.view_is) ∙ sym (drawn-open given line order pieces prefixes reports value b.spent made shape is);
+      left =
+          let live = c.open_pieces-left.ensures ∙ ap (λ v. live_count v.pieces) (sym c.self.view_is) in
+          let open_leaves = drawn-open given line order pieces prefixes reports value b.spent made shape is in
+          omega (arith, live, open_leaves);
       spent = refl;
       nodes = drawn-nodes given line order pieces prefixes reports value b.spent made shape is;
       log = c.new.ensures;

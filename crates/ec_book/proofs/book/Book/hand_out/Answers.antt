@@ -5,7 +5,7 @@ use Rattle.ec_loads.specs.Search.{open_count}
 use Rattle.ec_cert.specs.Shapes.{shape_of}
 use Rattle.ec_symmetry.specs.Ruled.{line_rules}
 use Rattle.ec_book.specs.declared.piece.Piece.TheVariants.{Free, Taken}
-use Rattle.ec_cert.specs.BestPlan.{value_of}
+use Rattle.ec_cert.specs.IsBestPlan.{value_of}
 use Rattle.ec_book.specs.Steps.{start, granted}
 use Rattle.ec_book.specs.Parts.{is_of_part}
 use Rattle.ec_book.proofs.ShareLemmas.{parted-took}

@@ -4,7 +4,7 @@ use Rattle.ec_cert.specs.Shapes.{shape_of}
 use Rattle.ec_symmetry.specs.Ruled.{line_rules}
 use Rattle.ec_book.specs.Steps.{start, IsBelow}
 use Rattle.ec_book.specs.Faults.{IsPlanOf}
-use Rattle.ec_cert.specs.BestPlan.{value_of}
+use Rattle.ec_cert.specs.IsBestPlan.{value_of}
 use Rattle.ec_book.specs.Parts.{is_of_part}
 use Rattle.ec_book.proofs.KeepLemmas.{counted-better, grown-better}
 use Rattle.ec_book.proofs.book.Book.improve.Goals as goal

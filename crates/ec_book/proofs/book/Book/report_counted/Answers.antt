@@ -7,7 +7,7 @@ use Rattle.ec_book.specs.declared.piece.Piece.TheVariants.{Free, Taken, Ended}
 use Rattle.ec_symmetry.specs.Orders.{prefix_of}
 use Rattle.ec_book.specs.Open.{AreOpened, open_places}
 use Rattle.ec_book.specs.declared.step.Step.TheVariants.{Reported}
-use Rattle.ec_cert.specs.BestPlan.{value_of}
+use Rattle.ec_cert.specs.IsBestPlan.{value_of}
 use Rattle.ec_book.specs.Steps.{start}
 use Rattle.ec_book.specs.Views.{book_view}
 use Rattle.ec_book.specs.Faults.{IsWelcome, IsReportFault}

@@ -2,7 +2,7 @@ use Rattle.std.proofs.Common.{◌≡◌, [], length, ap, ◌∙◌, arith, repli
 use Rattle.ec_units.specs.Load.{loads_of}
 use Rattle.ec_loads.specs.Line.{line_by, line_of}
 use Rattle.ec_loads.specs.Search.{open_count}
-use Rattle.ec_cert.specs.BestPlan.{value_of}
+use Rattle.ec_cert.specs.IsBestPlan.{value_of}
 use Rattle.ec_cert.specs.Shapes.{shape_of}
 use Rattle.ec_symmetry.specs.Ruled.{line_rules}
 use Rattle.ec_book.specs.declared.piece.Piece.TheVariants.{Free}

@@ -22,7 +22,7 @@ add_bytes-growth-requires-clause-low c = λ t h.
     let s = c.args.self.now in
     let k = c.requires.table in
     let h' = subst (λ w. t < length w) c.as_mut_slice-2.ensures.value h in
-    rw (c.as_mut_slice.ensures.value, c.from-3.ensures)
+    rw (c.as_mut_slice.ensures.value, c.change_at.ensures)
     (let l = cells-low k.0 c.args.slots (length s.costs.items) 47 s.counts.items s.cells.items s.costs.items s.raws.items s.total s.payload s.cost k.1 k.2 k.3 t c.args.place.slot h' c.requires.slot in omega (arith, l))
 
 pub add_bytes-growth-requires-clause-within : goal.add_bytes-growth-requires-clause-within
@@ -30,7 +30,7 @@ add_bytes-growth-requires-clause-within c = λ t h.
     let s = c.args.self.now in
     let k = c.requires.table in
     let h' = subst (λ w. t < length w) c.as_mut_slice-2.ensures.value h in
-    rw (c.as_mut_slice.ensures.value, c.as_mut_slice-2.ensures.value, c.from-3.ensures)
+    rw (c.as_mut_slice.ensures.value, c.as_mut_slice-2.ensures.value, c.change_at.ensures)
     (cost-holds k.0 c.args.slots (length s.costs.items) s.counts.items s.cells.items s.costs.items s.raws.items s.total s.payload s.cost k.1 t c.args.place.slot h' c.requires.slot)
 
 pub add_bytes-growth-requires-clause-cheap : goal.add_bytes-growth-requires-clause-cheap
@@ -64,13 +64,13 @@ returns-clause-table c = λ xs ys m k.
     let s = c.args.self.now in
     let g = c.add_bytes-growth in
     let group = group_at c.args.load.period c.args.place.phase c.args.place.slot in
-    let sent = rw (c.as_mut_slice.ensures.value, c.as_mut_slice-2.ensures.value, c.from.ensures, c.from-2.ensures, c.from-3.ensures, c.from-4.ensures) at g.ensures.sent in
-    let idle = rw (c.as_mut_slice.ensures.value, c.as_mut_slice-2.ensures.value, c.from.ensures, c.from-2.ensures, c.from-3.ensures) at g.ensures.idle in
-    let slots = rw (c.as_mut_slice.ensures.value, c.from-3.ensures) at g.ensures.slots in
-    let costs = rw (c.as_mut_slice.ensures.value, c.as_mut_slice-2.ensures.value, c.from-3.ensures) at g.ensures.costs in
-    let raws = rw (c.as_mut_slice.ensures.value, c.as_mut_slice-2.ensures.value, c.as_mut_slice-3.ensures.value, c.from-3.ensures) at g.ensures.raws in
+    let sent = rw (c.as_mut_slice.ensures.value, c.as_mut_slice-2.ensures.value, c.change_at.ensures) at g.ensures.sent in
+    let idle = rw (c.as_mut_slice.ensures.value, c.as_mut_slice-2.ensures.value, c.change_at.ensures) at g.ensures.idle in
+    let slots = rw (c.as_mut_slice.ensures.value, c.change_at.ensures) at g.ensures.slots in
+    let costs = rw (c.as_mut_slice.ensures.value, c.as_mut_slice-2.ensures.value, c.change_at.ensures) at g.ensures.costs in
+    let raws = rw (c.as_mut_slice.ensures.value, c.as_mut_slice-2.ensures.value, c.as_mut_slice-3.ensures.value, c.change_at.ensures) at g.ensures.raws in
     let total = rw c.as_mut_slice-3.ensures.value at g.ensures.total in
-    let payloads = rw (c.as_mut_slice-2.ensures.value, c.from-3.ensures) at g.ensures.payloads in
+    let payloads = rw (c.as_mut_slice-2.ensures.value, c.change_at.ensures) at g.ensures.payloads in
     let most = rw c.as_mut_slice-2.ensures.value at g.ensures.most in
     let size_cells = g.ensures.size.0 ∙ ap length c.as_mut_slice.ensures.value in
     let size_costs = g.ensures.size.1 ∙ ap length c.as_mut_slice-2.ensures.value in

@@ -12,7 +12,7 @@ first_excess-requires-clause-low c = λ t h.
     let s = c.args.self.now in
     let k = c.requires.table in
     let h' = subst (λ w. t < length w) c.as_slice-2.ensures.value h in
-    rw (c.as_slice.ensures.value, c.from-3.ensures)
+    rw (c.as_slice.ensures.value, c.change_at.ensures)
     (let l = cells-low k.0 c.args.slots (length s.costs.items) 47 s.counts.items s.cells.items s.costs.items s.raws.items s.total s.payload s.cost k.1 k.2 k.3 t c.args.place.slot h' c.requires.slot in omega (arith, l))
 
 pub first_excess-requires-clause-within : goal.first_excess-requires-clause-within
@@ -20,7 +20,7 @@ first_excess-requires-clause-within c = λ t h.
     let s = c.args.self.now in
     let k = c.requires.table in
     let h' = subst (λ w. t < length w) c.as_slice-2.ensures.value h in
-    rw (c.as_slice.ensures.value, c.as_slice-2.ensures.value, c.from-3.ensures)
+    rw (c.as_slice.ensures.value, c.as_slice-2.ensures.value, c.change_at.ensures)
     (cost-holds k.0 c.args.slots (length s.costs.items) s.counts.items s.cells.items s.costs.items s.raws.items s.total s.payload s.cost k.1 t c.args.place.slot h' c.requires.slot)
 
 pub first_excess-requires-clause-cheap : goal.first_excess-requires-clause-cheap
@@ -39,7 +39,7 @@ returns c = λ xs ys m k.
     let count_is : c.index.result.now ≡ get_or s.counts.items group 0 =
     c.index.ensures ∙ get_or_default_zero s.counts.items c.group_of-group.result c.index.result.now (let b = c.group_of-group.ensures.bound in omega (arith, b, z))
     ∙ ap (λ w. get_or s.counts.items w 0) c.group_of-group.ensures.value in
-    let told = rw (c.as_slice.ensures.value, c.as_slice-2.ensures.value, c.from.ensures, c.from-2.ensures, c.from-3.ensures, c.from-4.ensures) at c.first_excess.ensures in
+    let told = rw (c.as_slice.ensures.value, c.as_slice-2.ensures.value, c.change_at.ensures) at c.first_excess.ensures in
     excess_of (item c.args.load c.args.place) c.args.slots (length s.costs.items) c.if-index-eq0.head c.args.value s.counts.items s.cells.items s.costs.items s.raws.items s.total s.payload s.cost c.first_excess.result
     k m c.requires.load.1 c.requires.phase c.requires.slot
     (λ w. elim c.if-index-eq0.branch [ then-index-eq0 b ↦ b.head-is | else-index-eq0 b ↦ absurd (b.if-index-eq0.false (count_is ∙ w)) ])

@@ -28,8 +28,8 @@ take_bytes-fall-requires-clause-enough c = λ t h on.
     c.index-count.ensures ∙ get_or_default_zero s.counts.items c.group_of-group.result c.index-count.result.now (let b = c.group_of-group.ensures.bound in omega (arith, b, z))
     ∙ ap (λ w. get_or s.counts.items w 0) c.group_of-group.ensures.value in
     let h' = subst (λ w. t < length w) c.as_mut_slice-2.ensures.value h in
-    let on' = rw (c.from.ensures, c.from-2.ensures) at on in
-    rw (c.as_mut_slice.ensures.value, c.from-3.ensures, c.from-4.ensures)
+    let on' = rw (c.change_at.ensures) at on in
+    rw (c.as_mut_slice.ensures.value, c.change_at.ensures)
     (more-enough (item c.args.load c.args.place) c.args.slots (length s.costs.items) c.if-count-eq1.head s.counts.items s.cells.items s.costs.items s.raws.items s.total s.payload s.cost k.3 k.2 c.requires.load.1 c.requires.phase c.requires.slot
     (λ w. elim c.if-count-eq1.branch [ then-count-eq1 b ↦ b.head-is | else-count-eq1 b ↦ absurd (b.if-count-eq1.false (count_is ∙ w)) ])
     (λ w. elim c.if-count-eq1.branch [ then-count-eq1 b ↦ let e = b.if-count-eq1.true in absurd (omega (arith, e, count_is, w)) | else-count-eq1 b ↦ b.head-is ])
@@ -40,7 +40,7 @@ take_bytes-fall-requires-clause-within c = λ t h.
     let s = c.args.self.now in
     let k = c.requires.table in
     let h' = subst (λ w. t < length w) c.as_mut_slice-2.ensures.value h in
-    rw (c.as_mut_slice.ensures.value, c.as_mut_slice-2.ensures.value, c.from-3.ensures)
+    rw (c.as_mut_slice.ensures.value, c.as_mut_slice-2.ensures.value, c.change_at.ensures)
     (cost-holds k.1 c.args.slots (length s.costs.items) s.counts.items s.cells.items s.costs.items s.raws.items s.total s.payload s.cost k.3 t c.args.place.slot h' c.requires.slot)
 
 pub take_bytes-fall-requires-clause-raw : goal.take_bytes-fall-requires-clause-raw
@@ -48,7 +48,7 @@ take_bytes-fall-requires-clause-raw c = λ t h.
     let s = c.args.self.now in
     let k = c.requires.table in
     let h' = subst (λ w. t < length w) c.as_mut_slice-2.ensures.value h in
-    rw (c.as_mut_slice.ensures.value, c.as_mut_slice-3.ensures.value, c.from-3.ensures)
+    rw (c.as_mut_slice.ensures.value, c.as_mut_slice-3.ensures.value, c.change_at.ensures)
     (raw-holds k.1 c.args.slots (length s.costs.items) s.counts.items s.cells.items s.costs.items s.raws.items s.total s.payload s.cost k.3 t c.args.place.slot h' c.requires.slot)
 
 pub returns-clause-table : goal.returns-clause-table
@@ -56,11 +56,11 @@ returns-clause-table c = λ xs ys m k.
     let s = c.args.self.now in
     let g = c.take_bytes-fall in
     let group = group_at c.args.load.period c.args.place.phase c.args.place.slot in
-    let sent = rw (c.as_mut_slice.ensures.value, c.as_mut_slice-2.ensures.value, c.from.ensures, c.from-2.ensures, c.from-3.ensures, c.from-4.ensures) at g.ensures.sent in
-    let idle = rw (c.as_mut_slice.ensures.value, c.as_mut_slice-2.ensures.value, c.from.ensures, c.from-2.ensures, c.from-3.ensures) at g.ensures.idle in
-    let slots = rw (c.as_mut_slice.ensures.value, c.from-3.ensures) at g.ensures.slots in
-    let costs = rw (c.as_mut_slice.ensures.value, c.as_mut_slice-2.ensures.value, c.from-3.ensures) at g.ensures.costs in
-    let raws = rw (c.as_mut_slice.ensures.value, c.as_mut_slice-2.ensures.value, c.as_mut_slice-3.ensures.value, c.from-3.ensures) at g.ensures.raws in
+    let sent = rw (c.as_mut_slice.ensures.value, c.as_mut_slice-2.ensures.value, c.change_at.ensures) at g.ensures.sent in
+    let idle = rw (c.as_mut_slice.ensures.value, c.as_mut_slice-2.ensures.value, c.change_at.ensures) at g.ensures.idle in
+    let slots = rw (c.as_mut_slice.ensures.value, c.change_at.ensures) at g.ensures.slots in
+    let costs = rw (c.as_mut_slice.ensures.value, c.as_mut_slice-2.ensures.value, c.change_at.ensures) at g.ensures.costs in
+    let raws = rw (c.as_mut_slice.ensures.value, c.as_mut_slice-2.ensures.value, c.as_mut_slice-3.ensures.value, c.change_at.ensures) at g.ensures.raws in
     let total = rw c.as_mut_slice-3.ensures.value at g.ensures.total in
     let size_cells = g.ensures.size.0 ∙ ap length c.as_mut_slice.ensures.value in
     let size_costs = g.ensures.size.1 ∙ ap length c.as_mut_slice-2.ensures.value in

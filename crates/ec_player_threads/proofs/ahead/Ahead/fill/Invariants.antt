@@ -1,7 +1,7 @@
 use Rattle.std.proofs.Common.{◌<◌, ◌+◌, ◌*◌, ◌-◌, ◌≤◌, ℕ}
 use Rattle.rtrb.specs.Ring.{sent, SameProducer}
 use Rattle.ec_player_threads.specs.Frames.{bytes_in}
-use Rattle.ec_player_threads.specs.Windows.{IsAhead}
+use Rattle.ec_player_threads.specs.IsAhead.{IsAhead}
 use Rattle.ec_player_threads.proofs.ahead.Ahead.fill.Given as goal
 
 abbrev pub invariant-loop-self : goal.invariant-loop-self
