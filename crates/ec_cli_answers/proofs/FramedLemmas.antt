@@ -1,14 +1,10 @@
 -- From units, a certificate and what the checker answers to the plan whose text is written, or why there is none.
 use Rattle.std.proofs.Common.{◌≡◌, ℕ, List, Option, Some, None, Result, Ok, Err, refl, sym, ap, subst, inl, inr}
-use Rattle.std.specs.Prelude.{◌⊎◌, IfOk, IfErr}
-use Rattle.ec_units.specs.declared.slave.Place.{Place}
+use Rattle.std.specs.Prelude.{◌⊎◌, IfOk}
 use Rattle.ec_units.specs.declared.units.Units.{Units}
 use Rattle.ec_units.specs.Views.{units_view}
-use Rattle.ec_units.specs.Load.{loads_of}
-use Rattle.ec_loads.specs.Legal.{IsLegal}
 use Rattle.ec_loads.specs.declared.plan.Plan.{Plan}
 use Rattle.ec_cert.specs.declared.cert.Best.{Best}
-use Rattle.ec_cert.specs.BestPlan.{IsBestPlan}
 use Rattle.ec_cert.specs.Shapes.{CertView}
 use Rattle.ec_cert_text.specs.Reading.{reading as cert_reading}
 use Rattle.ec_checker.specs.declared.fault.CheckFault.{CheckFault}
@@ -17,7 +13,7 @@ use Rattle.ec_frame_text.specs.Lines.{IsFramesText}
 use Rattle.ec_cli_refusals.specs.declared.refusal.Refusal.{Refusal}
 use Rattle.ec_cli_refusals.specs.declared.refusal.Refusal.TheVariants as refusal
 use Rattle.ec_cli_text.specs.Framed.{IsBestPlanOf, IsCertPlan, IsFramedPlan}
-use Rattle.ec_cli_text.specs.Output.{IsBestText, IsCertText, IsReadText, IsTextFor, refused}
+use Rattle.ec_cli_text.specs.Output.{IsBestText, IsCertText, IsTextFor, refused}
 use Rattle.ec_cli_refusals.specs.Refusals.{IsFramesMemory}
 use Rattle.ec_cli_inputs.specs.Input.{AnswersUnits, IsUnread, Says, text_given}
 use Rattle.ec_cli_inputs.specs.declared.input.Inputs.{Inputs}
@@ -25,11 +21,6 @@ use Rattle.ec_cli_answers.specs.Captures.{IsFramesFault, FramesFrom}
 use Rattle.ec_cli_answers.proofs.CheckedLemmas.{memory_or, too_long}
 
 -- ---- the plan of a certificate
-
--- one to which the checker says yes is legal
-pub best_legal : (us : Units) (c : CertView) (places : List Place) → IsBestPlanOf us c places → IsLegal (loads_of us.units) us.slots places
-best_legal us c places h =
-    subst (λ (ps : List Place). IsLegal (loads_of us.units) us.slots ps) (sym h.plan) (subst (IsBestPlan (loads_of us.units) us.slots) h.held h.right.head.best).0
 
 -- there is none
 pub framed_none : (us : Units) (c : CertView) → IsCertified us.units us.slots c → c.best ≡ None → IsCertText IsFramesText (units_view us) c (refused refusal.CertHasNoPlan)
@@ -46,15 +37,6 @@ framed_no us c f h = elim (memory_or f) [
 pub plan_ok : (us : Units) (text : List ℕ) (c : CertView) (r : Result Plan Refusal) → cert_reading text ≡ Ok c → IfOk r (λ p. IsBestPlanOf us c p.places) → IfOk r (λ p. IsCertPlan text (units_view us) p.places)
 plan_ok us text c (Ok p) said h = record { units = us; seen = refl; cert = c; said = said; plan = h }
 plan_ok us text c (Err r) said h = tt
-
-pub plan_legal : (us : Units) (c : CertView) (r : Result Plan Refusal) → IfOk r (λ p. IsBestPlanOf us c p.places) → IfOk r (λ p. IsLegal (loads_of us.units) us.slots p.places)
-plan_legal us c (Ok p) h = best_legal us c p.places h
-plan_legal us c (Err r) h = tt
-
-pub plan_err : (us : Units) (text : List ℕ) (c : CertView) (r : Result Plan Refusal) → cert_reading text ≡ Ok c → IfErr r (λ e. IsFramesMemory e ⊎ IsCertText IsFramesText (units_view us) c (refused e)) → IfErr r (λ e. IsFramesMemory e ⊎ IsReadText IsFramesText (units_view us) text (refused e))
-plan_err us text c (Ok p) said h = tt
-plan_err us text c (Err e) said (inl memory) = inl memory
-plan_err us text c (Err e) said (inr h) = inr (rw said h)
 
 -- why units have none is why there are no frames
 pub units_fault : (cert : Option (List ℕ)) (bytes : List ℕ) (r : Refusal) → AnswersUnits (Err r) bytes → IsFramesFault cert bytes r

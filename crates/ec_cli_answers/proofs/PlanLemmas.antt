@@ -1,8 +1,8 @@
 -- From what comes of a search to what is told of it.
 -- A search, begun or resumed, is one relation with two parameters: what is found, and why nothing is (`IsSearchWritten
 -- is fault`). `outcome_tells` and `search_untold` serve a plan and a resume.
-use Rattle.std.proofs.Common.{◌≡◌, ℕ, Bool, true, List, Option, Some, None, Result, Ok, Err, refl, sym, subst, inl, inr}
-use Rattle.std.specs.Prelude.{◌⊎◌, IfOk, IfErr}
+use Rattle.std.proofs.Common.{◌≡◌, ℕ, List, Option, None, Result, Ok, Err, refl, sym, subst, inl, inr}
+use Rattle.std.specs.Prelude.{IfOk, IfErr}
 use Rattle.ec_units.specs.declared.units.Units.{Units}
 use Rattle.ec_outcome.specs.declared.search.Outcome.{Outcome}
 use Rattle.ec_cli_refusals.specs.declared.refusal.Refusal.{Refusal}
@@ -12,13 +12,6 @@ use Rattle.ec_cli_answers.specs.Told.{file_bytes, file_of, told}
 use Rattle.ec_cli_answers.specs.declared.told.Told.{Told}
 use Rattle.ec_cli_text.specs.Outcomes.{outcome_output, IsLevelOf}
 use Rattle.ec_cli_refusals.specs.Refusals.{out_of_memory}
-use Rattle.ec_cert.specs.declared.cert.Best.{Best}
-use Rattle.ec_cert.specs.declared.tree.Tree.{Tree}
-use Rattle.ec_cert.specs.Shapes.{shape_of}
-use Rattle.ec_units.specs.declared.unit.Unit.{Unit as SyncUnit}
-use Rattle.ec_outcome.specs.declared.search.Cut.{Cut}
-use Rattle.ec_outcome.specs.declared.search.Outcome.TheVariants as outcome
-use Rattle.ec_workers.specs.Answers.{Asked, IsOutcome, IsUnproved}
 
 -- what is told where there is an outcome, and where memory ran out over its text
 pub outcome_tells : (is : Units → Outcome → Type 0) (fault : Refusal → Type 0) (us : Units) (o : Outcome) (t : Result Told Refusal) → is us o → fault out_of_memory
@@ -31,8 +24,3 @@ outcome_tells is fault us o (Err r) found may ok memory = (None, inr (record { r
 -- and where there is none
 pub search_untold : (is : Units → Outcome → Type 0) (fault : Refusal → Type 0) (r : Refusal) (t : Result Told Refusal) → t ≡ Err r → fault r → (file : Option (List ℕ)) × IsSearchWritten is fault (told t) file × (file_of t ≡ file)
 search_untold is fault r t eq why = rw eq (None, inr (record { refusal = r; why = why; line = refl; certificate = refl }), refl)
-
--- what a search without a proof has
-pub unproved_of : (units : List SyncUnit) (n : ℕ) (o : Outcome) (best : Option Best) (order : List ℕ) (tree : Tree) (strong : Bool) (why : Cut) → o ≡ outcome.Unproved best order tree strong why → (asked : Asked) × IsOutcome units n asked o
-    → (asked : Asked) × IsUnproved units n asked best order (shape_of tree) strong why
-unproved_of units n o best order tree strong why is h = subst (λ (x : Outcome). (asked : Asked) × IsOutcome units n asked x) is h

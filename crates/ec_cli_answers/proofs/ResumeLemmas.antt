@@ -2,7 +2,7 @@
 -- What a resume finds of a certificate that is a proof is that certificate's own outcome, so nothing after it asks how
 -- it came about.
 use Rattle.std.proofs.Common.{◌≡◌, ℕ, List, Option, Some, None, Result, Ok, Err, refl, sym, ap, subst, ◌∙◌, inl, inr}
-use Rattle.std.specs.Prelude.{◌⊎◌, IfSome, IfOk, IfErr}
+use Rattle.std.specs.Prelude.{◌⊎◌}
 use Rattle.ec_units.specs.declared.slave.Place.{Place}
 use Rattle.ec_units.specs.declared.unit.Unit.{Unit as SyncUnit}
 use Rattle.ec_units.specs.declared.units.Units.{Units}
@@ -12,7 +12,7 @@ use Rattle.ec_units.specs.Views.{units_view}
 use Rattle.ec_loads.specs.Shape.{Shape, open_leaf}
 use Rattle.ec_cert.specs.declared.cert.Best.{Best}
 use Rattle.ec_cert.specs.declared.part.Part.{Part}
-use Rattle.ec_cert.specs.BestPlan.{IsBestPlan, value_of}
+use Rattle.ec_cert.specs.IsBestPlan.{IsBestPlan, value_of}
 use Rattle.ec_cert.specs.Shapes.{CertView, shape_of}
 use Rattle.ec_cert.specs.WellFormed.{IsWellFormed}
 use Rattle.ec_cert_text.specs.declared.fault.CertFault.TheVariants as cert
@@ -31,11 +31,7 @@ use Rattle.ec_workers.specs.Answers.{Asked, asked_beyond, GoesBeyond, IsOutcome,
 use Rattle.ec_workers.specs.Outcomes.{Shows, IsOptimal, IsWithoutPlan}
 use Rattle.ec_book.specs.Parts.{LeavesOthers}
 use Rattle.ec_workers.proofs.GrowLemmas.{drawn-same, stays}
-use Rattle.ec_cli_text.specs.declared.answer.Answer.{Answer}
-use Rattle.ec_cli_text.specs.Outcomes.{outcome_output, IsLevelOf}
-use Rattle.ec_cli_text.specs.Output.{shown}
 use Rattle.ec_cli_refusals.specs.declared.refusal.Refusal.{Refusal}
-use Rattle.ec_cli_refusals.specs.Refusals.{out_of_memory}
 use Rattle.ec_cli_inputs.specs.Input.{AnswersUnits, IsInputFault}
 use Rattle.ec_cli_answers.specs.Planned.{GoesOn, GoesOnFrom, IsProofBy, IsStopped, IsStoppedFrom, IsResumeOf, IsResumeFault}
 use Rattle.ec_cli_answers.proofs.CheckedLemmas.{memory_or, too_long}

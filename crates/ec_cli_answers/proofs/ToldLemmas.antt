@@ -1,7 +1,7 @@
 -- From what is answered for the inputs to what is told for the bytes that they were read of.
 -- A job without a file goes by `simple_tells`, a job that tells of a plan by `plan_tells` and `fault_tells`, a search by
 -- `planned_tells`, `resumed_tells` and their `un..`; `unread_tells` is for all jobs where there are no inputs.
-use Rattle.std.proofs.Common.{◌≡◌, ◌∙◌, ℕ, Bool, true, List, Option, Some, None, Result, Ok, Err, refl, sym, ap, subst, inl, inr}
+use Rattle.std.proofs.Common.{◌≡◌, ◌∙◌, ℕ, Bool, List, Option, Some, None, Result, Ok, Err, refl, sym, ap, subst, inl, inr}
 use Rattle.std.specs.Prelude.{◌⊎◌, IfOk, IfErr}
 use Rattle.ec_units.specs.declared.units.Units.{Units}
 use Rattle.ec_units.specs.Load.{loads_of}
@@ -19,8 +19,7 @@ use Rattle.ec_cli_command.specs.declared.job.Job.TheVariants as job
 use Rattle.ec_cli_text.specs.declared.answer.Answer.{Answer}
 use Rattle.ec_cli_text.specs.Outcomes.{IsLevelOf, outcome_output}
 use Rattle.ec_cli_text.specs.Output.{Written, Answers, IsCheckOutput, IsCostOutput, IsCostsText, IsNoMemory, IsOutput, refused, shown, written_of}
-use Rattle.ec_cli_inputs.specs.Input.{AnswersUnits, IsUnread, Says, text_given}
-use Rattle.ec_cli_inputs.specs.declared.input.Inputs.{Inputs}
+use Rattle.ec_cli_inputs.specs.Input.{AnswersUnits, IsUnread}
 use Rattle.ec_frame_text.specs.Lines.{IsFramesText}
 use Rattle.ec_play_text.specs.Plays.{IsPlayText}
 use Rattle.ec_workers.specs.Answers.{asked_for, GoesBeyond, HasSearchOrder, IsOutcome, IsSolveFault}

@@ -3,7 +3,7 @@ use Rattle.std.specs.Prelude.{◌≡◌, ◌⊎◌, ℕ, ◌<◌, ◌≤◌, Lis
 use Rattle.ec_units.specs.declared.units.Units.{Units}
 use Rattle.ec_unit_text.specs.Reading.{reading}
 use Rattle.ec_units.specs.Views.{units_view}
-use Rattle.ec_cert.specs.BestPlan.{value_of}
+use Rattle.ec_cert.specs.IsBestPlan.{value_of}
 use Rattle.ec_cert.specs.Shapes.{CertView}
 use Rattle.ec_cert_text.specs.Reading.{reading as cert_reading}
 use Rattle.ec_checker.specs.Certified.{IsFaultOf}

@@ -1,5 +1,5 @@
 -- What a job tells for what it has read: a text with its status, and the file that is written before it.
-use Rattle.std.specs.Prelude.{◌≡◌, ◌⊎◌, ℕ, true, Bool, List, Option, Some, None, Result, Ok, Err, option_map}
+use Rattle.std.specs.Prelude.{◌≡◌, ◌⊎◌, ℕ, List, Option, Some, None, Result, Ok, Err, option_map}
 use Rattle.ec_cert.specs.Shapes.{cert_view}
 use Rattle.ec_loads.specs.declared.plan.Plan.{Plan}
 use Rattle.ec_outcome.specs.declared.ending.Ending.{Ending}

@@ -1,5 +1,5 @@
 -- The command lines.
-use Rattle.std.specs.Prelude.{◌≡◌, ◌≤◌, String, Option, Some, None}
+use Rattle.std.specs.Prelude.{◌≡◌, ◌≤◌, Bool, true, false, String, Option, Some, None}
 use Rattle.std.specs.Option.{ForSome}
 use Rattle.std.proofs.Common.{Global}
 use Rattle.ec_cert.specs.Parts.{IsPart}
@@ -14,6 +14,19 @@ abbrev pub JobFits : Job → Type 0
 JobFits (job.Plan workers nodes strong) = (1 ≤ workers) × (workers ≤ 16) × (1 ≤ nodes) × (nodes ≤ 10000000)
 JobFits (job.Resume workers nodes part) = (1 ≤ workers) × (workers ≤ 16) × (1 ≤ nodes) × (nodes ≤ 10000000) × IsPart part × (part.count ≤ 10000)
 JobFits _ = Unit {0}
+
+-- a certificate is read, where there is one
+abbrev pub reads_cert : Job → Bool
+reads_cert job.Cost = false
+reads_cert (job.Plan workers nodes strong) = false
+reads_cert _ = true
+
+-- a file is written, where there is a writer for it
+abbrev pub writes_file : Job → Bool
+writes_file (job.Plan workers nodes strong) = true
+writes_file (job.Resume workers nodes part) = true
+writes_file job.Capture = true
+writes_file _ = false
 
 -- what a line asks for
 abbrev pub job_of : Line → Job

@@ -1,5 +1,8 @@
 //! Jobs.
 
+ghost use Rattle.std.specs.Prelude.{◌≡◌};
+ghost use Rattle.ec_cli_command.specs.Words.{reads_cert, writes_file};
+
 use ec_cert::Part;
 
 /// What the program is to do.
@@ -30,4 +33,31 @@ pub enum Job {
     PlanCost,
     /// Plays a certificate's plan, or that of the placed units, through modelled slaves for a hyperperiod.
     Play,
+}
+
+impl Job {
+    /// Whether a certificate is read, where there is one.
+    pub fn reads_cert(&self) -> bool
+        ensures { result ≡ reads_cert self.now }
+    {
+        match self {
+            Job::Cost | Job::Plan { .. } => false,
+            Job::Resume { .. }
+            | Job::Check
+            | Job::Frames
+            | Job::Capture
+            | Job::PlanCost
+            | Job::Play => true,
+        }
+    }
+
+    /// Whether a file is written, where there is a writer for it.
+    pub fn writes_file(&self) -> bool
+        ensures { result ≡ writes_file self.now }
+    {
+        match self {
+            Job::Plan { .. } | Job::Resume { .. } | Job::Capture => true,
+            Job::Cost | Job::Check | Job::Frames | Job::PlanCost | Job::Play => false,
+        }
+    }
 }

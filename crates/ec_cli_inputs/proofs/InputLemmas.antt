@@ -147,7 +147,3 @@ pub some_read : (left : Option (List ℕ)) (r : Refusal) (answer : Result Inputs
 some_read None r answer is h = tt
 some_read (Some bytes) r answer is (inl unread) = inl (is ∙ ap (λ e. Err e) unread)
 some_read (Some bytes) r answer is (inr h) = inr (h.0, rw is h.1)
-
-pub some_inputs : (left : Option (List ℕ)) (i : Inputs) (text : List ℕ) → IfSome left (AnswersUnits (Ok i.units)) → text_given i ≡ Some text → IfSome left (λ bytes. (◌≡◌ {A = Result Inputs Refusal} (Ok i) (Err refusal.Read)) ⊎ ((t : List ℕ) × AreRead bytes (Some t) (Ok i)))
-some_inputs None i text units given = tt
-some_inputs (Some bytes) i text units given = inr (text, (units, given))

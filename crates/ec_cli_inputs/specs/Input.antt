@@ -7,9 +7,9 @@ use Rattle.ec_units.specs.declared.units.Units.{Units}
 use Rattle.ec_unit_text.specs.Reading.{reading, IsValidText}
 use Rattle.ec_units.specs.Views.{units_view}
 use Rattle.ec_units.specs.Load.{loads_of}
-use Rattle.ec_loads.specs.Held.{Held, no_places}
+use Rattle.ec_loads.specs.Held.{no_places}
 use Rattle.ec_wire.specs.Stream.{taken}
-use Rattle.ec_cli_inputs.specs.Use.{Use, before, after, HasFailed, IsKept}
+use Rattle.ec_cli_inputs.specs.Use.{Use, before, after, IsSound, HasFailed, IsKept, Lent, IfLent, HasNotFailed, IfGiven}
 use Rattle.ec_cli_inputs.specs.declared.input.Given.{Given}
 use Rattle.ec_cli_inputs.specs.declared.input.Inputs.{Inputs}
 use Rattle.ec_cli_refusals.specs.declared.refusal.Refusal.{Refusal}
@@ -97,3 +97,10 @@ pub record ReadsBoth {R C : Type 0} (units : Use R) (cert : Use C) (refused : Ty
   pub cert_read : ReadsUpTo cert most_of_cert refused
   pub kept : HasFailed units → IsKept cert
   pub first : IfSome (before units) (λ bytes. ¬ (AreUnits bytes) → IsKept cert)
+
+-- what is read of units, and of a certificate where one is lent: of the bytes that the readers had; of a certificate whose bytes aren't known, of some text (`some`)
+pub record ReadsInputs {R C : Type 0} (units : Use R) (cert : Lent C) (read : Result Inputs Refusal) : Type 0 where
+  pub units_read : ReadsUpTo units most_of_units (read ≡ Err refusal.Read)
+  pub cert_read : IfLent cert (Unit {0}) (λ c. ReadsBoth units c (read ≡ Err refusal.Read))
+  pub told : IsSound units → HasNotFailed cert → IfSome (before units) (λ bytes. IfGiven cert (λ text. AreRead bytes text read))
+  pub some : IsSound units → IfLent cert (Unit {0}) (λ c. IfSome (before units) (λ bytes. (read ≡ Err refusal.Read) ⊎ ((text : List ℕ) × AreRead bytes (Some text) read)))

@@ -1,5 +1,5 @@
 -- A reader or writer over a call.
-use Rattle.std.specs.Prelude.{◌≡◌, ◌⊎◌, ℕ, true, false, List, Option, Some, None, option_map}
+use Rattle.std.specs.Prelude.{◌≡◌, ◌⊎◌, ℕ, true, false, List, Option, Some, None, IfSome, option_map}
 use Rattle.std.proofs.Common.{MutBor, inl, inr}
 use Rattle.ec_wire.specs.declared.io.Io.{Io}
 use Rattle.ec_wire.specs.Stream.{stream, has_failed}
@@ -61,3 +61,18 @@ IfLent s none P = either s.old s.new none (λ a b. P (used s.tells a b))
 -- it is left as it was, or isn't there
 abbrev pub IsLeft : {X : Type 0} → Lent X → Type 0
 IsLeft s = s.new ≡ s.old
+
+-- one that is lent, and none
+abbrev pub here : {X : Type 0} → Use X → Lent X
+here s = record { tells = s.tells; old = Some s.old; new = Some s.new }
+
+abbrev pub nobody : {X : Type 0} → Lent X
+nobody = record { tells = λ _. None; old = None; new = None }
+
+-- no call of it failed, if it is there
+abbrev pub HasNotFailed : {X : Type 0} → Lent X → Type 0
+HasNotFailed s = IfLent s (Unit {0}) IsSound
+
+-- the bytes that it has, if it is there; where they aren't known nothing is asked
+abbrev pub IfGiven : {X : Type 0} → Lent X → (Option (List ℕ) → Type 0) → Type 0
+IfGiven s P = IfLent s (P None) (λ c. IfSome (before c) (λ text. P (Some text)))

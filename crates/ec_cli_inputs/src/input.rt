@@ -2,8 +2,8 @@
 
 ghost use Rattle.std.specs.Prelude.{◌≡◌, ◌≢◌, ℕ, ◌+◌, ◌-◌, ◌<◌, ◌^◌, ◌≤◌, min, true, false, length, IfOk, IfErr, IfSome, IsErrOf, IsSome, IsTrue, ◌↔◌, ◌⊎◌, Ok as OkOf, List};
 ghost use Rattle.ec_wire.specs.Stream.{stream, has_failed, taken};
-ghost use Rattle.ec_cli_inputs.specs.Input.{ReadsAll, ReadsTooMany, ConsumesAtMost, AreUnits, AnswersUnits, IsInputFault, AreRead, HasRoom, ReadsUpTo, ReadsBoth, most_of_units, most_of_cert};
-ghost use Rattle.ec_cli_inputs.specs.Use.{used};
+ghost use Rattle.ec_cli_inputs.specs.Input.{ReadsAll, ReadsTooMany, ConsumesAtMost, AreUnits, AnswersUnits, IsInputFault, HasRoom, ReadsInputs};
+ghost use Rattle.ec_cli_inputs.specs.Use.{used, here, nobody};
 ghost use Rattle.ec_units.specs.Load.{loads_of};
 ghost use Rattle.ec_loads.specs.Held.{no_places};
 ghost use Rattle.ec_cli_refusals.specs.Refusals.{IsReadFault, out_of_memory};
@@ -18,7 +18,7 @@ use ec_unit_text::read_units;
 use ec_units::Units;
 use ec_wire::{Io, IoFault};
 use std::alloc::Global;
-use std::io::Read;
+use std::io::{Empty, Read};
 
 /// The most bytes of a unit text.
 const MOST_UNIT_BYTES: usize = 1_048_576;
@@ -131,8 +131,7 @@ fn parts<R: Read, C: Read>(
 /// Reads the units of a job that reads no certificate: at most 1,048,577 bytes.
 pub fn read_alone<R: Read>(alloc: Global, units: &mut Io<R>) -> Result<Inputs, Refusal>
     requires { has_failed units.old ≡ false }
-    ensures told { has_failed units.new ≡ false → IfSome (R.remaining (stream units.old)) (λ bytes. AreRead bytes None result) }
-    ensures read { ReadsUpTo (used R.remaining units.old units.new) most_of_units (result ≡ Err Refusal.Read) }
+    ensures read { ReadsInputs {C = Empty} (used R.remaining units.old units.new) nobody result }
     ensures none { IfOk result (λ i. i.given ≡ None) }
 {
     let units = units_of(alloc, units)?;
@@ -148,10 +147,7 @@ pub fn read_both<R: Read, C: Read>(
 ) -> Result<Inputs, Refusal>
     requires units { has_failed units.old ≡ false }
     requires cert { has_failed cert.old ≡ false }
-    ensures told { has_failed units.new ≡ false → has_failed cert.new ≡ false → IfSome (R.remaining (stream units.old)) (λ bytes.
-        IfSome (C.remaining (stream cert.old)) (λ text. AreRead bytes (Some text) result)) }
-    ensures some { has_failed units.new ≡ false → IfSome (R.remaining (stream units.old)) (λ bytes. (result ≡ Err Refusal.Read) ⊎ ((text : List ℕ) × AreRead bytes (Some text) result)) }
-    ensures read { ReadsBoth (used R.remaining units.old units.new) (used C.remaining cert.old cert.new) (result ≡ Err Refusal.Read) }
+    ensures read { ReadsInputs (used R.remaining units.old units.new) (here (used C.remaining cert.old cert.new)) result }
     ensures given { IfOk result (λ i. IsSome i.given) }
     ensures room { IfOk result HasRoom }
 {

@@ -1,6 +1,6 @@
 -- What searches and checks claim of the same units agrees.
 use Rattle.std.proofs.Common.{◌≡◌, ◌∙◌, ℕ, ◌≤◌, List, [], Option, Some, None, Ok, refl, sym, ap, subst, inl, inr, arith}
-use Rattle.std.specs.Prelude.{◌⊎◌, ◌++◌, IfSome}
+use Rattle.std.specs.Prelude.{◌++◌, IfSome}
 use Rattle.std.proofs.lemmas.List.{append-nil}
 use Rattle.ec_units.specs.declared.slave.Place.{Place}
 use Rattle.ec_units.specs.declared.unit.Load.{Load}
@@ -13,13 +13,13 @@ use Rattle.ec_loads.specs.Cost.{plan_items, IsBusiest}
 use Rattle.ec_loads.specs.Legal.{IsLegal}
 use Rattle.ec_loads.specs.Search.{BoundsAll, HasNoPlan}
 use Rattle.ec_cert.specs.declared.cert.Best.{Best}
-use Rattle.ec_cert.specs.BestPlan.{value_of, IsBestPlan}
+use Rattle.ec_cert.specs.IsBestPlan.{value_of, IsBestPlan}
 use Rattle.ec_outcome.specs.declared.search.Cut.{Cut}
 use Rattle.ec_tree.specs.Trees.{TreesBound, LevelsBound}
 use Rattle.ec_cli_text.specs.Lines.{cut_line, level_line, unit_lines, unproved_line}
 use Rattle.ec_cli_text.specs.Outcomes.{unproved_text}
 use Rattle.ec_cli_text.specs.Output.{Written}
-use Rattle.ec_cli_run.specs.Sound.{AgreeWith, AnswersAgree, Claims, HasClaim, IsAnswer, TellsAtLeast, TellsLeast, TellsNoPlan, TellsOptimal, TellsTruth, TellsUnproved, TellsWithoutPlan, YesTellsTruth}
+use Rattle.ec_cli_run.specs.Sound.{AgreeWith, AnswersAgree, Claims, HasClaim, IsAnswer, TellsAtLeast, TellsLeast, TellsNoPlan, TellsOptimal, TellsUnproved, TellsWithoutPlan}
 use Rattle.ec_cli_run.proofs.PlanSound.{same_ok, some_same, told_least, told_true}
 use Rattle.ec_cli_run.proofs.SoundLemmas.{yes_true}
 

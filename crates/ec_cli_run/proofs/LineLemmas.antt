@@ -1,11 +1,10 @@
 -- Which paths a command line has.
-use Rattle.std.proofs.Common.{◌≡◌, ◌∙◌, Global, Option, Some, None, refl, sym, ap}
+use Rattle.std.proofs.Common.{◌≡◌, ◌∙◌, true, Global, Option, Some, None, refl, sym, ap}
 use Rattle.std.specs.Prelude.{String, option_map}
 use Rattle.ec_cli_command.specs.declared.line.Line.{Line}
 use Rattle.ec_cli_command.specs.declared.line.Line.TheVariants as line
-use Rattle.ec_cli_command.specs.Words.{cert_of, job_of}
+use Rattle.ec_cli_command.specs.Words.{cert_of, job_of, reads_cert}
 use Rattle.ec_cli_answers.specs.Told.{HasInput}
-use Rattle.ec_cli_run.specs.Runs.{ReadsSomeCert}
 
 none-some : {X : Type 0} {x : X} → None ≡ Some x → ⊥
 none-some h = absurd cc
@@ -14,15 +13,15 @@ pub some-none : {X : Type 0} {x : X} → Some x ≡ None → ⊥
 some-none h = absurd cc
 
 -- a line with the path of a certificate reads one
-pub reads_cert : (l : Line) (path : String Global) → cert_of l ≡ Some path → ReadsSomeCert (job_of l)
-reads_cert (line.Cost None svg) path is = absurd (none-some is)
-reads_cert (line.Cost (Some cert) svg) path is = tt
-reads_cert (line.Plan effort strong out places) path is = absurd (none-some is)
-reads_cert (line.Resume cert effort part out places) path is = tt
-reads_cert (line.Check cert) path is = tt
-reads_cert (line.Frames cert None header table report) path is = tt
-reads_cert (line.Frames cert (Some pcap) header table report) path is = tt
-reads_cert (line.Play cert) path is = tt
+pub reads_its_cert : (l : Line) (path : String Global) → cert_of l ≡ Some path → reads_cert (job_of l) ≡ true
+reads_its_cert (line.Cost None svg) path is = absurd (none-some is)
+reads_its_cert (line.Cost (Some cert) svg) path is = refl
+reads_its_cert (line.Plan effort strong out places) path is = absurd (none-some is)
+reads_its_cert (line.Resume cert effort part out places) path is = refl
+reads_its_cert (line.Check cert) path is = refl
+reads_its_cert (line.Frames cert None header table report) path is = refl
+reads_its_cert (line.Frames cert (Some pcap) header table report) path is = refl
+reads_its_cert (line.Play cert) path is = refl
 
 -- and one without such a path needs none
 pub needs_none : (l : Line) → cert_of l ≡ None → HasInput (job_of l) None

@@ -1,6 +1,6 @@
 -- What is told of certificates that were merged is true, from what is made of them.
-use Rattle.std.proofs.Common.{◌≡◌, ◌∙◌, ℕ, ◌≤◌, List, Option, Some, None, Result, Ok, Err, ap, subst, sym, refl, inl, inr, arith}
-use Rattle.std.specs.Prelude.{◌⊎◌, IfOk, IfSome}
+use Rattle.std.proofs.Common.{◌≡◌, ◌∙◌, ℕ, List, Option, Some, None, Result, Ok, Err, ap, subst, sym, arith}
+use Rattle.std.specs.Prelude.{IfOk, IfSome}
 use Rattle.ec_tree.specs.Trees.{LevelsBound}
 use Rattle.ec_cli_files.specs.declared.fault.FileFault.{FileFault}
 use Rattle.ec_cli_refusals.specs.declared.refusal.Refusal.TheVariants as refusal
@@ -8,13 +8,13 @@ use Rattle.ec_cert_merge.specs.declared.fault.Misfit.{Misfit}
 use Rattle.ec_cli_inputs.specs.Input.{AnswersUnits, AreRead}
 use Rattle.ec_cli_inputs.specs.declared.input.Inputs.{Inputs}
 use Rattle.ec_cli_inputs.specs.Use.{Use, before, IsSound}
-use Rattle.ec_cli_text.specs.Output.{Written, refused, shown}
+use Rattle.ec_cli_text.specs.Output.{Written, shown}
 use Rattle.ec_cli_answers.specs.Merged.{IsMergeWritten}
 use Rattle.ec_cli_answers.specs.Told.{file_bytes}
 use Rattle.ec_cli_answers.specs.declared.told.Told.{Told}
 use Rattle.ec_cli_run.specs.declared.merging.MergeFault.{MergeFault}
 use Rattle.ec_cli_run.specs.declared.merging.MergeFault.TheVariants as fault
-use Rattle.ec_cli_run.specs.Merging.{IsTrueMerge, MergeTellsTruth, merge_written, misfit_output, unmerged}
+use Rattle.ec_cli_run.specs.Merging.{IsTrueMerge, MergeTellsTruth, merge_written, misfit_output}
 use Rattle.ec_cli_run.specs.Runs.{Tells}
 use Rattle.ec_cli_run.specs.Sound.{TellsTruth}
 use Rattle.ec_cli_run.proofs.PlanSound.{merge_true, refusal_true}

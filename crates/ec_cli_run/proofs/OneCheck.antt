@@ -22,7 +22,7 @@ use Rattle.ec_cert.specs.Shapes.{CertView}
 use Rattle.ec_cert.specs.Versions.{rules_of}
 use Rattle.ec_checker.specs.declared.fault.CheckFault.{CheckFault}
 use Rattle.ec_checker.specs.declared.fault.CheckFault.TheVariants as fault
-use Rattle.ec_cert.specs.BestPlan.{value_of, IsBestPlan}
+use Rattle.ec_cert.specs.IsBestPlan.{value_of, IsBestPlan}
 use Rattle.ec_checker.specs.Certified.{line_of, lines_of, IsFor, HasHead, IsLevelIn, IsShown, IsCertified, IsFaultOf, IsPlanFault, tree_found}
 use Rattle.ec_loads.proofs.CostLemmas.{one_busiest}
 use Rattle.ec_checker.proofs.CheckLemmas.{plan_refutes, refutes}

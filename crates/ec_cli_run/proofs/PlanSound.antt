@@ -1,8 +1,7 @@
 -- What a plan tells is true.
-use Rattle.std.proofs.Common.{Bool, ◌≡◌, ℕ, ◌≤◌, List, length, Option, Some, Result, Ok, refl, ap, subst, sym, ◌∙◌, inl, inr, arith}
+use Rattle.std.proofs.Common.{Bool, ◌≡◌, ℕ, ◌≤◌, List, length, Option, Some, Result, Ok, ap, subst, sym, ◌∙◌, inl, inr, arith}
 use Rattle.std.specs.Prelude.{option_map}
 use Rattle.std.proofs.lemmas.List.{length-map}
-use Rattle.ec_units.specs.declared.slave.Place.{Place}
 use Rattle.ec_unit_text.specs.declared.fault.UnitFault.{UnitFault}
 use Rattle.ec_units.specs.declared.unit.Load.{Load}
 use Rattle.ec_units.specs.declared.units.Units.{Units}
@@ -10,13 +9,12 @@ use Rattle.ec_units.specs.Load.{load_of, loads_of}
 use Rattle.ec_unit_text.specs.Reading.{reading}
 use Rattle.ec_units.specs.Views.{UnitsView, units_view, view_loads}
 use Rattle.ec_units.proofs.Viewed.{loads_of-views}
-use Rattle.ec_loads.specs.Cost.{plan_items, tick_cost, IsBusiest}
-use Rattle.ec_loads.specs.Line.{turned_time, line_by}
+use Rattle.ec_loads.specs.Line.{line_by}
 use Rattle.ec_loads.specs.Shape.{Shape}
 use Rattle.ec_loads.specs.Search.{BoundsAll, IsLeast, HasNoPlan}
 use Rattle.ec_loads.proofs.ItemLemmas.{AreLoads-loads_of}
 use Rattle.ec_cert.specs.declared.cert.Best.{Best}
-use Rattle.ec_cert.specs.BestPlan.{value_of}
+use Rattle.ec_cert.specs.IsBestPlan.{value_of}
 use Rattle.ec_cert.specs.Shapes.{cert_view, shape_of}
 use Rattle.ec_symmetry.specs.Orders.{IsOrder}
 use Rattle.ec_tree.specs.Trees.{LevelsBound}

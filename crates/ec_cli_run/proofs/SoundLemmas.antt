@@ -1,6 +1,6 @@
 -- A check's yes is true.
 -- By the status alone: no refusal has status 0 or 1 (`code_above` of `ec_cli_refusals`).
-use Rattle.std.proofs.Common.{◌≡◌, ℕ, ◌≤◌, List, Option, Some, None, Result, Ok, Err, refl, ap, subst, inl, inr, arith}
+use Rattle.std.proofs.Common.{◌≡◌, ℕ, List, Option, Some, None, Result, Ok, Err, refl, ap, subst, inl, inr, arith}
 use Rattle.std.specs.Prelude.{MatchResult}
 use Rattle.ec_unit_text.specs.declared.fault.UnitFault.{UnitFault}
 use Rattle.ec_units.specs.declared.unit.Load.{Load}
@@ -24,7 +24,7 @@ use Rattle.ec_cli_text.specs.Lines.{least_line, level_line, no_plan_line}
 use Rattle.ec_cli_text.specs.Output.{Written, IsUnitsOutput, IsCheckedOf, IsCheckedOutput, refused, verdict_output}
 use Rattle.ec_cli_refusals.specs.Refusals.{refusal_code}
 use Rattle.ec_cli_refusals.proofs.RefusalLemmas.{code_above}
-use Rattle.ec_cli_run.specs.Sound.{TellsLeast, TellsNoPlan, TellsAtLeast, YesIsTrue, YesTellsTruth}
+use Rattle.ec_cli_run.specs.Sound.{YesIsTrue, YesTellsTruth}
 
 -- what is told of units, by what is claimed of their loads
 record Told (loads : List Load) (n : ℕ) (w : Written) : Type 0 where

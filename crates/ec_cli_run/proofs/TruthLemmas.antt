@@ -14,15 +14,15 @@ use Rattle.ec_cli_command.specs.declared.job.Job.TheVariants as job
 use Rattle.ec_cli_command.specs.declared.line.Line.{Line}
 use Rattle.ec_cli_command.specs.declared.line.Line.TheVariants as line
 use Rattle.ec_cli_command.specs.Words.{job_of}
-use Rattle.ec_cli_inputs.specs.Use.{Use, used, before, IsSound, HasFailed, Lent, IfLent}
+use Rattle.ec_cli_inputs.specs.Use.{Use, used, before, IsSound, HasFailed, HasNotFailed, Lent, IfLent}
 use Rattle.ec_cli_text.specs.Output.{Written, IsNoMemory, IsOutput}
 use Rattle.ec_cli_answers.specs.Planned.{Gets}
 use Rattle.ec_cli_answers.specs.Told.{IsTold}
 use Rattle.ec_workers.specs.Answers.{asked_for}
-use Rattle.ec_cli_run.specs.Runs.{Does, DoesLine, DoesWith, HasCert, HasNotFailed, LineTold, Refuses, nobody}
-use Rattle.ec_cli_run.specs.Sound.{LineIsTrue, RunIsTrue, SearchIsTrue, TellsTruth, YesTellsTruth}
+use Rattle.ec_cli_run.specs.Runs.{DoesLine, DoesWith, HasCert, LineTold, Refuses}
+use Rattle.ec_cli_run.specs.Sound.{LineIsTrue, RunIsTrue, TellsTruth, YesTellsTruth}
 use Rattle.ec_cli_run.proofs.PlanSound.{plan_true, refusal_true, resume_true}
-use Rattle.ec_cli_run.proofs.RunLemmas.{true_or_false}
+use Rattle.ec_cli_run.proofs.RunLemmas.{lent_at, true_or_false}
 use Rattle.ec_cli_run.proofs.SoundLemmas.{truth_refused, yes_true}
 
 -- ---- what is told of a job
@@ -58,9 +58,6 @@ refused_true : {O : Type 0} (out : Lent O) (bytes : List ℕ) (w : Written) (r :
 refused_true out bytes w r is =
     let code : w.code ≡ refusal_code r = ap (λ (v : Written). v.code) is in
     (None, refusal_true bytes w None r is, λ small. absurd (omega (arith, code_above r, code, small)))
-
-abbrev lent_at : {X : Type 0} → (X → Option (List ℕ)) → Option (Io X) → Option (Io X) → Lent X
-lent_at tells old new = record { tells = tells; old = old; new = new }
 
 -- of a plan, where its writer failed or not
 got_at : {O : Type 0} (bytes : List ℕ) (w : Written) (tells : O → Option (List ℕ)) (old new : Option (Io O))
@@ -116,7 +113,7 @@ pub run_true : {R C O : Type 0} → TreesBound → LevelsBound → (j : Job) (u 
 run_true trees levels job.Cost u cert out w has d = tt
 run_true trees levels (job.Plan workers nodes strong) u cert out w has d = λ sound. plan_all levels workers nodes strong (before u) out w (λ fine. d.0.told sound tt fine) d.0.unwritten
 run_true trees levels (job.Resume workers nodes part) u cert out w has d = λ sound.
-    lent_there (job.Resume workers nodes part) cert _ _ (IfSome (before u) (IsTrueWith out w)) (λ e. e) has (λ c h. resume_all levels workers nodes part (before u) out w h) (d.some sound)
+    lent_there (job.Resume workers nodes part) cert _ _ (IfSome (before u) (IsTrueWith out w)) (λ e. e) has (λ c h. resume_all levels workers nodes part (before u) out w h) (d.0.some sound)
 run_true trees levels job.Check u cert out w has d = λ sound.
     lent_there job.Check cert _ _ (IfSome (before u) (λ bytes. YesTellsTruth bytes w)) (λ e. e) has (λ c h. check_all trees levels (before u) (λ file. Unit {0}) w h) (d.0.some sound)
 run_true trees levels job.Frames u cert out w has d = tt

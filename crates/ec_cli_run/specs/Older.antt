@@ -1,7 +1,7 @@
 -- When an older certificate isn't to make room for a newer one.
 use Rattle.std.specs.Prelude.{◌≡◌, ◌⊎◌, ℕ, ◌<◌, min, Option, Some, None}
 use Rattle.ec_loads.specs.Search.{IsAtMost, node_count}
-use Rattle.ec_cert.specs.BestPlan.{value_of}
+use Rattle.ec_cert.specs.IsBestPlan.{value_of}
 use Rattle.ec_cert.specs.Shapes.{CertView}
 use Rattle.ec_cert_merge.specs.Certs.{FitTogether}
 

@@ -1,5 +1,5 @@
 -- What a run does with the readers and writers that it is lent.
-use Rattle.std.specs.Prelude.{◌≡◌, ◌⊎◌, ℕ, true, false, List, Option, Some, None, Result, Ok, Err, String, IfSome}
+use Rattle.std.specs.Prelude.{◌≡◌, ◌⊎◌, ℕ, Bool, true, false, List, Option, Some, None, Result, Ok, Err, String, IfSome}
 use Rattle.std.specs.Io.KnownBytes.{Appends}
 use Rattle.std.proofs.Common.{Global}
 use Rattle.ec_wire.specs.declared.io.Io.{Io}
@@ -9,13 +9,14 @@ use Rattle.ec_cli_refusals.specs.declared.refusal.Refusal.TheVariants as refusal
 use Rattle.ec_cli_command.specs.declared.job.Job.{Job}
 use Rattle.ec_cli_command.specs.declared.job.Job.TheVariants as job
 use Rattle.ec_cli_command.specs.declared.line.Line.{Line}
-use Rattle.ec_cli_command.specs.Words.{cert_of, job_of, out_of}
+use Rattle.ec_cli_command.specs.Words.{cert_of, job_of, out_of, reads_cert, writes_file}
 use Rattle.ec_cli_files.specs.declared.fault.FileFault.{FileFault}
-use Rattle.ec_cli_inputs.specs.Input.{ReadsBoth, ReadsUpTo, most_of_units}
-use Rattle.ec_cli_inputs.specs.Use.{Use, before, after, IsSound, HasFailed, IsKept, Lent, IfLent, IsLeft}
+use Rattle.ec_cli_inputs.specs.Input.{ReadsBoth, ReadsUpTo, Says, most_of_units}
+use Rattle.ec_cli_inputs.specs.declared.input.Inputs.{Inputs}
+use Rattle.ec_cli_inputs.specs.Use.{Use, before, after, IsSound, HasFailed, HasNotFailed, IsKept, Lent, IfLent, IfGiven, IsLeft, nobody}
 use Rattle.ec_cli_text.specs.Output.{Written, refused, shown}
 use Rattle.ec_cli_answers.specs.Planned.{Gets, GetsFront}
-use Rattle.ec_cli_answers.specs.Told.{IsTold, TellsFor, file_of, told}
+use Rattle.ec_cli_answers.specs.Told.{HasInput, IsTold, TellsFor, file_of, told}
 use Rattle.ec_cli_answers.specs.declared.told.Told.{Told}
 
 -- ---- what is written
@@ -40,51 +41,34 @@ pub record IsDelivered {O : Type 0} (answer : Result Told Refusal) (out : Use O)
 
 -- ---- what a run does
 
--- the job reads a certificate, or may
-abbrev pub ReadsSomeCert : Job → Type 0
-ReadsSomeCert job.Cost = ⊥
-ReadsSomeCert (job.Plan workers nodes strong) = ⊥
-ReadsSomeCert _ = Unit {0}
-
--- one that is lent, and none
-abbrev pub here : {X : Type 0} → Use X → Lent X
-here s = record { tells = s.tells; old = Some s.old; new = Some s.new }
-
-abbrev pub nobody : {X : Type 0} → Lent X
-nobody = record { tells = λ _. None; old = None; new = None }
-
--- no call of it failed, if it is there
-abbrev pub HasNotFailed : {X : Type 0} → Lent X → Type 0
-HasNotFailed s = IfLent s (Unit {0}) IsSound
-
--- the bytes of a certificate, if there is one; where they aren't known nothing is asked
-abbrev pub Given : {C : Type 0} → Lent C → (Option (List ℕ) → Type 0) → Type 0
-Given cert P = IfLent cert (P None) (λ c. IfSome (before c) (λ text. P (Some text)))
+-- what is told for a job of what was read, or why nothing was
+abbrev pub AnswersOf : Job → Result Inputs Refusal → Result Told Refusal → Type 0
+AnswersOf j (Ok i) answer = (bytes : List ℕ) (cert : Option (List ℕ)) → Says bytes cert i → TellsFor j bytes cert answer
+AnswersOf j (Err r) answer = answer ≡ Err r
 
 -- the job's units are read, and its certificate where it reads one; what is told of them goes to the writers. Of a certificate whose bytes aren't known it is what is
 -- told for some text (`some`)
 pub record Does {R C O : Type 0} (j : Job) (units : Use R) (cert : Lent C) (out : Lent O) (w : Written) : Type 0 where
   pub units_read : ReadsUpTo units most_of_units (Refuses refusal.Read w)
   pub cert_read : IfLent cert (Unit {0}) (λ c. ReadsBoth units c (Refuses refusal.Read w))
-  pub told : IsSound units → HasNotFailed cert → HasNotFailed out → IfSome (before units) (λ bytes. Given cert (λ text.
+  pub told : IsSound units → HasNotFailed cert → HasNotFailed out → IfSome (before units) (λ bytes. IfGiven cert (λ text.
       (file : Option (List ℕ)) × IsTold j bytes text w file × IfLent out (Unit {0}) (λ o. Gets o.tells o.old o.new file)))
-  pub front : IsSound units → HasNotFailed cert → IfSome (before units) (λ bytes. Given cert (λ text.
+  pub front : IsSound units → HasNotFailed cert → IfSome (before units) (λ bytes. IfGiven cert (λ text.
       IfLent out (Unit {0}) (λ o. (v : Written) × (file : Option (List ℕ)) × IsTold j bytes text v file × GetsFront o.tells o.old o.new file)))
   pub some : IsSound units → IfLent cert (Unit {0}) (λ c. IfSome (before units) (λ bytes. (Refuses refusal.Read w ⊎ Refuses refusal.Write w) ⊎ ((text : List ℕ) × (file : Option (List ℕ)) × IsTold j bytes (Some text) w file × IfLent out (Unit {0}) (λ o. IsSound o → Gets o.tells o.old o.new file))))
   pub unwritten : IfLent out (Unit {0}) (λ o. HasFailed o → Refuses refusal.Write w)
   pub unread : IfLent out (Unit {0}) (λ o. HasFailed units → IsKept o)
   pub cert_unread : IfLent cert (Unit {0}) (λ c. IfLent out (Unit {0}) (λ o. HasFailed c → IsKept o))
 
--- a cost and a plan leave the certificate, and a job that writes no file leaves the writer
+-- one that is used, and else none
+abbrev pub where_used : {X : Type 0} → Bool → Lent X → Lent X
+where_used true s = s
+where_used false s = nobody
+
+-- a job that reads no certificate leaves it, and one that writes no file leaves the writer
 abbrev pub DoesWith : {R C O : Type 0} → Job → Use R → Lent C → Lent O → Written → Type 0
-DoesWith {R} {C} {O} job.Cost units cert out w = Does job.Cost units (nobody {X = C}) (nobody {X = O}) w × IsLeft cert × IsLeft out
-DoesWith {R} {C} {O} (job.Plan workers nodes strong) units cert out w = Does (job.Plan workers nodes strong) units (nobody {X = C}) out w × IsLeft cert
-DoesWith {R} {C} {O} (job.Resume workers nodes part) units cert out w = Does (job.Resume workers nodes part) units cert out w
-DoesWith {R} {C} {O} job.Check units cert out w = Does job.Check units cert (nobody {X = O}) w × IsLeft out
-DoesWith {R} {C} {O} job.Frames units cert out w = Does job.Frames units cert (nobody {X = O}) w × IsLeft out
-DoesWith {R} {C} {O} job.Capture units cert out w = Does job.Capture units cert out w
-DoesWith {R} {C} {O} job.PlanCost units cert out w = Does job.PlanCost units cert (nobody {X = O}) w × IsLeft out
-DoesWith {R} {C} {O} job.Play units cert out w = Does job.Play units cert (nobody {X = O}) w × IsLeft out
+DoesWith j units cert out w =
+    Does j units (where_used (reads_cert j) cert) (where_used (writes_file j) out) w × (reads_cert j ≡ false → IsLeft cert) × (writes_file j ≡ false → IsLeft out)
 
 -- a run does its job, and tells what is to be written for it
 abbrev pub IsRun : {R C W O : Type 0} → Job → Use R → Lent C → Use W → Lent O → ℕ → Type 0
@@ -122,35 +106,18 @@ usage text = record { text = text; code = 5 }
 
 -- ---- what a caller brings
 
--- a check, the cost of a plan and a resumed search have a reader of a certificate, which has not failed, and frames and a play may have one
+-- a reader of a certificate, where the job reads one, has not failed, and is there where the job can't do without
 abbrev pub HasCert : {C : Type 0} → Job → Option (Io C) → Type 0
 HasCert job.Cost cert = Unit {0}
 HasCert (job.Plan workers nodes strong) cert = Unit {0}
-HasCert (job.Resume workers nodes part) None = ⊥
-HasCert (job.Resume workers nodes part) (Some cert) = has_failed cert ≡ false
-HasCert job.Check None = ⊥
-HasCert job.Check (Some cert) = has_failed cert ≡ false
-HasCert job.Frames None = Unit {0}
-HasCert job.Frames (Some cert) = has_failed cert ≡ false
-HasCert job.Capture None = Unit {0}
-HasCert job.Capture (Some cert) = has_failed cert ≡ false
-HasCert job.Play None = Unit {0}
-HasCert job.Play (Some cert) = has_failed cert ≡ false
-HasCert job.PlanCost None = ⊥
-HasCert job.PlanCost (Some cert) = has_failed cert ≡ false
+HasCert j None = HasInput j None
+HasCert j (Some cert) = has_failed cert ≡ false
 
 -- if there is a reader, it has not failed
 abbrev pub NoneFailed : {C : Type 0} → Option (Io C) → Type 0
 NoneFailed None = Unit {0}
 NoneFailed (Some cert) = has_failed cert ≡ false
 
--- the writer of a capture, if there is one, has not failed; of another job's nothing is asked
+-- a writer, where the job writes a file, has not failed, if there is one
 abbrev pub HasOut : {O : Type 0} → Job → Option (Io O) → Type 0
-HasOut job.Cost out = Unit {0}
-HasOut (job.Plan workers nodes strong) out = Unit {0}
-HasOut (job.Resume workers nodes part) out = Unit {0}
-HasOut job.Check out = Unit {0}
-HasOut job.Frames out = Unit {0}
-HasOut job.Capture out = NoneFailed out
-HasOut job.Play out = Unit {0}
-HasOut job.PlanCost out = Unit {0}
+HasOut j out = writes_file j ≡ true → NoneFailed out

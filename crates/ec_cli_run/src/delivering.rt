@@ -40,6 +40,14 @@ pub(crate) fn deliver<W: Write>(told: &Result<Told, Refusal>, text: &mut Io<W>) 
     }
 }
 
+/// The same, and lets go of what is told.
+pub(crate) fn deliver_text<W: Write>(told: Result<Told, Refusal>, text: &mut Io<W>) -> Status
+    requires { has_failed text.old ≡ false }
+    ensures { Tells (λ w. w ≡ told_of told) (used W.contents text.old text.new) result.code }
+{
+    deliver(&told, text)
+}
+
 /// Writes the file of what is told, if it has one, and then its text or the refusal with its status; where the file can't be
 /// written, the refusal that says so.
 pub(crate) fn deliver_to<W: Write, O: Write>(

@@ -1,21 +1,22 @@
 //! Does what a command line says, with the paths that it names.
 
-ghost use Rattle.std.specs.Prelude.{◌≡◌, false, IfSome, None};
+ghost use Rattle.std.specs.Prelude.{◌≡◌, true, false, IfSome, None};
 ghost use Rattle.ec_wire.specs.Stream.{has_failed, stream};
-ghost use Rattle.ec_cli_command.specs.Words.{JobFits, cert_of, job_of, out_of};
+ghost use Rattle.ec_cli_command.specs.Words.{JobFits, cert_of, job_of, out_of, reads_cert};
 ghost use Rattle.ec_cli_inputs.specs.Input.{ReadsUpTo, most_of_units};
 ghost use Rattle.ec_cli_inputs.specs.Use.{used};
 ghost use Rattle.ec_cli_answers.specs.Told.{HasText, IsWritable};
-ghost use Rattle.ec_cli_run.specs.Runs.{AnswersLine, DoesLine, ReadsSomeCert, Tells, reported};
+ghost use Rattle.ec_cli_run.specs.Runs.{AnswersLine, DoesLine, Tells, reported};
 ghost use Rattle.ec_cli_run.specs.Sound.{LineIsTrue};
 
-use crate::answering::{answer_alone, answer_both};
+use crate::answering::tell;
 use crate::delivering::{deliver, write_file};
 use crate::job::{Status, refuse};
 use crate::older::reason_to_stay;
 use ec_cli_answers::{File, Told};
 use ec_cli_command::{Job, Line};
 use ec_cli_files::{Content, FileFault, KeepReason, Late};
+use ec_cli_inputs::{read_alone, read_both};
 use ec_cli_refusals::Refusal;
 use ec_tree::{law_levels_bound, law_trees_bound};
 use ec_unit_text::UnitFault;
@@ -51,7 +52,7 @@ fn tell_from<R: Read, F: Files, T: Threads + Wait + Sync, G: Gate + Sync>(
     gate: &G,
 ) -> Result<Told, Refusal>
     requires fits { JobFits job.now }
-    requires given { ReadsSomeCert job.now }
+    requires given { reads_cert job.now ≡ true }
     requires units { has_failed units.old ≡ false }
     ensures told { has_failed units.new ≡ false → IfSome (R.remaining (stream units.old)) (λ bytes. AnswersLine job.now (Some from.now) bytes result) }
     ensures read { ReadsUpTo (used R.remaining units.old units.new) most_of_units (result ≡ Err Refusal.Read) }
@@ -61,7 +62,8 @@ fn tell_from<R: Read, F: Files, T: Threads + Wait + Sync, G: Gate + Sync>(
         return Err(Refusal::Read);
     };
     let mut cert = Io::new(file);
-    answer_both(rt, alloc, job, units, &mut cert, gate)
+    let read = read_both(alloc, units, &mut cert);
+    tell(rt, alloc, job, read, gate)
 }
 
 /// What the job of a line tells.
@@ -82,7 +84,10 @@ fn tell_line<R: Read, F: Files, T: Threads + Wait + Sync, G: Gate + Sync>(
     let job = line.job();
     match line.cert() {
         Some(from) => tell_from(rt, files, alloc, &job, from, units, gate),
-        None => answer_alone(rt, alloc, &job, units, gate),
+        None => {
+            let read = read_alone(alloc, units);
+            tell(rt, alloc, &job, read, gate)
+        }
     }
 }
 

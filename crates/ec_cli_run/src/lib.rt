@@ -9,10 +9,7 @@ mod law;
 mod merging;
 mod misfits;
 mod older;
-mod plain;
-mod plain_steps;
 mod running;
-mod steps;
 mod usage;
 
 pub use doing::{Report, do_line};
@@ -22,6 +19,5 @@ pub use law::{
     law_one_capture_each, law_one_least_each, law_one_output_each,
 };
 pub use merging::{MergeFault, MergeReport, do_merge};
-pub use plain::run_plain;
-pub use running::run;
+pub use running::{run, run_plain};
 pub use usage::{refuse_memory, refuse_words};

@@ -2,7 +2,7 @@
 
 ghost use Rattle.std.specs.Prelude.{◌≡◌, ◌↔◌, IsTrue};
 ghost use Rattle.ec_loads.specs.Search.{IsAtMost};
-ghost use Rattle.ec_cert.specs.BestPlan.{value_of};
+ghost use Rattle.ec_cert.specs.IsBestPlan.{value_of};
 ghost use Rattle.ec_cert.specs.Shapes.{cert_view};
 ghost use Rattle.ec_cli_run.specs.Older.{HasMoreNodes, ShowsMore, SaysMore};
 
@@ -96,7 +96,8 @@ fn says_more(older: &Cert, newer: &Cert) -> bool
             || has_more_nodes(older, newer))
 }
 
-/// The certificate that stands at the path of a file; none where there is no file that is one.
+/// The certificate that stands at the path of a file; none where no file is there, or an empty one. An error also where
+/// what stands there can't be read as a certificate.
 fn standing_cert<F: Files>(alloc: Global, late: &Late<'_, F>) -> io::Result<Option<Cert>> {
     let Some(text) = late.standing(MOST_BYTES as u64)? else {
         return Ok(None);
@@ -104,7 +105,8 @@ fn standing_cert<F: Files>(alloc: Global, late: &Late<'_, F>) -> io::Result<Opti
     match read_cert(alloc, &text) {
         Ok(cert) => Ok(Some(cert)),
         Err(CertFault::OutOfMemory) => Err(io::Error::from(ErrorKind::OutOfMemory)),
-        Err(_) => Ok(None),
+        Err(_) if text.is_empty() => Ok(None),
+        Err(_) => Err(io::Error::from(ErrorKind::InvalidData)),
     }
 }
 

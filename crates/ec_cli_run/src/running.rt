@@ -1,15 +1,17 @@
-//! A run of any job.
+//! Runs of jobs.
 
 ghost use Rattle.std.specs.Prelude.{◌≡◌, false, option_map};
 ghost use Rattle.ec_wire.specs.Stream.{has_failed};
+ghost use Rattle.ec_cli_command.specs.Words.{IsPlain, JobFits};
 ghost use Rattle.ec_cli_inputs.specs.Use.{used, lent};
-ghost use Rattle.ec_cli_run.specs.Runs.{HasCert, NoneFailed};
+ghost use Rattle.ec_cli_run.specs.Runs.{HasCert, HasOut, IsRun, NoneFailed};
 ghost use Rattle.ec_cli_run.specs.Sound.{IsTrueRun};
-ghost use Rattle.ec_cli_command.specs.Words.{JobFits};
 
+use crate::answering::{tell, tell_plain};
+use crate::delivering::{deliver_text, deliver_to};
 use crate::job::Status;
-use crate::steps::{run_alone, run_alone_to, run_both, run_both_to};
 use ec_cli_command::Job;
+use ec_cli_inputs::{read_alone, read_both};
 use ec_tree::{law_levels_bound, law_trees_bound};
 use ec_wire::Io;
 use ec_workers::Gate;
@@ -42,44 +44,67 @@ pub fn run<R: Read, C: Read, W: Write, O: Write, T: Threads + Wait + Sync, G: Ga
 {
     law_trees_bound();
     law_levels_bound();
-    match job {
-        Job::Cost => run_alone(rt, alloc, job, units, text, gate),
-        Job::Check => match cert {
-            Some(cert) => run_both(rt, alloc, job, units, cert, text, gate),
-            None => unreachable!(),
-        },
-        Job::PlanCost => match cert {
-            Some(cert) => run_both(rt, alloc, job, units, cert, text, gate),
-            None => unreachable!(),
-        },
-        Job::Frames => match cert {
-            Some(cert) => run_both(rt, alloc, job, units, cert, text, gate),
-            None => run_alone(rt, alloc, job, units, text, gate),
-        },
-        Job::Play => match cert {
-            Some(cert) => run_both(rt, alloc, job, units, cert, text, gate),
-            None => run_alone(rt, alloc, job, units, text, gate),
-        },
-        Job::Capture => match cert {
-            Some(cert) => match out {
-                Some(out) => run_both_to(rt, alloc, job, units, cert, text, out, gate),
-                None => run_both(rt, alloc, job, units, cert, text, gate),
-            },
-            None => match out {
-                Some(out) => run_alone_to(rt, alloc, job, units, text, out, gate),
-                None => run_alone(rt, alloc, job, units, text, gate),
-            },
-        },
-        Job::Plan { .. } => match out {
-            Some(out) => run_alone_to(rt, alloc, job, units, text, out, gate),
-            None => run_alone(rt, alloc, job, units, text, gate),
-        },
-        Job::Resume { .. } => match cert {
-            Some(cert) => match out {
-                Some(out) => run_both_to(rt, alloc, job, units, cert, text, out, gate),
-                None => run_both(rt, alloc, job, units, cert, text, gate),
-            },
-            None => unreachable!(),
-        },
+    let read = match cert {
+        Some(cert) => {
+            if job.reads_cert() {
+                read_both(alloc, units, cert)
+            } else {
+                read_alone(alloc, units)
+            }
+        }
+        None => read_alone(alloc, units),
+    };
+    let told = tell(rt, alloc, job, read, gate);
+    match out {
+        Some(out) => {
+            if job.writes_file() {
+                deliver_to(told, out, text)
+            } else {
+                deliver_text(told, text)
+            }
+        }
+        None => deliver_text(told, text),
+    }
+}
+
+/// Does a job that searches for nothing, without a runtime: reads the units, and then the certificate where the job has
+/// one, makes its whole answer, and then writes it to `text`. It reads at most 1,048,577 bytes of units and 67,108,865 of a
+/// certificate, so it ends on readers that never do. A cost leaves `cert` unread, and so does a check of units that are
+/// refused. A capture writes its file to `out`, if `out` is there, before the text; no other job writes to it.
+pub fn run_plain<R: Read, C: Read, W: Write, O: Write>(
+    alloc: Global,
+    job: &Job,
+    units: &mut Io<R>,
+    cert: Option<&mut Io<C>>,
+    text: &mut Io<W>,
+    out: Option<&mut Io<O>>,
+) -> Status
+    requires plain { IsPlain job.now }
+    requires units { has_failed units.old ≡ false }
+    requires cert { HasCert job.now (option_map (λ r. r.now) cert) }
+    requires text { has_failed text.old ≡ false }
+    requires out { HasOut job.now (option_map (λ r. r.now) out) }
+    ensures { IsRun job.now (used R.remaining units.old units.new) (lent C.remaining cert.entry cert.exit) (used W.contents text.old text.new) (lent O.contents out.entry out.exit) result.code }
+{
+    let read = match cert {
+        Some(cert) => {
+            if job.reads_cert() {
+                read_both(alloc, units, cert)
+            } else {
+                read_alone(alloc, units)
+            }
+        }
+        None => read_alone(alloc, units),
+    };
+    let told = tell_plain(alloc, job, read);
+    match out {
+        Some(out) => {
+            if job.writes_file() {
+                deliver_to(told, out, text)
+            } else {
+                deliver_text(told, text)
+            }
+        }
+        None => deliver_text(told, text),
     }
 }

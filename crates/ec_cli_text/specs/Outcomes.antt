@@ -5,7 +5,7 @@ use Rattle.ec_units.specs.declared.unit.Unit.{Unit as SyncUnit}
 use Rattle.ec_units.specs.Load.{loads_of}
 use Rattle.ec_loads.specs.Line.{line_by}
 use Rattle.ec_cert.specs.declared.cert.Best.{Best}
-use Rattle.ec_cert.specs.BestPlan.{value_of}
+use Rattle.ec_cert.specs.IsBestPlan.{value_of}
 use Rattle.ec_cert.specs.Shapes.{shape_of}
 use Rattle.ec_checker.specs.Levels.{IsGreatestLevel}
 use Rattle.ec_outcome.specs.declared.search.Cut.{Cut}

@@ -8,7 +8,7 @@ ghost use Rattle.ec_loads.specs.Search.{IsPartialTree};
 ghost use Rattle.ec_symmetry.specs.Orders.{IsOrder, IsReachedPrefix, prefix_of};
 ghost use Rattle.ec_symmetry.specs.Ruled.{line_rules};
 ghost use Rattle.ec_cert.specs.Shapes.{shape_of};
-ghost use Rattle.test_scripts.specs.Firsts.{IsFirstPhase};
+ghost use Rattle.test_scripts.specs.IsFirstPhase.{IsFirstPhase};
 
 use ec_branch::{Guide, explore};
 use ec_cert::Subtree;

@@ -1,4 +1,4 @@
-use Rattle.std.proofs.Common.{◌∙◌, ◌≡◌, Err, ap}
+use Rattle.std.proofs.Common.{◌∙◌, Err, ap}
 use Rattle.std.proofs.lemmas.Result.{err_from_is_err_and}
 use Rattle.ec_cli_answers.proofs.ToldLemmas.{resumed_short, resumed_tells, resumed_untold}
 use Rattle.ec_cli_answers.proofs.answering.tell_resumed.Goals as goal

@@ -1,7 +1,7 @@
 use Rattle.std.proofs.Common.{◌∙◌, refl, None, Err}
 use Rattle.ec_cli_command.specs.Words.{job_of, cert_of}
 use Rattle.ec_cli_refusals.specs.Refusals.{out_of_memory}
-use Rattle.ec_cli_run.proofs.LineLemmas.{needs_none, reads_cert, some-none, with_path}
+use Rattle.ec_cli_run.proofs.LineLemmas.{needs_none, reads_its_cert, some-none, with_path}
 use Rattle.ec_cli_run.proofs.RunLemmas.{line_reports, nothing_read, tells_more, told_memory}
 use Rattle.ec_cli_run.proofs.doing.report_line.Goals as goal
 
@@ -12,4 +12,4 @@ pub returns-in-Ok : goal.returns-in-Ok
 returns-in-Ok g c = tells_more (line_reports c.args.line.now _ c.tell_line-told-in-Ok.result _ c.write_late-fault.result _ c.deliver_report-in-Ok.ensures.told c.deliver_report-in-Ok.ensures.fault (λ none. absurd (some-none (with_path _ c.in-Some.is c.out.ensures ∙ none))) c.tell_line-told-in-Ok.ensures.read c.tell_line-told-in-Ok.ensures.told) c.deliver_report-in-Ok.ensures.text
 
 pub returns-in-Err : goal.returns-in-Err
-returns-in-Err g c = tells_more (line_reports c.args.line.now _ (Err out_of_memory) _ None _ c.deliver_report-in-Err.ensures.told c.deliver_report-in-Err.ensures.fault (λ _. refl) (nothing_read _ c.args.units.now _ c.requires.units) (λ sound. told_memory (job_of c.args.line.now) (cert_of c.args.line.now) (needs_none c.args.line.now) (reads_cert c.args.line.now) _)) c.deliver_report-in-Err.ensures.text
+returns-in-Err g c = tells_more (line_reports c.args.line.now _ (Err out_of_memory) _ None _ c.deliver_report-in-Err.ensures.told c.deliver_report-in-Err.ensures.fault (λ _. refl) (nothing_read _ c.args.units.now _ c.requires.units) (λ sound. told_memory (job_of c.args.line.now) (cert_of c.args.line.now) (needs_none c.args.line.now) (reads_its_cert c.args.line.now) _)) c.deliver_report-in-Err.ensures.text

@@ -1,4 +1,4 @@
-use Rattle.std.proofs.Common.{◌≡◌, rules, refl}
+use Rattle.std.proofs.Common.{◌≡◌, rules}
 use Rattle.ec_cli_text.specs.Output.{refused}
 use Rattle.ec_cli_refusals.specs.Refusals.{refusal_line}
 use Rattle.ec_cli_run.proofs.RunLemmas.{tells_text}

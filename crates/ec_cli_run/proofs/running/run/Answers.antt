@@ -1,78 +1,41 @@
-use Rattle.std.proofs.Common.{inl, inr, refl}
-use Rattle.ec_cli_run.proofs.RunLemmas.{all_is, alone_is, both_is, tells_more, to_is}
-use Rattle.ec_cli_run.proofs.TellLemmas.{option_cases}
+use Rattle.std.proofs.Common.{◌∙◌, Result, refl, sym, subst}
+use Rattle.ec_cli_inputs.specs.declared.input.Inputs.{Inputs}
+use Rattle.ec_cli_refusals.specs.declared.refusal.Refusal.{Refusal}
+use Rattle.ec_cli_run.specs.Runs.{AnswersOf}
+use Rattle.ec_cli_run.proofs.RunLemmas.{does_read, does_unread, does_without, nowhere_with, tells_more, unwritten_with, write_with}
 use Rattle.ec_cli_run.proofs.TruthLemmas.{truly}
 use Rattle.ec_cli_run.proofs.running.run.Goals as goal
-use Rattle.ec_cli_run.proofs.running.run.Goals.{in-Some-out, in-None-out, in-Some-out-4, in-None-out-4}
+use Rattle.ec_cli_run.proofs.running.run.Goals.{in-Some, in-None, then-reads_cert, else-reads_cert, then-writes_file, else-writes_file}
 
-pub returns-in-Cost : goal.returns-in-Cost
-returns-in-Cost g c = tells_more (λ w h. truly c.law_trees_bound.ensures c.law_levels_bound.ensures _ _ _ _ _ c.requires.cert (rw c.in-Cost.is (
-  alone_is c.in-Cost.is h,
-  elim (option_cases c.args.cert) [ inl e ↦ rw e refl | inr p ↦ rw p.1 refl ],
-  elim (option_cases c.args.out) [ inl e ↦ rw e refl | inr p ↦ rw p.1 refl ],
-))) c.run_alone.ensures
-
-pub returns-in-Some : goal.returns-in-Some
-returns-in-Some g c = tells_more (λ w h. truly c.law_trees_bound.ensures c.law_levels_bound.ensures _ _ _ _ _ c.requires.cert (rw (c.in-Check.is, c.in-Some.is) (
-  both_is c.in-Check.is h,
-  elim (option_cases c.args.out) [ inl e ↦ rw e refl | inr p ↦ rw p.1 refl ],
-))) c.run_both.ensures
-
-pub returns-in-Some-cert : goal.returns-in-Some-cert
-returns-in-Some-cert g c = tells_more (λ w h. truly c.law_trees_bound.ensures c.law_levels_bound.ensures _ _ _ _ _ c.requires.cert (rw (c.in-PlanCost.is, c.in-Some-cert.is) (
-  both_is c.in-PlanCost.is h,
-  elim (option_cases c.args.out) [ inl e ↦ rw e refl | inr p ↦ rw p.1 refl ],
-))) c.run_both-in-Some-cert.ensures
-
-pub returns-in-Some-cert-2 : goal.returns-in-Some-cert-2
-returns-in-Some-cert-2 g c = tells_more (λ w h. truly c.law_trees_bound.ensures c.law_levels_bound.ensures _ _ _ _ _ c.requires.cert (rw (c.in-Frames.is, c.in-Some-cert-2.is) (
-  both_is c.in-Frames.is h,
-  elim (option_cases c.args.out) [ inl e ↦ rw e refl | inr p ↦ rw p.1 refl ],
-))) c.run_both-in-Some-cert-2.ensures
-
-pub returns-in-None-cert-2 : goal.returns-in-None-cert-2
-returns-in-None-cert-2 g c = tells_more (λ w h. truly c.law_trees_bound.ensures c.law_levels_bound.ensures _ _ _ _ _ c.requires.cert (rw (c.in-Frames.is, c.in-None-cert-2.is) (
-  alone_is c.in-Frames.is h,
-  elim (option_cases c.args.out) [ inl e ↦ rw e refl | inr p ↦ rw p.1 refl ],
-))) c.run_alone-in-None-cert-2.ensures
-
-pub returns-in-Some-cert-3 : goal.returns-in-Some-cert-3
-returns-in-Some-cert-3 g c = tells_more (λ w h. truly c.law_trees_bound.ensures c.law_levels_bound.ensures _ _ _ _ _ c.requires.cert (rw (c.in-Play.is, c.in-Some-cert-3.is) (
-  both_is c.in-Play.is h,
-  elim (option_cases c.args.out) [ inl e ↦ rw e refl | inr p ↦ rw p.1 refl ],
-))) c.run_both-in-Some-cert-3.ensures
-
-pub returns-in-None-cert-3 : goal.returns-in-None-cert-3
-returns-in-None-cert-3 g c = tells_more (λ w h. truly c.law_trees_bound.ensures c.law_levels_bound.ensures _ _ _ _ _ c.requires.cert (rw (c.in-Play.is, c.in-None-cert-3.is) (
-  alone_is c.in-Play.is h,
-  elim (option_cases c.args.out) [ inl e ↦ rw e refl | inr p ↦ rw p.1 refl ],
-))) c.run_alone-in-None-cert-3.ensures
-
-pub returns-after-out : goal.returns-after-out
-returns-after-out g c =
-    elim c.match-out.branch [
-      | in-Some-out w ↦ rw (w.units-is, w.cert-is, w.text-is, w.out-is, w.result-is) (tells_more (λ x h. truly c.law_trees_bound.ensures c.law_levels_bound.ensures _ _ _ _ _ c.requires.cert (rw (c.in-Capture.is, c.in-Some-cert-4.is, w.in-Some-out.is) (all_is c.in-Capture.is h))) w.run_both_to.ensures)
-      | in-None-out w ↦ rw (w.units-is, w.cert-is, w.text-is, w.out-is, w.result-is) (tells_more (λ x h. truly c.law_trees_bound.ensures c.law_levels_bound.ensures _ _ _ _ _ c.requires.cert (rw (c.in-Capture.is, c.in-Some-cert-4.is, w.in-None-out.is) (both_is c.in-Capture.is h))) w.run_both-in-None-out.ensures)
+pub returns-after-writes_file : goal.returns-after-writes_file
+returns-after-writes_file g c =
+    elim c.if-writes_file.branch [
+      | then-writes_file o ↦
+          let writes = sym c.writes_file.ensures ∙ o.if-writes_file.true in
+          elim c.match-cert.branch [
+            | in-Some w ↦ elim w.if-reads_cert.branch [
+              | then-reads_cert v ↦ rw (w.units-is, v.units-is, w.cert-is, v.cert-is, o.text-is, o.out-is, o.result-is) (tells_more (λ x h. truly c.law_trees_bound.ensures c.law_levels_bound.ensures _ _ _ _ _ c.requires.cert (rw (w.in-Some.is, c.in-Some-out.is) (does_read c.args.job.now _ _ _ v.read_both.result c.tell-told.result (sym w.reads_cert.ensures ∙ v.if-reads_cert.true) v.read_both.ensures.read (subst (λ (r : Result Inputs Refusal). AnswersOf c.args.job.now r c.tell-told.result) (w.read-is ∙ v.read-is) c.tell-told.ensures.told) x (write_with c.args.job.now c.tell-told.result _ x writes (rw c.in-Some-out.is at c.requires.out) h)))) o.deliver_to.ensures)
+              | else-reads_cert v ↦ rw (w.units-is, v.units-is, w.cert-is, v.cert-is, o.text-is, o.out-is, o.result-is) (tells_more (λ x h. truly c.law_trees_bound.ensures c.law_levels_bound.ensures _ _ _ _ _ c.requires.cert (rw (w.in-Some.is, c.in-Some-out.is) (does_unread c.args.job.now _ _ _ v.read_alone.result c.tell-told.result (sym w.reads_cert.ensures ∙ v.if-reads_cert.false) refl v.read_alone.ensures.read (subst (λ (r : Result Inputs Refusal). AnswersOf c.args.job.now r c.tell-told.result) (w.read-is ∙ v.read-is) c.tell-told.ensures.told) x (write_with c.args.job.now c.tell-told.result _ x writes (rw c.in-Some-out.is at c.requires.out) h)))) o.deliver_to.ensures)
+            ]
+            | in-None w ↦ rw (w.units-is, w.cert-is, o.text-is, o.out-is, o.result-is) (tells_more (λ x h. truly c.law_trees_bound.ensures c.law_levels_bound.ensures _ _ _ _ _ c.requires.cert (rw (w.in-None.is, c.in-Some-out.is) (does_without _ c.args.job.now _ _ _ w.read_alone-read.result c.tell-told.result (rw w.in-None.is at c.requires.cert) w.read_alone-read.ensures.read (subst (λ (r : Result Inputs Refusal). AnswersOf c.args.job.now r c.tell-told.result) w.read-is c.tell-told.ensures.told) x (write_with c.args.job.now c.tell-told.result _ x writes (rw c.in-Some-out.is at c.requires.out) h)))) o.deliver_to.ensures)
+          ]
+      | else-writes_file o ↦
+          let leaves = sym c.writes_file.ensures ∙ o.if-writes_file.false in
+          elim c.match-cert.branch [
+            | in-Some w ↦ elim w.if-reads_cert.branch [
+              | then-reads_cert v ↦ rw (w.units-is, v.units-is, w.cert-is, v.cert-is, o.text-is, o.out-is, o.result-is) (tells_more (λ x h. truly c.law_trees_bound.ensures c.law_levels_bound.ensures _ _ _ _ _ c.requires.cert (rw (w.in-Some.is, c.in-Some-out.is) (does_read c.args.job.now _ _ _ v.read_both.result c.tell-told.result (sym w.reads_cert.ensures ∙ v.if-reads_cert.true) v.read_both.ensures.read (subst (λ (r : Result Inputs Refusal). AnswersOf c.args.job.now r c.tell-told.result) (w.read-is ∙ v.read-is) c.tell-told.ensures.told) x (unwritten_with c.args.job.now c.tell-told.result _ x leaves refl h)))) o.deliver_text.ensures)
+              | else-reads_cert v ↦ rw (w.units-is, v.units-is, w.cert-is, v.cert-is, o.text-is, o.out-is, o.result-is) (tells_more (λ x h. truly c.law_trees_bound.ensures c.law_levels_bound.ensures _ _ _ _ _ c.requires.cert (rw (w.in-Some.is, c.in-Some-out.is) (does_unread c.args.job.now _ _ _ v.read_alone.result c.tell-told.result (sym w.reads_cert.ensures ∙ v.if-reads_cert.false) refl v.read_alone.ensures.read (subst (λ (r : Result Inputs Refusal). AnswersOf c.args.job.now r c.tell-told.result) (w.read-is ∙ v.read-is) c.tell-told.ensures.told) x (unwritten_with c.args.job.now c.tell-told.result _ x leaves refl h)))) o.deliver_text.ensures)
+            ]
+            | in-None w ↦ rw (w.units-is, w.cert-is, o.text-is, o.out-is, o.result-is) (tells_more (λ x h. truly c.law_trees_bound.ensures c.law_levels_bound.ensures _ _ _ _ _ c.requires.cert (rw (w.in-None.is, c.in-Some-out.is) (does_without _ c.args.job.now _ _ _ w.read_alone-read.result c.tell-told.result (rw w.in-None.is at c.requires.cert) w.read_alone-read.ensures.read (subst (λ (r : Result Inputs Refusal). AnswersOf c.args.job.now r c.tell-told.result) w.read-is c.tell-told.ensures.told) x (unwritten_with c.args.job.now c.tell-told.result _ x leaves refl h)))) o.deliver_text.ensures)
+          ]
     ]
 
-pub returns-in-Some-out-2 : goal.returns-in-Some-out-2
-returns-in-Some-out-2 g c = tells_more (λ w h. truly c.law_trees_bound.ensures c.law_levels_bound.ensures _ _ _ _ _ c.requires.cert (rw (c.in-Capture.is, c.in-None-cert-4.is, c.in-Some-out-2.is) (to_is c.in-Capture.is h))) c.run_alone_to.ensures
-
-pub returns-in-Some-out-3 : goal.returns-in-Some-out-3
-returns-in-Some-out-3 g c = tells_more (λ w h. truly c.law_trees_bound.ensures c.law_levels_bound.ensures _ _ _ _ _ c.requires.cert (rw (c.in-Plan.is, c.in-Some-out-3.is) (
-  to_is c.in-Plan.is h,
-  elim (option_cases c.args.cert) [ inl e ↦ rw e refl | inr p ↦ rw p.1 refl ],
-))) c.run_alone_to-in-Some-out-3.ensures
-
-pub returns-in-None-out-3 : goal.returns-in-None-out-3
-returns-in-None-out-3 g c = tells_more (λ w h. truly c.law_trees_bound.ensures c.law_levels_bound.ensures _ _ _ _ _ c.requires.cert (rw (c.in-Plan.is, c.in-None-out-3.is) (
-  alone_is c.in-Plan.is h,
-  elim (option_cases c.args.cert) [ inl e ↦ rw e refl | inr p ↦ rw p.1 refl ],
-))) c.run_alone-in-None-out-3.ensures
-
-pub returns-after-out-4 : goal.returns-after-out-4
-returns-after-out-4 g c =
-    elim c.match-out-4.branch [
-      | in-Some-out-4 w ↦ rw (w.units-is, w.cert-is, w.text-is, w.out-is, w.result-is) (tells_more (λ x h. truly c.law_trees_bound.ensures c.law_levels_bound.ensures _ _ _ _ _ c.requires.cert (rw (c.in-Resume.is, c.in-Some-cert-5.is, w.in-Some-out-4.is) (all_is c.in-Resume.is h))) w.run_both_to-in-Some-out-4.ensures)
-      | in-None-out-4 w ↦ rw (w.units-is, w.cert-is, w.text-is, w.out-is, w.result-is) (tells_more (λ x h. truly c.law_trees_bound.ensures c.law_levels_bound.ensures _ _ _ _ _ c.requires.cert (rw (c.in-Resume.is, c.in-Some-cert-5.is, w.in-None-out-4.is) (both_is c.in-Resume.is h))) w.run_both-in-None-out-4.ensures)
+pub returns-in-None-out : goal.returns-in-None-out
+returns-in-None-out g c =
+    elim c.match-cert.branch [
+      | in-Some w ↦ elim w.if-reads_cert.branch [
+        | then-reads_cert v ↦ rw (w.units-is, v.units-is, w.cert-is, v.cert-is) (tells_more (λ x h. truly c.law_trees_bound.ensures c.law_levels_bound.ensures _ _ _ _ _ c.requires.cert (rw (w.in-Some.is, c.in-None-out.is) (does_read c.args.job.now _ _ _ v.read_both.result c.tell-told.result (sym w.reads_cert.ensures ∙ v.if-reads_cert.true) v.read_both.ensures.read (subst (λ (r : Result Inputs Refusal). AnswersOf c.args.job.now r c.tell-told.result) (w.read-is ∙ v.read-is) c.tell-told.ensures.told) x (nowhere_with c.args.job.now c.tell-told.result _ x h)))) c.deliver_text-in-None-out.ensures)
+        | else-reads_cert v ↦ rw (w.units-is, v.units-is, w.cert-is, v.cert-is) (tells_more (λ x h. truly c.law_trees_bound.ensures c.law_levels_bound.ensures _ _ _ _ _ c.requires.cert (rw (w.in-Some.is, c.in-None-out.is) (does_unread c.args.job.now _ _ _ v.read_alone.result c.tell-told.result (sym w.reads_cert.ensures ∙ v.if-reads_cert.false) refl v.read_alone.ensures.read (subst (λ (r : Result Inputs Refusal). AnswersOf c.args.job.now r c.tell-told.result) (w.read-is ∙ v.read-is) c.tell-told.ensures.told) x (nowhere_with c.args.job.now c.tell-told.result _ x h)))) c.deliver_text-in-None-out.ensures)
+      ]
+      | in-None w ↦ rw (w.units-is, w.cert-is) (tells_more (λ x h. truly c.law_trees_bound.ensures c.law_levels_bound.ensures _ _ _ _ _ c.requires.cert (rw (w.in-None.is, c.in-None-out.is) (does_without _ c.args.job.now _ _ _ w.read_alone-read.result c.tell-told.result (rw w.in-None.is at c.requires.cert) w.read_alone-read.ensures.read (subst (λ (r : Result Inputs Refusal). AnswersOf c.args.job.now r c.tell-told.result) w.read-is c.tell-told.ensures.told) x (nowhere_with c.args.job.now c.tell-told.result _ x h)))) c.deliver_text-in-None-out.ensures)
     ]

@@ -4,7 +4,7 @@ use Rattle.ec_units.specs.Load.{loads_of}
 use Rattle.ec_loads.specs.Held.{no_places}
 use Rattle.ec_loads.specs.Line.{line_by}
 use Rattle.ec_loads.specs.Search.{IsPartialTree}
-use Rattle.ec_cert.specs.BestPlan.{value_of}
+use Rattle.ec_cert.specs.IsBestPlan.{value_of}
 use Rattle.ec_cert.specs.Shapes.{cert_view, shape_of}
 use Rattle.ec_outcome.specs.Searched.{searched_by}
 use Rattle.ec_workers.proofs.ResumeLemmas.{goes-on}

@@ -14,7 +14,7 @@ use Rattle.ec_symmetry.specs.Ruled.{line_rules}
 use Rattle.ec_symmetry.specs.Orders.{IsOrder, IsReachedPrefix}
 use Rattle.ec_symmetry.specs.Reached.{In}
 use Rattle.ec_symmetry.proofs.InLemmas.{In-places, phases_by-least}
-use Rattle.test_scripts.specs.Firsts.{IsFirstPhase}
+use Rattle.test_scripts.specs.IsFirstPhase.{IsFirstPhase}
 use Rattle.test_scripts.proofs.guide.is_first_child.Goals as goal
 
 -- a place of the first slot is a child of the empty prefix where its phase is one that the first unit can have
