@@ -408,9 +408,23 @@ def try_older_that_says_more(longer, shorter, trial):
     trial.left(before, {"c.part": shorter.whole})
 
 
+def try_older_that_is_unread(older, shorter, trial):
+    """Where what stands begins as a certificate and can't be read as one, the new one lies beside it."""
+    shorter.put(trial)
+    trial.put("c", older)
+    before = trial.seen()
+    done = trial.run(*shorter.line("c"))
+    trial.ends(done, 4, REFUSED_WRITE)
+    trial.tells(done, *shorter.text.split("\n")[:1], "c.part", "cannot be read")
+    trial.left(before, {"c.part": shorter.whole})
+
+
 def of_longer_searches(outputs):
-    """Certificates of the same units that say more."""
+    """Certificates of the same units that say more, and what may have been one."""
     cert, resumed, *_ = outputs
+    for what, older in (("a proof with CR LF", cert.whole.replace(b"\n", b"\r\n")),
+                        ("a proof that is cut", cert.whole[:-9])):
+        yield f"plan --nodes 45 --out c, over {what}", partial(try_older_that_is_unread, older, cert.rival)
     for longer in (cert, resumed):
         yield f"plan --nodes 45 --out c, over {longer.name} of the same units that says more", partial(
             try_older_that_says_more, longer, cert.rival)

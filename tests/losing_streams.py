@@ -54,11 +54,16 @@ def run_into(trial, writing, out, **means):
     return before, trial.run(*writing.words, out=out, **means)
 
 
-def ends_unread(trial, writing, before, done):
-    """Holds what is left where the text couldn't be written: all files, and of a search what was found on standard error."""
+def ends_unread(trial, writing, before, done, why=None):
+    """Holds what is left where the text couldn't be written: all files, and of a search what was found on standard error. There
+    it has this reason too, and where each file lies; where there is none, as of a reader that is gone, neither."""
     trial.holds(done.code == 4, f"it ended with status {done.code}")
     if writing.output.words[0] in ("plan", "resume"):
         tells_plan(trial, done, writing.output)
+    if why:
+        trial.tells(done, f"The text cannot be written to standard output: {why}.\n", *(f' at "{name}".\n' for name in writing.files))
+    else:
+        trial.holds("standard output" not in done.said and ' at "' not in done.said, f"standard error says {done.said[:300]!r}")
     trial.left(before, writing.files)
 
 
@@ -73,12 +78,12 @@ def try_gone_before(writing, trial):
 def try_full(writing, trial):
     with open("/dev/full", "wb") as full:
         before, done = run_into(trial, writing, full)
-    ends_unread(trial, writing, before, done)
+    ends_unread(trial, writing, before, done, "No space left on device (os error 28)")
 
 
 def try_closed(writing, trial):
     before, done = run_into(trial, writing, subprocess.DEVNULL, before=("sh", "-c", 'exec "$@" >&-', "sh"))
-    ends_unread(trial, writing, before, done)
+    ends_unread(trial, writing, before, done, "Bad file descriptor (os error 9)")
 
 
 def gone_in_between(trial, writing, wait):

@@ -1,1 +1,3 @@
-pub mod Plain
+pub mod AreAscii
+pub mod IsPlain
+pub mod IsShown

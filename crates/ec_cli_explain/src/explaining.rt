@@ -1,58 +1,86 @@
 //! What a refusal means, and what to do after a search.
 
-ghost use Rattle.std.specs.Prelude.{All, IfOk, string_bytes};
-ghost use Rattle.ec_cli_explain.specs.Plain.{IsPlain};
+ghost use Rattle.std.specs.Prelude.{◌≡◌, ◌↔◌, true, All, IfOk, IfSome, IsAscii, IsTrue, string_bytes};
+ghost use Rattle.ec_cli_explain.specs.IsPlain.{IsPlain};
+ghost use Rattle.ec_cli_explain.specs.IsShown.{IsShown};
+ghost use Rattle.ec_cli_explain.specs.AreAscii.{AreAscii, HasAsciiPath};
 
-use crate::plain::plain_text;
-use ec_cli_hints::{Asked, Filed, Inputs, counsel, counsel_merged, remarks};
+use crate::plain::{plain_text, shown_text};
+use ec_cli_hints::{Asked, Filed, Inputs, counsel, remarks};
 use ec_cli_refusals::Refusal;
 use ec_outcome::Ending;
 use std::alloc::{AllocError, Global};
 
+/// Whether a path, if there is one, is ASCII.
+fn is_ascii(path: Option<&str>) -> bool
+    ensures { IsTrue result ↔ IfSome path.entry (λ p. IsAscii p.now) }
+{
+    match path {
+        Some(path) => path.is_ascii(),
+        None => true,
+    }
+}
+
+/// Whether the units and the paths that a refusal is told of are ASCII.
+fn are_ascii(inputs: &Inputs<'_>) -> bool
+    ensures { IsTrue result ↔ AreAscii inputs.now }
+{
+    inputs.units.is_ascii() && is_ascii(inputs.cert_path) && is_ascii(inputs.out_path)
+}
+
+/// Whether the path of a certificate, if one is told, is ASCII.
+fn has_ascii_path(filed: Filed<'_>) -> bool
+    ensures { IsTrue result ↔ HasAsciiPath filed.entry }
+{
+    match filed {
+        Filed::There(cert) => cert.path.is_ascii(),
+        Filed::Unasked | Filed::Missing | Filed::TooLarge => true,
+    }
+}
+
+/// The lines of a text, with nothing but printable ASCII in them where that is asked for.
+#[tactic(auto, using(crate::proofs::ShownLemmas::shown_plain))]
+fn laid_out(alloc: Global, text: &str, is_plain: bool) -> Result<String, AllocError>
+    ensures shown { IfOk result (λ out. IsShown (string_bytes out)) }
+    ensures plain { is_plain ≡ true → IfOk result (λ out. All IsPlain (string_bytes out)) }
+{
+    if is_plain {
+        plain_text(alloc, text)
+    } else {
+        shown_text(alloc, text)
+    }
+}
+
 /// What a refusal means, in a few sentences for a person, each a line: which unit, slave, key, value or line of the
 /// certificate it is, where it stands in the file, what would be right, and what was likely meant.
 ///
-/// Whatever the inputs hold, the text has nothing but printable ASCII and line feeds: of another byte its number is told,
-/// as `\x1b`. A line has at most 160 columns; what is longer is cut. Where the inputs aren't those of the refusal, or are
-/// missing, less is told. Only want of memory is an error (own profile).
+/// Whatever the inputs hold, the text has no control character but line feeds, and where the units and the paths are ASCII, it
+/// has nothing but that: of another byte its number is told, as `\x1b`. A line has at most 160 columns, but for one that has a
+/// path alone; what is longer is cut. Where the inputs aren't those of the refusal, or are missing, less is told. Only want of
+/// memory is an error (own profile).
 pub fn explain(alloc: Global, refusal: &Refusal, inputs: &Inputs<'_>) -> Result<String, AllocError>
-    ensures { IfOk result (λ text. All IsPlain (string_bytes text)) }
+    ensures shown { IfOk result (λ text. IsShown (string_bytes text)) }
+    ensures plain { AreAscii inputs.now → IfOk result (λ text. All IsPlain (string_bytes text)) }
 {
     let text = remarks(alloc, refusal, inputs)?;
-    plain_text(alloc, text.as_str())
+    laid_out(alloc, text.as_str(), are_ascii(inputs))
 }
 
-/// What to do after a search, in a few sentences, each a line. Of one that ended without a proof: what its plan is good
-/// for, what it has proved of every plan, what would help, by what it was asked for, and how one goes on from it. Of any: that
-/// its certificate, if one was written, has more than the 67,108,864 bytes that are read again.
+/// What to do after a search, or after certificates were merged, in a few sentences, each a line. Of an end without a proof:
+/// what the plan is good for, what is proved of every plan, what would help, by what was asked for, and how one goes on from it.
+/// Of any: that its certificate, if one was written, has more than the 67,108,864 bytes that are read again.
 ///
-/// Whatever the path holds, the text has nothing but printable ASCII and line feeds, as `explain` says it. Only want of
-/// memory is an error (own profile).
+/// Whatever the path holds, the text has no control character but line feeds, and where the path is ASCII nothing but that, as
+/// `explain` says it. Only want of memory is an error (own profile).
 pub fn advice(
     alloc: Global,
     ending: Option<Ending>,
     filed: Filed<'_>,
     asked: Asked,
 ) -> Result<String, AllocError>
-    ensures { IfOk result (λ told. All IsPlain (string_bytes told)) }
+    ensures shown { IfOk result (λ told. IsShown (string_bytes told)) }
+    ensures plain { HasAsciiPath filed.entry → IfOk result (λ told. All IsPlain (string_bytes told)) }
 {
     let sentences = counsel(alloc, ending, filed, asked)?;
-    plain_text(alloc, sentences.as_str())
-}
-
-/// What to do after certificates were merged, in a few sentences, each a line. Where they are no proof together: what the
-/// plan is good for, what is proved of every plan, and how one goes on from them. In any case: that the merged certificate, if
-/// one was written, has more than the 67,108,864 bytes that are read again.
-///
-/// Whatever the path holds, the text has nothing but printable ASCII and line feeds, as `explain` says it. Only want of
-/// memory is an error (own profile).
-pub fn merged_advice(
-    alloc: Global,
-    ending: Option<Ending>,
-    filed: Filed<'_>,
-) -> Result<String, AllocError>
-    ensures { IfOk result (λ told. All IsPlain (string_bytes told)) }
-{
-    let merged = counsel_merged(alloc, ending, filed)?;
-    plain_text(alloc, merged.as_str())
+    laid_out(alloc, sentences.as_str(), has_ascii_path(filed))
 }

@@ -1,9 +1,10 @@
-//! Refusals explained on standard error, in nothing but plain text.
+//! Refusals explained on standard error, in nothing but what a terminal shows as it stands.
 #![tactic(auto)]
 
 mod explaining;
 mod plain;
+mod sheet;
 
-pub use ec_cli_hints::{Asked, Filed, Inputs, Written};
-pub use explaining::{advice, explain, merged_advice};
-pub use plain::plain_text;
+pub use ec_cli_hints::{Asked, Filed, Inputs, Written, quoted_path};
+pub use explaining::{advice, explain};
+pub use plain::{plain_text, shown_text};

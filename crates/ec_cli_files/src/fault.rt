@@ -2,6 +2,7 @@
 
 use crate::guard::KeepReason;
 use std::io;
+use std::io::ErrorKind;
 
 /// Why a file that was to be written isn't at its path. What stood there before stands, but for `Unsynced`.
 #[derive(Debug, Drop)]
@@ -17,4 +18,13 @@ pub enum FileFault {
     TooLarge { at: String, bytes: u64 },
     /// It is whole and at its path, but whether it lasts isn't known: the folder couldn't be synced.
     Unsynced { why: io::Error },
+}
+
+impl FileFault {
+    /// Want of memory.
+    pub fn no_memory() -> FileFault {
+        FileFault::Unwritten {
+            why: io::Error::from(ErrorKind::OutOfMemory),
+        }
+    }
 }

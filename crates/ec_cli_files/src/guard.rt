@@ -1,10 +1,11 @@
 //! Files that are left as they are: the one that standard output goes to, and one that holds something else than what
 //! would be written there.
 
+use crate::place::are_same_file;
+use crate::reading::read_front;
 use ec_unit_text::read_units;
 use std::alloc::Global;
 use std::io::Read;
-use std::os::unix::fs::MetadataExt;
 use std::rt::Files;
 use std::{fs, io};
 
@@ -61,7 +62,9 @@ impl KeepReason {
             KeepReason::HoldsElse => {
                 "It holds something else: give another path, or take the file away first"
             }
-            KeepReason::Unreadable => "What it holds cannot be read: give another path",
+            KeepReason::Unreadable => {
+                "What it holds cannot be read: give another path, or take the file away first"
+            }
             KeepReason::SaysMore => {
                 "It holds a certificate of the same units that says more: where check says that it is right, go on from it, else give another path"
             }
@@ -69,14 +72,6 @@ impl KeepReason {
                 "It holds a proof for the same units: where check says that it is right nothing better can be found, else give another path"
             }
         }
-    }
-}
-
-/// Whether standard output goes to this file.
-fn is_output(files: &impl Files, found: &fs::Metadata) -> bool {
-    match fs::metadata(files, "/dev/stdout") {
-        Ok(output) => output.dev() == found.dev() && output.ino() == found.ino(),
-        Err(_) => false,
     }
 }
 
@@ -89,10 +84,7 @@ fn begins<F: Files>(files: &F, path: &str, content: Content) -> io::Result<bool>
 
 /// Whether the file at a path is a unit text.
 fn are_units<F: Files>(files: &F, alloc: Global, path: &str) -> io::Result<bool> {
-    let mut bytes = Vec::new(alloc);
-    fs::open(files, path)?
-        .take(MOST_TEXT)
-        .read_to_end(&mut bytes)?;
+    let bytes = read_front(files, alloc, path, MOST_TEXT)?;
     Ok(read_units(alloc, &bytes).is_ok())
 }
 
@@ -118,7 +110,7 @@ pub fn reason_to_keep<F: Files>(
     if !found.is_file() {
         return None;
     }
-    if is_output(files, &found) {
+    if are_same_file(files, path, "/dev/stdout") {
         return Some(KeepReason::IsOutput);
     }
     if found.len() == 0 {

@@ -8,10 +8,11 @@ ghost use Rattle.std.specs.Io.KnownBytes.{WriteAppends};
 use crate::fault::FileFault;
 use crate::guard::{Content, KeepReason};
 use crate::place::{Place, are_one};
+use crate::reading::read_front;
 use crate::settling::{Settling, settle};
 use std::alloc::{AllocError, Global};
 use std::fmt::Write as _;
-use std::io::{ErrorKind, Read, Write};
+use std::io::{ErrorKind, Write};
 use std::os::unix::fs::OpenOptionsExt;
 use std::rt::Files;
 use std::{fs, io};
@@ -196,14 +197,11 @@ impl<'a, F: Files> Late<'a, F> {
         let Place::Beside { path } = &self.place else {
             return Ok(None);
         };
-        let file = match fs::open(self.files, path.as_str()) {
-            Ok(file) => file,
-            Err(error) if error.kind() == ErrorKind::NotFound => return Ok(None),
-            Err(error) => return Err(error),
-        };
-        let mut bytes = Vec::new(self.alloc);
-        file.take(most).read_to_end(&mut bytes)?;
-        Ok(Some(bytes))
+        match read_front(self.files, self.alloc, path.as_str(), most) {
+            Ok(bytes) => Ok(Some(bytes)),
+            Err(error) if error.kind() == ErrorKind::NotFound => Ok(None),
+            Err(error) => Err(error),
+        }
     }
 
     /// Whether another path leads to the file that stands at the path.
@@ -271,9 +269,7 @@ pub fn write_whole<F: Files>(
     bytes: &[u8],
 ) -> Result<(), FileFault> {
     let Ok(mut late) = Late::new(files, alloc, path, content) else {
-        return Err(FileFault::Unwritten {
-            why: io::Error::from(ErrorKind::OutOfMemory),
-        });
+        return Err(FileFault::no_memory());
     };
     match late.write_all(bytes) {
         Ok(()) => late.settle(),

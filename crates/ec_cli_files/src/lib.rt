@@ -8,9 +8,11 @@ mod fault;
 mod guard;
 mod late;
 mod place;
+mod reading;
 mod settling;
 
 pub use fault::FileFault;
 pub use guard::{Content, KeepReason, reason_to_keep};
 pub use late::{Late, write_whole};
-pub use place::are_one;
+pub use place::{are_one, are_same_file};
+pub use reading::read_front;

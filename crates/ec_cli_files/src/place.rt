@@ -2,6 +2,7 @@
 
 use std::alloc::{AllocError, Global};
 use std::io::ErrorKind;
+use std::os::unix::fs::MetadataExt;
 use std::path::Path;
 use std::rt::Files;
 use std::{fs, io};
@@ -83,6 +84,14 @@ fn is_no_file<F: Files>(files: &F, path: &str) -> bool {
     match fs::metadata(files, path) {
         Ok(found) => !found.is_file(),
         Err(_) => false,
+    }
+}
+
+/// Whether two paths lead to one file that is there (own profile).
+pub fn are_same_file<F: Files>(files: &F, one: &str, other: &str) -> bool {
+    match (fs::metadata(files, one), fs::metadata(files, other)) {
+        (Ok(one), Ok(other)) => one.dev() == other.dev() && one.ino() == other.ino(),
+        _ => false,
     }
 }
 

@@ -1,6 +1,6 @@
 //! What to do after a search: what would help one without a proof, and whether its certificate can be read again.
 
-use crate::quoted::add_quoted;
+use crate::quoted::{add_command, add_path};
 use ec_outcome::{Cut, Ending};
 use ec_text_builder::Draft;
 use std::alloc::{AllocError, Global};
@@ -12,6 +12,10 @@ const MOST_READ: u64 = 67_108_864;
 const STRONGER: &str =
     "The command plan --strong searches by stronger rules, and may end with a proof.\n";
 
+/// What to try where a search went by the strong rules.
+const PLAINER: &str =
+    "The command plan without --strong searches in another order, and may end with a proof.\n";
+
 /// A certificate that was written.
 #[derive(Clone, Copy)]
 pub struct Written<'a> {
@@ -21,25 +25,31 @@ pub struct Written<'a> {
     pub bytes: u64,
 }
 
-impl<'a> Written<'a> {
-    /// Whether it has so many bytes that no command reads it.
-    fn is_too_large(self) -> bool {
-        self.bytes > MOST_READ
-    }
-}
-
-/// What became of the certificate of a search.
+/// What became of the certificate of a search or of a merge.
 #[derive(Clone, Copy)]
 pub enum Filed<'a> {
     /// None was asked for.
     Unasked,
     /// It isn't at its path, which was told.
     Missing,
+    /// It has so many bytes that no command reads it, and lies beside its path, which was told.
+    TooLarge,
     /// It was written.
     There(Written<'a>),
 }
 
-/// What a search was asked for, where what would help it hangs on that.
+impl<'a> Filed<'a> {
+    /// Whether it is there, or beside its path, with so many bytes that no command reads it.
+    fn is_too_large(self) -> bool {
+        match self {
+            Filed::TooLarge => true,
+            Filed::There(cert) => cert.bytes > MOST_READ,
+            Filed::Unasked | Filed::Missing => false,
+        }
+    }
+}
+
+/// What was asked for, where what would help hangs on that.
 #[derive(Clone, Copy)]
 pub enum Asked {
     /// All of a tree, with fewer nodes and minutes than may be asked for.
@@ -48,6 +58,8 @@ pub enum Asked {
     Most,
     /// A part of a tree's open leaves.
     Part,
+    /// What certificates show together.
+    Merged,
 }
 
 /// Whether no plan is better than the one that was found.
@@ -159,99 +171,113 @@ fn help(ending: Ending, asked: Asked) -> &'static str {
         Asked::Whole => help_for(ending),
         Asked::Most => help_beyond(ending),
         Asked::Part => help_part(ending),
+        Asked::Merged => "Some leaves are still open: none of these certificates closes them.\n",
     }
 }
 
-/// Whether a search by the strong rules may end with a proof where this one didn't.
-fn may_be_proved(ending: Ending, asked: Asked) -> bool {
-    !ending.strong && ending.cut != Cut::Journal && !matches!(asked, Asked::Part)
+/// Whether what would help is told: not where it makes a certificate larger that is too large.
+fn is_helped(ending: Ending, filed: Filed<'_>, asked: Asked) -> bool {
+    ending.cut == Cut::Journal || matches!(asked, Asked::Merged) || !filed.is_too_large()
 }
 
-/// Adds how the search is gone on with, by its certificate.
-fn add_resume(out: &mut Draft, filed: Filed<'_>) {
+/// Which other rules may end with a proof where a search didn't.
+fn other_rules(ending: Ending, asked: Asked) -> &'static str {
+    match asked {
+        Asked::Part | Asked::Merged => "",
+        Asked::Whole | Asked::Most if ending.cut == Cut::Journal => "",
+        Asked::Whole | Asked::Most if ending.strong => PLAINER,
+        Asked::Whole | Asked::Most => STRONGER,
+    }
+}
+
+/// How one goes on from a certificate.
+#[derive(Clone, Copy)]
+struct Onward {
+    /// The words of the command before the path of the certificate and behind it.
+    command: (&'static str, &'static str),
+    /// What the command does.
+    does: &'static str,
+    /// What is told where no certificate was asked for.
+    unasked: &'static str,
+}
+
+impl Onward {
+    /// How one goes on, by what was asked for.
+    fn of(asked: Asked) -> Onward {
+        match asked {
+            Asked::Whole | Asked::Most => Onward {
+                command: ("resume --cert ", ""),
+                does: " goes on with this search, and counts new nodes alone.\n",
+                unasked: "With --out PATH its certificate is written, and the command resume --cert PATH goes on with that.\n",
+            },
+            Asked::Part => Onward {
+                command: ("merge --cert ", " --cert PATH .."),
+                does: " merges it with the others, and tells what they show together.\n",
+                unasked: "With --out PATH its certificate is written, and the command merge merges it with the others.\n",
+            },
+            Asked::Merged => Onward {
+                command: ("resume --cert ", ""),
+                does: " goes on with these leaves, and with --part I/N on many machines.\n",
+                unasked: "With --out PATH the merged certificate is written, and the command resume --cert PATH goes on with it.\n",
+            },
+        }
+    }
+}
+
+/// Adds how one goes on from a certificate that can be read.
+fn add_onward(out: &mut Draft, filed: Filed<'_>, asked: Asked) {
+    let onward = Onward::of(asked);
+    let (front, behind) = onward.command;
     match filed {
         Filed::There(cert) => {
-            out.add("The command resume --cert ");
-            add_quoted(out, cert.path.as_bytes());
-            out.add(" goes on with this search, and counts new nodes alone.\n");
+            out.add("The command ");
+            add_command(out, front, cert.path, behind);
+            out.add(onward.does);
         }
-        Filed::Missing => {}
-        Filed::Unasked => out.add(
-            "With --out PATH its certificate is written, and the command resume --cert PATH goes on with that.\n",
-        ),
+        Filed::Missing | Filed::TooLarge => {}
+        Filed::Unasked => out.add(onward.unasked),
     }
 }
 
-/// Adds how a part is merged with the others, by its certificate.
-fn add_merge(out: &mut Draft, filed: Filed<'_>) {
-    match filed {
-        Filed::There(cert) => {
-            out.add("The command merge --cert ");
-            add_quoted(out, cert.path.as_bytes());
-            out.add(
-                " --cert PATH .. merges it with the others, and tells what they show together.\n",
-            );
-        }
-        Filed::Missing => {}
-        Filed::Unasked => out.add(
-            "With --out PATH its certificate is written, and the command merge merges it with the others.\n",
-        ),
-    }
-}
-
-/// Adds how one goes on from merged certificates.
-fn add_onward(out: &mut Draft, filed: Filed<'_>) {
-    match filed {
-        Filed::There(cert) => {
-            out.add("The command resume --cert ");
-            add_quoted(out, cert.path.as_bytes());
-            out.add(" goes on with these leaves, and with --part I/N on many machines.\n");
-        }
-        Filed::Missing => {}
-        Filed::Unasked => out.add(
-            "With --out PATH the merged certificate is written, and the command resume --cert PATH goes on with it.\n",
-        ),
-    }
-}
-
-/// Adds that a certificate can't be read again.
-fn add_size(out: &mut Draft, cert: Written<'_>) {
-    out.add("The certificate in ");
-    add_quoted(out, cert.path.as_bytes());
+/// Adds that a certificate can't be read again, where that wasn't told.
+fn add_size(out: &mut Draft, filed: Filed<'_>) {
+    let Filed::There(cert) = filed else {
+        return;
+    };
     let bytes = cert.bytes;
+    out.add("The certificate in ");
+    add_path(out, cert.path);
     out.add(format_args!(
         " has {bytes} bytes. At most {MOST_READ} are read: check and resume refuse it.\n"
     ));
 }
 
-/// Adds what an end without a proof is good for.
-fn add_found(out: &mut Draft, ending: Ending) {
+/// What gives a certificate that can be read.
+fn smaller(asked: Asked) -> &'static str {
+    match asked {
+        Asked::Merged =>
+            "Merge fewer parts, or parts of fewer nodes: that gives a smaller certificate.\n",
+        Asked::Whole | Asked::Most | Asked::Part =>
+            "A smaller --nodes gives a smaller certificate.\n",
+    }
+}
+
+/// Adds what an end without a proof is good for, and what would help.
+fn add_unproved(out: &mut Draft, ending: Ending, filed: Filed<'_>, asked: Asked) {
     if ending.best.is_some() {
         out.add("The plan is legal and can be used as it stands.\n");
     }
     add_level(out, ending);
-}
-
-/// Adds what a search without a proof is good for, and what would help it, by what it was asked for.
-fn add_unproved(out: &mut Draft, ending: Ending, asked: Asked) {
-    add_found(out, ending);
-    out.add(help(ending, asked));
-    if may_be_proved(ending, asked) {
-        out.add(STRONGER);
+    if is_helped(ending, filed, asked) {
+        out.add(help(ending, asked));
     }
+    out.add(other_rules(ending, asked));
 }
 
-/// Adds how one goes on from the certificate of a search, by what it was asked for.
-fn add_next(out: &mut Draft, filed: Filed<'_>, asked: Asked) {
-    match asked {
-        Asked::Part => add_merge(out, filed),
-        Asked::Whole | Asked::Most => add_resume(out, filed),
-    }
-}
-
-/// What to do after a search, in a few sentences, each a line. Of one that ended without a proof: what the plan is good
-/// for, what is proved of every plan, what would help, by what it was asked for, and how one goes on from it. Of any: that its
-/// certificate, if one was written, has more bytes than are read again. Only want of memory is an error (own profile).
+/// What to do after a search, or after certificates were merged, in a few sentences, each a line. Of an end without a proof: what
+/// the plan is good for, what is proved of every plan, what would help, by what was asked for, and how one goes on from it. Of
+/// any: that its certificate, if one was written, has more bytes than are read again. Only want of memory is an error (own
+/// profile).
 pub fn counsel(
     alloc: Global,
     ending: Option<Ending>,
@@ -260,36 +286,13 @@ pub fn counsel(
 ) -> Result<String, AllocError> {
     let mut out = Draft::new(alloc);
     if let Some(ending) = ending {
-        add_unproved(&mut out, ending, asked);
+        add_unproved(&mut out, ending, filed, asked);
     }
-    match (ending, filed) {
-        (_, Filed::There(cert)) if cert.is_too_large() => {
-            add_size(&mut out, cert);
-            out.add("A smaller --nodes gives a smaller one.\n");
-        }
-        (Some(_), _) => add_next(&mut out, filed, asked),
-        (None, _) => {}
-    }
-    out.finish()
-}
-
-/// What to do after certificates were merged, in a few sentences, each a line. Where they are no proof together: what the
-/// plan is good for, what is proved of every plan, and how one goes on from them. In any case: that the merged certificate, if
-/// one was written, has more bytes than are read again. Only want of memory is an error (own profile).
-pub fn counsel_merged(
-    alloc: Global,
-    ending: Option<Ending>,
-    filed: Filed<'_>,
-) -> Result<String, AllocError> {
-    let mut out = Draft::new(alloc);
-    if let Some(ending) = ending {
-        add_found(&mut out, ending);
-        out.add("Some leaves are still open: none of these certificates closes them.\n");
-    }
-    match (ending, filed) {
-        (_, Filed::There(cert)) if cert.is_too_large() => add_size(&mut out, cert),
-        (Some(_), _) => add_onward(&mut out, filed),
-        (None, _) => {}
+    if filed.is_too_large() {
+        add_size(&mut out, filed);
+        out.add(smaller(asked));
+    } else if ending.is_some() {
+        add_onward(&mut out, filed, asked);
     }
     out.finish()
 }

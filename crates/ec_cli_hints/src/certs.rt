@@ -2,19 +2,16 @@
 
 use crate::due::{Due, cert_line, due_at, has_level_line};
 use crate::inputs::Inputs;
-use crate::quoted::{add_bytes, add_quoted};
+use crate::quoted::{add_bytes, add_path};
 use crate::syntax::line_at;
 use ec_text_builder::Draft;
 
 /// Adds the certificate with its path.
 pub(crate) fn add_cert(out: &mut Draft, inputs: &Inputs<'_>) {
     out.add("The certificate");
-    match inputs.cert_path {
-        Some(path) => {
-            out.add(' ');
-            add_quoted(out, path.as_bytes());
-        }
-        None => {}
+    if let Some(path) = inputs.cert_path {
+        out.add(' ');
+        add_path(out, path);
     }
 }
 
@@ -103,9 +100,8 @@ fn add_stranger(out: &mut Draft, cert: &[u8]) {
 pub(crate) fn tell_bytes(out: &mut Draft, inputs: &Inputs<'_>) {
     add_cert(out, inputs);
     out.add(" is not plain text.\n");
-    match inputs.cert {
-        Some(cert) => add_stranger(out, cert),
-        None => {}
+    if let Some(cert) = inputs.cert {
+        add_stranger(out, cert);
     }
 }
 

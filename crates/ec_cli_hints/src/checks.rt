@@ -34,9 +34,8 @@ fn order_line(cert: &[u8]) -> usize {
 pub(crate) fn tell_order(out: &mut Draft, inputs: &Inputs<'_>) {
     add_cert(out, inputs);
     out.add(" does not name each unit once in its line order.\n");
-    match inputs.cert {
-        Some(cert) => add_line_text(out, cert, order_line(cert)),
-        None => {}
+    if let Some(cert) = inputs.cert {
+        add_line_text(out, cert, order_line(cert));
     }
 }
 
@@ -74,10 +73,7 @@ pub(crate) fn tell_value(out: &mut Draft, inputs: &Inputs<'_>, stated: u64, foun
 
 /// The certificate as a text, if it was read and is one.
 fn text_of<'a>(inputs: &Inputs<'a>) -> Option<&'a str> {
-    let Some(cert) = inputs.cert else {
-        return None;
-    };
-    std::str::from_utf8(cert).ok()
+    std::str::from_utf8(inputs.cert?).ok()
 }
 
 /// Ends a sentence with the number of a line of a certificate, from 0, and adds the line.
@@ -108,10 +104,7 @@ pub(crate) fn tell_level(out: &mut Draft, inputs: &Inputs<'_>, level: u64, value
 
 /// Whether the certificate that was read is known to be that of a search without a proof, or known not to be.
 fn is_known_partial(inputs: &Inputs<'_>) -> Option<bool> {
-    match text_of(inputs) {
-        Some(text) => Some(is_partial(text)),
-        None => None,
-    }
+    Some(is_partial(text_of(inputs)?))
 }
 
 /// Tells that a certificate holds no plan.

@@ -5,7 +5,7 @@ use ec_unit_text::Key;
 
 /// What a line with double brackets begins.
 #[derive(Clone, Copy, PartialEq, Eq)]
-enum Header {
+pub(crate) enum Header {
     Unit,
     Slave,
 }
@@ -18,13 +18,9 @@ struct Begun {
 }
 
 /// What a line begins, if it is `[[unit]]` or `[[unit.slave]]`.
-fn header_of(line: &str) -> Option<Header> {
-    let Some(rest) = line.trim().strip_prefix("[[") else {
-        return None;
-    };
-    let Some((name, _)) = rest.split_once("]]") else {
-        return None;
-    };
+pub(crate) fn header_of(line: &str) -> Option<Header> {
+    let rest = line.trim().strip_prefix("[[")?;
+    let (name, _) = rest.split_once("]]")?;
     match name.trim() {
         "unit" => Some(Header::Unit),
         "unit.slave" => Some(Header::Slave),

@@ -27,26 +27,17 @@ pub(crate) struct Doc<'a> {
 
 /// The value at a key of a table, if both are there.
 pub(crate) fn value_in<'a>(table: Option<&'a Table>, key: Key) -> Option<&'a Value> {
-    match table {
-        Some(table) => table.get(key.as_str()),
-        None => None,
-    }
+    table?.get(key.as_str())
 }
 
 /// The whole number at a key, if there is one.
 pub(crate) fn number_in(table: Option<&Table>, key: Key) -> Option<i64> {
-    match value_in(table, key) {
-        Some(value) => value.as_integer(),
-        None => None,
-    }
+    value_in(table, key)?.as_integer()
 }
 
 /// The text at a key, if there is one.
 pub(crate) fn text_in<'a>(table: Option<&'a Table>, key: Key) -> Option<&'a str> {
-    match value_in(table, key) {
-        Some(value) => value.as_str(),
-        None => None,
-    }
+    value_in(table, key)?.as_str()
 }
 
 /// The values of the array at a key; none where there is no array.
@@ -62,13 +53,7 @@ pub(crate) fn values_in<'a>(table: Option<&'a Table>, key: Key) -> &'a [Value] {
 
 /// The table that is this item of an array.
 fn table_at<'a>(values: &'a [Value], index: Option<usize>) -> Option<&'a Table> {
-    let Some(index) = index else {
-        return None;
-    };
-    match values.get(index) {
-        Some(value) => value.as_table(),
-        None => None,
-    }
+    values.get(index?)?.as_table()
 }
 
 impl<'a> Doc<'a> {

@@ -57,10 +57,7 @@ fn is_key(keys: &[Key], word: &str) -> bool {
 
 /// The first key of a table that isn't one of its own.
 fn unknown_in<'a>(table: Option<&'a Table>, keys: &[Key]) -> Option<&'a str> {
-    let Some(table) = table else {
-        return None;
-    };
-    for word in table.keys() {
+    for word in table?.keys() {
         if !is_key(keys, word.as_str()) {
             return Some(word.as_str());
         }

@@ -1,17 +1,16 @@
 //! The names of units and slaves in a sentence.
 
 use crate::headers::{slave_line, unit_line};
-use crate::inputs::{Doc, number_in, text_in, value_in};
+use crate::inputs::{Doc, number_in, text_in, value_in, values_in};
 use crate::quoted::{add_quoted, add_value};
 use ec_text_builder::Draft;
 use ec_unit_text::{Key, Spot};
-use toml::Table;
+use toml::{Table, Value};
 
 /// Adds a line of the file in brackets, if it is known.
-fn add_line(out: &mut Draft, line: Option<usize>) {
-    match line {
-        Some(line) => out.add(format_args!(" (line {line})")),
-        None => {}
+pub(crate) fn add_line(out: &mut Draft, line: Option<usize>) {
+    if let Some(line) = line {
+        out.add(format_args!(" (line {line})"));
     }
 }
 
@@ -35,17 +34,27 @@ pub(crate) fn add_unit(out: &mut Draft, doc: Doc<'_>, unit: usize) {
     add_line(out, unit_line(doc, unit));
 }
 
-/// Adds a slave with its line: `slave 1001 of unit "a" (line 7)`.
+/// Whether several slaves of a unit have a station.
+fn is_shared(doc: Doc<'_>, unit: usize, station: i64) -> bool {
+    let slaves = values_in(doc.unit(Some(unit)), Key::Slave);
+    let has_it = |slave: &&Value| number_in(slave.as_table(), Key::Station) == Some(station);
+    slaves.iter().filter(has_it).count() > 1
+}
+
+/// Adds a slave with its line: `slave 1001 of unit "a" (line 7)`. One that no line begins is told with that of its unit, and
+/// with its number where its station isn't its own.
 pub(crate) fn add_slave(out: &mut Draft, doc: Doc<'_>, unit: usize, slave: usize) {
+    let number = slave.saturating_add(1);
+    let line = slave_line(doc, unit, slave);
     match number_in(doc.slave(Some(unit), Some(slave)), Key::Station) {
-        Some(station) => out.add(format_args!("slave {station} of ")),
-        None => {
-            let number = slave.saturating_add(1);
-            out.add(format_args!("slave number {number} of "));
+        Some(station) if line.is_none() && is_shared(doc, unit, station) => {
+            out.add(format_args!("slave {station}, number {number} of "));
         }
+        Some(station) => out.add(format_args!("slave {station} of ")),
+        None => out.add(format_args!("slave number {number} of ")),
     }
     add_unit_name(out, doc, unit);
-    add_line(out, slave_line(doc, unit, slave));
+    add_line(out, line.or_else(|| unit_line(doc, unit)));
 }
 
 /// Adds in which table something is: `In unit "a" (line 3): `.

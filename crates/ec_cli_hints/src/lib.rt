@@ -13,6 +13,7 @@ mod inputs;
 mod keys;
 mod label;
 mod leaves;
+mod mixed;
 mod nearest;
 mod others;
 mod paths;
@@ -24,6 +25,7 @@ mod syntax;
 mod telling;
 mod units;
 
-pub use advising::{Asked, Filed, Written, counsel, counsel_merged};
+pub use advising::{Asked, Filed, Written, counsel};
 pub use inputs::Inputs;
+pub use quoted::{PIECE, quoted_path};
 pub use telling::remarks;

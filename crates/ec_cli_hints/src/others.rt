@@ -18,10 +18,7 @@ struct CertUnit<'a> {
 
 /// The number that a word is.
 fn number_of(word: Option<&str>) -> Option<i64> {
-    match word {
-        Some(word) => word.parse::<i64>().ok(),
-        None => None,
-    }
+    word?.parse::<i64>().ok()
 }
 
 /// The unit that a line of a certificate is.
@@ -30,28 +27,16 @@ fn cert_unit(line: &str) -> Option<CertUnit<'_>> {
     if words.next() != Some("unit") {
         return None;
     }
-    let Some(name) = words.next() else {
-        return None;
-    };
-    let Some(bytes) = number_of(words.next()) else {
-        return None;
-    };
-    let Some(period) = number_of(words.next()) else {
-        return None;
-    };
     Some(CertUnit {
-        name,
-        bytes,
-        period,
+        name: words.next()?,
+        bytes: number_of(words.next())?,
+        period: number_of(words.next())?,
     })
 }
 
 /// The unit of a certificate with this number, from 0.
 fn cert_unit_at(cert: &str, unit: usize) -> Option<CertUnit<'_>> {
-    match cert_line(cert, unit.saturating_add(2)) {
-        Some(line) => cert_unit(line),
-        None => None,
-    }
+    cert_unit(cert_line(cert, unit.saturating_add(2))?)
 }
 
 /// Whether a unit of the file has another name than the certificate says.
@@ -74,7 +59,7 @@ fn add_difference(out: &mut Draft, doc: Doc<'_>, unit: usize, theirs: CertUnit<'
         out.add(".\n");
         return true;
     }
-    if bytes != theirs.bytes {
+    if bytes != i128::from(theirs.bytes) {
         let other = theirs.bytes;
         add_unit(out, doc, unit);
         out.add(format_args!(" has {bytes} bytes, in the certificate {other}.\n"));
@@ -100,13 +85,10 @@ fn add_first(out: &mut Draft, doc: Doc<'_>, cert: &str) {
             return;
         }
     }
-    match cert_unit_at(cert, doc.units().len()) {
-        Some(theirs) => {
-            out.add("The certificate has another unit ");
-            add_quoted(out, theirs.name.as_bytes());
-            out.add(", which the file has not.\n");
-        }
-        None => {}
+    if let Some(theirs) = cert_unit_at(cert, doc.units().len()) {
+        out.add("The certificate has another unit ");
+        add_quoted(out, theirs.name.as_bytes());
+        out.add(", which the file has not.\n");
     }
 }
 

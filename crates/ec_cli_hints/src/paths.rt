@@ -2,7 +2,7 @@
 
 use crate::certs::add_cert;
 use crate::inputs::Inputs;
-use crate::quoted::{add_bytes, add_quoted};
+use crate::quoted::{add_bytes, add_path};
 use ec_text_builder::Draft;
 
 /// Adds why the system refused, if that is known.
@@ -31,7 +31,7 @@ pub(crate) fn tell_write(out: &mut Draft, inputs: &Inputs<'_>) {
     out.add("The file cannot be written");
     if let Some(path) = inputs.out_path {
         out.add(" to ");
-        add_quoted(out, path.as_bytes());
+        add_path(out, path);
     }
     add_reason(out, inputs);
     out.add("Give a path in a folder that is there and can be written.\n");

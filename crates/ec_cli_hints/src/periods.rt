@@ -29,10 +29,7 @@ pub(crate) fn ticks_of(units: &[Value]) -> Option<u64> {
     let mut ticks = 1u64;
     for period in 1..61u64 {
         if has_period(units, period as i64) {
-            match ticks.checked_mul(times(ticks, period)) {
-                Some(more) => ticks = more,
-                None => return None,
-            }
+            ticks = ticks.checked_mul(times(ticks, period))?;
         }
     }
     Some(ticks)

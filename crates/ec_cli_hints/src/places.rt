@@ -7,6 +7,16 @@ use ec_text_builder::Draft;
 use ec_unit_text::{Key, Spot};
 use toml::Table;
 
+/// Adds that there can be more slots than the file has, if there can.
+fn add_more_slots(out: &mut Draft, doc: Doc<'_>) {
+    match number_in(doc.top, Key::Slots) {
+        Some(slots @ 1..=7) => out.add(format_args!(
+            "slots = {slots} at the top of the file can be raised, to 8 at most.\n"
+        )),
+        _ => {}
+    }
+}
+
 /// Tells a phase or a slot out of range, with both limits.
 pub(crate) fn tell_range(out: &mut Draft, doc: Doc<'_>, spot: Spot) {
     let unit = doc.unit(spot.unit);
@@ -19,6 +29,9 @@ pub(crate) fn tell_range(out: &mut Draft, doc: Doc<'_>, spot: Spot) {
     add_pair(out, unit, Key::Slot);
     out.add(format_args!(", but with its period its phase is 0 to {last_phase}"));
     out.add(format_args!(", and with the slots of the file its slot is 0 to {last_slot}.\n"));
+    if number_in(unit, Key::Slot).unwrap_or(0) > last_slot {
+        add_more_slots(out, doc);
+    }
 }
 
 /// Tells which half of a place is missing.
@@ -73,11 +86,32 @@ pub(crate) fn add_full(out: &mut Draft, tick: u32, slot: u8, bytes: u32) {
     out.add(", 12 for each datagram counted, and a frame carries at most 1498.\n");
 }
 
+/// Whether some unit that travels in a tick and a slot can have another phase; also where no unit is known to travel in it.
+fn has_phases(doc: Doc<'_>, tick: i64, slot: i64) -> bool {
+    let mut is_known = false;
+    for unit in doc.units() {
+        let table = unit.as_table();
+        if travels(table, tick, slot) {
+            if number_in(table, Key::Period) != Some(1) {
+                return true;
+            }
+            is_known = true;
+        }
+    }
+    !is_known
+}
+
 /// Tells which slot carries too much in which tick, and which units travel in it.
 pub(crate) fn tell_full(out: &mut Draft, doc: Doc<'_>, tick: u32, slot: u8, bytes: u32) {
+    let (at, place) = (i64::from(tick), i64::from(slot));
     add_full(out, tick, slot, bytes);
     if !doc.units().is_empty() {
-        add_travelling(out, doc, i64::from(tick), i64::from(slot));
+        add_travelling(out, doc, at, place);
     }
-    out.add("Give some of them another phase or another slot.\n");
+    out.add(if has_phases(doc, at, place) {
+        "Give some of them another phase or another slot.\n"
+    } else {
+        "Give some of them another slot.\n"
+    });
+    add_more_slots(out, doc);
 }

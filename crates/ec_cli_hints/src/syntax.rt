@@ -1,8 +1,8 @@
 //! A unit text that isn't TOML: where its reader stopped, and what was likely meant.
 
+use crate::mixed::add_mixed;
 use crate::quoted::add_bytes;
 use ec_text_builder::Draft;
-use std::alloc::Global;
 use toml::de::Error;
 
 /// A place in a text: its line and its column, both from 0. A column counts characters.
@@ -78,8 +78,16 @@ fn hint(line: &str, message: &str) -> &'static str {
     ""
 }
 
+/// Adds what was likely meant where the reader stopped at a line, from 0.
+fn add_hint(out: &mut Draft, text: &str, at: usize, message: &str) {
+    let line = text.split('\n').nth(at).unwrap_or("");
+    if !add_mixed(out, text, at, line, message) {
+        out.add(hint(line, message));
+    }
+}
+
 /// Tells the line and the column at which the reader stopped, why, the line's text, and what was likely meant.
-fn tell_syntax(out: &mut Draft, alloc: Global, text: &[u8], error: Error) {
+fn tell_syntax(out: &mut Draft, text: &[u8], error: Error) {
     let Some(span) = error.span() else {
         return out.add("The file is not TOML.\n");
     };
@@ -94,19 +102,16 @@ fn tell_syntax(out: &mut Draft, alloc: Global, text: &[u8], error: Error) {
     out.add("    ");
     add_bytes(out, bytes.trim_ascii_end(), 120);
     out.add('\n');
-    if std::str::from_utf8(text).is_err() {
+    let Ok(text) = std::str::from_utf8(text) else {
         return out.add("The file is not UTF-8: save it as plain text in UTF-8.\n");
-    }
-    match String::from_utf8_lossy(alloc, bytes) {
-        Ok(line) => out.add(hint(line.as_str(), error.message())),
-        Err(_) => out.give_up(),
-    }
+    };
+    add_hint(out, text, at.line, error.message());
 }
 
 /// Tells that the file isn't TOML, and where and why its reader stopped, if that is known.
-pub(crate) fn tell_not_toml(out: &mut Draft, alloc: Global, text: &[u8], error: Option<Error>) {
+pub(crate) fn tell_not_toml(out: &mut Draft, text: &[u8], error: Option<Error>) {
     match error {
-        Some(error) => tell_syntax(out, alloc, text, error),
+        Some(error) => tell_syntax(out, text, error),
         None => out.add("The file is not TOML.\n"),
     }
 }

@@ -24,7 +24,7 @@ fn tell_units(
 ) {
     match fault {
         UnitFault::OutOfMemory => paths::tell_memory(out),
-        UnitFault::NotToml => syntax::tell_not_toml(out, alloc, inputs.units, error),
+        UnitFault::NotToml => syntax::tell_not_toml(out, inputs.units, error),
         UnitFault::Missing(spot, key) => keys::tell_missing(out, alloc, doc, spot, key),
         UnitFault::WrongType(spot, key) => keys::tell_type(out, doc, spot, key),
         UnitFault::UnknownKey(spot) => keys::tell_unknown(out, alloc, doc, spot),

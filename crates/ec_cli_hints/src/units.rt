@@ -39,9 +39,8 @@ fn add_name_cause(out: &mut Draft, name: &str) {
 pub(crate) fn tell_name(out: &mut Draft, doc: Doc<'_>, spot: Spot) {
     add_in(out, doc, spot);
     out.add("a name has 1 to 32 characters of a-z, A-Z, 0-9, _ and -.\n");
-    match text_in(doc.unit(spot.unit), Key::Name) {
-        Some(name) => add_name_cause(out, name),
-        None => {}
+    if let Some(name) = text_in(doc.unit(spot.unit), Key::Name) {
+        add_name_cause(out, name);
     }
 }
 
@@ -78,20 +77,40 @@ pub(crate) fn tell_slaves(out: &mut Draft, doc: Doc<'_>, spot: Spot) {
     );
 }
 
+/// The most process bytes of a unit.
+const MOST_BYTES: i128 = 1486;
+
 /// The process bytes of a slave.
-fn slave_bytes(slave: Option<&Table>) -> i64 {
+fn slave_bytes(slave: Option<&Table>) -> i128 {
     let outputs = number_in(slave, Key::OutBytes).unwrap_or(0);
     let inputs = number_in(slave, Key::InBytes).unwrap_or(0);
-    outputs.saturating_add(inputs)
+    i128::from(outputs) + i128::from(inputs)
 }
 
 /// The process bytes of a unit: those of all its slaves together.
-pub(crate) fn unit_bytes(unit: Option<&Table>) -> i64 {
-    let mut sum = 0i64;
+pub(crate) fn unit_bytes(unit: Option<&Table>) -> i128 {
+    let mut sum = 0i128;
     for slave in values_in(unit, Key::Slave) {
         sum = sum.saturating_add(slave_bytes(slave.as_table()));
     }
     sum
+}
+
+/// The first of a unit's slaves that has too many bytes for any unit.
+fn large_slave(unit: Option<&Table>) -> Option<usize> {
+    values_in(unit, Key::Slave)
+        .iter()
+        .position(|slave| slave_bytes(slave.as_table()) > MOST_BYTES)
+}
+
+/// Adds what to do with a unit that has too many bytes.
+fn add_smaller(out: &mut Draft, doc: Doc<'_>, spot: Spot) {
+    let unit = doc.unit(spot.unit);
+    let Some(slave) = large_slave(unit) else {
+        return out.add("Make two units of it.\n");
+    };
+    add_slave(out, doc, spot.unit.unwrap_or(0), slave);
+    out.add(" alone has more, and a slave cannot be split: have fewer of its bytes mapped.\n");
 }
 
 /// Tells how many bytes a unit has.
@@ -99,9 +118,9 @@ pub(crate) fn tell_bytes(out: &mut Draft, doc: Doc<'_>, spot: Spot) {
     let bytes = unit_bytes(doc.unit(spot.unit));
     add_in(out, doc, spot);
     out.add(format_args!(
-        "all its slaves together have {bytes} bytes, but one datagram carries at most 1486.\n"
+        "all its slaves together have {bytes} bytes, but one datagram carries at most {MOST_BYTES}.\n"
     ));
-    out.add("Make two units of it.\n");
+    add_smaller(out, doc, spot);
 }
 
 /// The first of a unit's slaves with a station.

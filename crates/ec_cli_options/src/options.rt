@@ -233,7 +233,9 @@ fn strong_arg<'a>(alloc: Global) -> Arg<'a> {
     Arg::new(alloc, "strong")
         .long("strong")
         .action(ArgAction::SetTrue)
-        .help("Search by stronger rules, which prove more; the certificate is of version 4")
+        .help(
+            "Search by stronger rules, which prove most lines sooner, and some later: try both; the certificate is of version 4",
+        )
 }
 
 /// Whether the progress is told in any case.

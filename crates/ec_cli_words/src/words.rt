@@ -64,12 +64,38 @@ pub(crate) fn refused(alloc: Global, text: &str) -> LineFault {
     }
 }
 
+/// What is told of an option that isn't one of the command's, without how to give it as a path: it is meant as none. Between two
+/// paragraphs one line stays empty.
+fn without_tip(alloc: Global, text: &str) -> Result<String, AllocError> {
+    let mut out = String::new(alloc);
+    let mut was_empty = false;
+    for line in text.lines() {
+        let is_left = line.starts_with("  tip: to pass '") || (was_empty && line.is_empty());
+        if !is_left {
+            out.push_str(line)?;
+            out.push('\n')?;
+            was_empty = line.is_empty();
+        }
+    }
+    Ok(out)
+}
+
+/// The text of an error.
+fn text_of(alloc: Global, error: Error) -> Result<String, AllocError> {
+    let text = error.to_string(alloc)?;
+    if error.kind() == ErrorKind::UnknownArgument {
+        without_tip(alloc, text.as_str())
+    } else {
+        Ok(text)
+    }
+}
+
 /// What words that give no matches are answered with: the error's text, unless memory ran out.
 pub(crate) fn fault_of(alloc: Global, error: Error) -> LineFault {
     if error.kind() == ErrorKind::OutOfMemory {
         return LineFault::Memory;
     }
-    match error.to_string(alloc) {
+    match text_of(alloc, error) {
         Ok(text) => LineFault::Refused { text },
         Err(AllocError) => LineFault::Memory,
     }

@@ -1,21 +1,19 @@
 //! What is written after the text of a job: the picture of costs, the units with the places of a plan, and what is handed over
 //! with frames.
 
-use crate::faults::tell_fault;
+use crate::faults::{tell_fault, tell_whole};
 use crate::handing::hand_over;
 use crate::targets::Target;
 use crate::telling::{CHANGED, NO_FORM, tell_path};
 use ec_cli_answers::Told;
 use ec_cli_command::Line;
-use ec_cli_files::{Content, FileFault, are_one, write_whole};
+use ec_cli_files::{Content, FileFault, are_one, are_same_file, read_front, write_whole};
 use ec_cli_text::placed_plan;
 use ec_cost_picture::picture;
 use ec_loads::Plan;
 use ec_unit_rewrite::{PlacingFault, place_text};
 use ec_unit_text::read_units;
 use std::alloc::{AllocError, Global};
-use std::io::{ErrorKind, Read};
-use std::os::unix::fs::MetadataExt;
 use std::rt::Files;
 use std::{fs, io};
 
@@ -35,21 +33,6 @@ impl From<FileFault> for AfterFault {
     }
 }
 
-/// Want of memory.
-pub(crate) fn no_memory() -> FileFault {
-    FileFault::Unwritten {
-        why: io::Error::from(ErrorKind::OutOfMemory),
-    }
-}
-
-/// Whether two paths lead to one file that is there.
-fn is_there_twice(files: &impl Files, one: &str, other: &str) -> bool {
-    match (fs::metadata(files, one), fs::metadata(files, other)) {
-        (Ok(one), Ok(other)) => one.dev() == other.dev() && one.ino() == other.ino(),
-        _ => false,
-    }
-}
-
 /// Whether the units with their places go over the file of the units themselves: the one at this path, else the one that
 /// standard input comes from.
 pub(crate) fn is_own_file<R: Files + AllocGlobal>(
@@ -62,7 +45,7 @@ pub(crate) fn is_own_file<R: Files + AllocGlobal>(
     };
     match (places, units) {
         (Some(places), Some(units)) => are_one(rt, rt.alloc(), places.as_str(), units.as_str()),
-        (Some(places), None) => is_there_twice(rt, places.as_str(), "/dev/stdin"),
+        (Some(places), None) => are_same_file(rt, places.as_str(), "/dev/stdin"),
         (None, _) => false,
     }
 }
@@ -72,9 +55,8 @@ fn holds_still<R: Files + AllocGlobal>(rt: &R, path: &str, units: &[u8]) -> io::
     if !fs::metadata(rt, path)?.is_file() {
         return Ok(false);
     }
-    let mut bytes = Vec::new(rt.alloc());
     let most = (units.len() as u64).saturating_add(1);
-    fs::open(rt, path)?.take(most).read_to_end(&mut bytes)?;
+    let bytes = read_front(rt, rt.alloc(), path, most)?;
     Ok(bytes.as_slice() == units)
 }
 
@@ -101,7 +83,7 @@ fn draw<R: Files + AllocGlobal>(
     path: &str,
 ) -> Result<(), AfterFault> {
     let Ok(drawn) = picture_of(rt.alloc(), units, plan) else {
-        return Err(AfterFault::File(no_memory()));
+        return Err(AfterFault::File(FileFault::no_memory()));
     };
     write_whole(rt, rt.alloc(), path, Content::Picture, drawn.as_bytes())?;
     Ok(())
@@ -116,11 +98,11 @@ fn fill<R: Files + AllocGlobal>(
     is_own: bool,
 ) -> Result<(), AfterFault> {
     if units.is_empty() {
-        return Err(AfterFault::File(no_memory()));
+        return Err(AfterFault::File(FileFault::no_memory()));
     }
     let placed = match place_text(rt.alloc(), units, plan.places.as_slice()) {
         Ok(placed) => placed,
-        Err(PlacingFault::OutOfMemory) => return Err(AfterFault::File(no_memory())),
+        Err(PlacingFault::OutOfMemory) => return Err(AfterFault::File(FileFault::no_memory())),
         Err(_) => return Err(AfterFault::Form),
     };
     if is_own && !matches!(holds_still(rt, path, units), Ok(true)) {
@@ -131,22 +113,24 @@ fn fill<R: Files + AllocGlobal>(
 }
 
 /// Tells why what is written after the job isn't at its path.
-fn tell_after<R: AllocGlobal + Eprint>(rt: &R, path: &str, content: Content, fault: &AfterFault) {
+fn tell_after<R: AllocGlobal + Eprint>(rt: &R, target: Target<'_>, fault: &AfterFault) {
     match fault {
-        AfterFault::Form => tell_path(rt, "The places are not written to", path, NO_FORM),
-        AfterFault::Changed => tell_path(rt, "The places are not written to", path, CHANGED),
-        AfterFault::File(fault) => tell_fault(rt, Target { path, content }, fault),
+        AfterFault::Form => tell_path(rt, "The places are not written to", target.path, NO_FORM),
+        AfterFault::Changed => tell_path(rt, "The places are not written to", target.path, CHANGED),
+        AfterFault::File(fault) => tell_fault(rt, target, fault),
     }
 }
 
 /// Writes what a line wants after the text of its job: the picture of costs, the units with the places of a plan that was
-/// found, and what is handed over with frames. Whether nothing is missing; tells what is.
+/// found, and what is handed over with frames. Whether nothing is missing; tells what is, and where `is_told` says so where each
+/// whole file lies.
 pub(crate) fn write_after<R: Files + AllocGlobal + Eprint>(
     rt: &R,
     line: &Line,
     units: &[u8],
     told: &Told,
     is_own: bool,
+    is_told: bool,
 ) -> bool {
     let plan = told.plan();
     let (path, content, written) = match line {
@@ -169,11 +153,17 @@ pub(crate) fn write_after<R: Files + AllocGlobal + Eprint>(
             ),
             None => return true,
         },
-        Line::Frames { .. } => return hand_over(rt, line, units, told),
+        Line::Frames { .. } => return hand_over(rt, line, units, told, is_told),
         _ => return true,
     };
-    if let Err(fault) = &written {
-        tell_after(rt, path.as_str(), content, fault);
+    let target = Target {
+        path: path.as_str(),
+        content,
+    };
+    match &written {
+        Ok(()) if is_told => tell_whole(rt, target),
+        Ok(()) => {}
+        Err(fault) => tell_after(rt, target, fault),
     }
     written.is_ok()
 }

@@ -1,6 +1,6 @@
 //! A certificate that is read again after the job.
 
-use std::io::Read;
+use ec_cli_files::read_front;
 use std::rt::Files;
 use std::{fs, io};
 
@@ -12,7 +12,5 @@ pub(crate) fn cert_at<R: Files + AllocGlobal>(rt: &R, path: &str) -> io::Result<
     if !fs::metadata(rt, path)?.is_file() {
         return Ok(None);
     }
-    let mut bytes = Vec::new(rt.alloc());
-    fs::open(rt, path)?.take(MOST_CERT).read_to_end(&mut bytes)?;
-    Ok(Some(bytes))
+    Ok(Some(read_front(rt, rt.alloc(), path, MOST_CERT)?))
 }

@@ -1,13 +1,15 @@
 //! What is told of a file that isn't at its path.
 
 use crate::targets::Target;
-use crate::telling::{tell_path, tell_reason};
-use ec_cli_files::{Content, FileFault, KeepReason};
+use crate::telling::{tell_path, tell_place, tell_reason};
+use ec_cli_explain::quoted_path;
+use ec_cli_files::{Content, FileFault, KeepReason, write_whole};
 use std::alloc::{AllocError, Global};
-use std::io;
+use std::rt::Files;
+use std::{fs, io};
 
 /// What is told before a path that couldn't be written.
-fn unwritten(content: Content) -> &'static str {
+pub(crate) fn unwritten(content: Content) -> &'static str {
     match content {
         Content::Certificate => "The certificate cannot be written to",
         Content::Capture => "The capture cannot be written to",
@@ -34,20 +36,21 @@ fn whole(content: Content) -> &'static str {
 
 /// Why a file couldn't take its place at a path.
 fn aside(alloc: Global, path: &str, why: io::Error) -> Result<String, AllocError> {
-    let why = why.to_string(alloc)?;
-    format!(in alloc; "It cannot take the place of \"{path}\": {why}")
+    let (path, why) = (quoted_path(alloc, path)?, why.to_string(alloc)?);
+    format!(in alloc; "It cannot take the place of {path}: {why}")
 }
 
 /// Why a file doesn't take the place of what stands at a path.
 fn kept(alloc: Global, path: &str, why: KeepReason) -> Result<String, AllocError> {
-    let why = why.as_str();
-    format!(in alloc; "It does not take the place of \"{path}\".\n{why}")
+    let (path, why) = (quoted_path(alloc, path)?, why.as_str());
+    format!(in alloc; "It does not take the place of {path}.\n{why}")
 }
 
 /// Why a certificate doesn't take its place at a path.
 fn too_large(alloc: Global, path: &str, bytes: u64) -> Result<String, AllocError> {
+    let path = quoted_path(alloc, path)?;
     format!(in alloc;
-        "It has {bytes} bytes, and at most 67108864 are read.\nIt does not take the place of \"{path}\". A smaller --nodes gives a smaller one"
+        "It has {bytes} bytes, and at most 67108864 are read.\nIt does not take the place of {path}"
     )
 }
 
@@ -98,4 +101,25 @@ pub(crate) fn tell_fault<R: AllocGlobal + Eprint>(rt: &R, target: Target<'_>, fa
             tell_lies(rt, "It is whole at", path, unsynced(alloc, *why));
         }
     }
+}
+
+/// Tells that a whole file lies at its path. What is no file, as a pipe, isn't told.
+pub(crate) fn tell_whole<R: Files + AllocGlobal + Eprint>(rt: &R, target: Target<'_>) {
+    match fs::metadata(rt, target.path) {
+        Ok(found) if found.is_file() => tell_place(rt, whole(target.content), target.path),
+        _ => {}
+    }
+}
+
+/// Writes these bytes to a path. Why they aren't there, which is told.
+pub(crate) fn write_target<R: Files + AllocGlobal + Eprint>(
+    rt: &R,
+    target: Target<'_>,
+    bytes: &[u8],
+) -> Result<(), FileFault> {
+    let written = write_whole(rt, rt.alloc(), target.path, target.content, bytes);
+    if let Err(fault) = &written {
+        tell_fault(rt, target, fault);
+    }
+    written
 }

@@ -2,6 +2,9 @@
 //! are, and the text goes to standard output. What a refusal means is told on standard error.
 #![tactic(auto)]
 
+ghost use Rattle.std.specs.Prelude.{IfOk};
+ghost use Rattle.ec_cli_words.specs.Merges.{AskedFits};
+
 mod after;
 mod again;
 mod faults;
@@ -9,19 +12,23 @@ mod handing;
 mod job;
 mod kept;
 mod merging;
+mod opening;
+mod output;
 mod progress;
 mod remark;
 mod targets;
 mod telling;
 mod trial;
 
-use crate::job::do_words;
+use crate::job::{Streams, do_words};
 use crate::merging::do_merging;
+use crate::output::{refuse_line, refuse_text};
 use crate::telling::WAITING;
-use ec_cli_run::{refuse_memory, refuse_words};
+use ec_cli_refusals::Refusal;
 use ec_cli_words::{Asked, LineFault, read_words};
-use ec_wire::Io;
+use ec_unit_text::UnitFault;
 use std::io::{ErrorKind, IsTerminal};
+use std::os::fd::AsRawFd;
 use std::process::ExitCode;
 use std::{env, fs, io};
 
@@ -40,6 +47,14 @@ fn hold_number(rt: &HostRuntime) -> Option<fs::File> {
     fs::open(rt, "/").ok()
 }
 
+/// Whether the first file that was opened took the number of standard input, which is closed then.
+fn is_input(first: &Option<fs::File>) -> bool {
+    match first {
+        Some(file) => file.as_raw_fd() == 0,
+        None => false,
+    }
+}
+
 /// Tells a person that the units are waited for, where they come from a terminal.
 fn tell_waiting(rt: &HostRuntime, come_on_input: bool) {
     if come_on_input && rt.stdin().is_terminal() {
@@ -47,32 +62,44 @@ fn tell_waiting(rt: &HostRuntime, come_on_input: bool) {
     }
 }
 
+/// What the words ask for.
+fn asked_by(rt: &HostRuntime) -> Result<Asked, LineFault>
+    ensures { IfOk result AskedFits }
+{
+    match words_of(rt) {
+        Ok(words) => read_words(rt.alloc(), &words),
+        Err(error) if error.kind() == ErrorKind::InvalidData => Err(LineFault::Refused {
+            text: String::from_str(rt.alloc(), "error: a word is not UTF-8\n")?,
+        }),
+        Err(_) => Err(LineFault::Memory),
+    }
+}
+
+/// Says why words are no command line. The status.
+fn refuse_asked(rt: &HostRuntime, fault: LineFault) -> u8 {
+    match fault {
+        LineFault::Memory => refuse_line(rt, Refusal::Unit(UnitFault::OutOfMemory)),
+        LineFault::Refused { text } => refuse_text(rt, text.as_str()),
+    }
+}
+
 /// Reads the words, does what they say, and ends with its status.
 fn main(rt: HostRuntime) -> ExitCode {
-    let _held = (hold_number(&rt), hold_number(&rt), hold_number(&rt));
-    let mut out = Io::new(io::writer(&rt));
-    let words = match words_of(&rt) {
-        Ok(words) => words,
-        Err(error) if error.kind() == ErrorKind::InvalidData => {
-            let status = refuse_words(&mut out, "error: a word is not UTF-8\n");
-            return ExitCode::from(status.code);
-        }
-        Err(_) => return ExitCode::from(refuse_memory(&mut out).code),
+    let held = (hold_number(&rt), hold_number(&rt), hold_number(&rt));
+    let streams = Streams {
+        is_closed: is_input(&held.0),
+        shows: rt.stderr().is_terminal(),
     };
-    match read_words(rt.alloc(), &words) {
+    let code = match asked_by(&rt) {
         Ok(Asked::Line(words)) => {
             tell_waiting(&rt, words.units.is_none());
-            let is_terminal = rt.stderr().is_terminal();
-            ExitCode::from(do_words(&rt, &words, is_terminal))
+            do_words(&rt, &words, streams)
         }
         Ok(Asked::Merge(merging)) => {
             tell_waiting(&rt, merging.units.is_none());
-            ExitCode::from(do_merging(&rt, &merging))
+            do_merging(&rt, &merging, streams.is_closed)
         }
-        Err(LineFault::Memory) => ExitCode::from(refuse_memory(&mut out).code),
-        Err(LineFault::Refused { text }) => {
-            let status = refuse_words(&mut out, text.as_str());
-            ExitCode::from(status.code)
-        }
-    }
+        Err(fault) => refuse_asked(&rt, fault),
+    };
+    ExitCode::from(code)
 }

@@ -4,8 +4,6 @@ use crossbeam_utils::CachePadded;
 use ec_cli_command::{Effort, Line};
 use ec_workers::Gate;
 use std::alloc::{AllocError, Global};
-use std::io;
-use std::io::Write as _;
 use std::rt::Clock;
 use std::sync::atomic::{AtomicU64, Ordering};
 use std::time::Instant;
@@ -17,7 +15,7 @@ const EVERY: u64 = 4096;
 const MOST_WORKERS: usize = 16;
 
 /// What covers a line on a terminal.
-const BLANKS: &str =
+pub(crate) const BLANKS: &str =
     "\r                                                                              \r";
 
 /// How the progress is told.
@@ -192,30 +190,5 @@ impl<'a, H: AllocGlobal + Eprint + Clock> Gate for Progress<'a, H> {
             Some(millis) => millis >= most,
             None => false,
         }
-    }
-}
-
-/// A writer before whose first bytes what stands in the line of the terminal is taken away.
-#[derive(Drop)]
-pub(crate) struct Behind<'a, W, H> {
-    pub inner: W,
-    pub rt: &'a H,
-    /// Whether something may stand there.
-    pub covers: bool,
-}
-
-impl<'a, W: io::Write, H: Eprint> io::Write for Behind<'a, W, H> {
-    ghost contents = { λ behind. W.contents behind.inner };
-
-    fn write(&mut self, bytes: &[u8]) -> io::Result<usize> {
-        if self.covers {
-            self.covers = false;
-            let _ = self.rt.eprint(BLANKS);
-        }
-        self.inner.write(bytes)
-    }
-
-    fn flush(&mut self) -> io::Result<()> {
-        self.inner.flush()
     }
 }

@@ -1,7 +1,9 @@
 //! What is told on standard error, after the job.
 
 use crate::again::cert_at;
-use crate::faults::tell_fault;
+use crate::faults::{tell_fault, tell_whole};
+use crate::kept::Kept;
+use crate::output::tell_untold;
 use crate::targets::{Target, targets_of};
 use crate::telling::{UNTOLD, tell_reason, tell_text};
 use ec_cert_text::CertFault;
@@ -30,6 +32,17 @@ pub(crate) struct Left<'a> {
     pub path: Option<&'a str>,
     pub units: &'a [u8],
     pub fault: Option<ErrorKind>,
+}
+
+impl<'a> Left<'a> {
+    /// What is left of the units at a path, if they have one, that went through a reader.
+    pub(crate) fn of<R>(path: &'a Option<String>, units: &'a Kept<R>) -> Left<'a> {
+        Left {
+            path: text_of(path.as_ref()),
+            units: units.front(),
+            fault: units.fault(),
+        }
+    }
 }
 
 /// Whether what stands at a path can be opened without waiting: a file or a folder.
@@ -158,17 +171,19 @@ pub(crate) fn tell_refusal<'x, R: Files + AllocGlobal + Eprint>(
     }
 }
 
-/// What became of a certificate that was to be written to this path, and is there where `is_there` says so.
-pub(crate) fn filed_at<'x, R: Files>(
+/// What became of a certificate that was to be written, if it was, and isn't at its path for this reason.
+fn filed_at<'x, R: Files>(
     files: &R,
-    path: Option<&'x str>,
-    is_there: bool,
+    target: Option<Target<'x>>,
+    fault: Option<&FileFault>,
 ) -> Filed<'x> {
-    let Some(path) = path else {
+    let Some(Target { path, .. }) = target else {
         return Filed::Unasked;
     };
-    if !is_there {
-        return Filed::Missing;
+    match fault {
+        Some(FileFault::TooLarge { .. }) => return Filed::TooLarge,
+        Some(_) => return Filed::Missing,
+        None => {}
     }
     let bytes = match fs::metadata(files, path) {
         Ok(found) => found.len(),
@@ -186,63 +201,79 @@ fn is_most(effort: &Effort, cut: Cut) -> bool {
     }
 }
 
-/// What a search was asked for.
-fn asked_of(line: &Line, told: &Told) -> Asked {
+/// What a search was asked for; none of a line that searches for nothing.
+fn asked_of(line: &Line, told: &Told) -> Option<Asked> {
     let (Line::Plan { effort, .. } | Line::Resume { effort, .. }) = line else {
-        return Asked::Whole;
+        return None;
     };
-    match (line, &told.ending) {
+    Some(match (line, &told.ending) {
         (Line::Resume { part, .. }, _) if part.count > 1 => Asked::Part,
         (_, Some(ending)) if is_most(effort, ending.cut) => Asked::Most,
         _ => Asked::Whole,
+    })
+}
+
+/// How what a job told was written: its file, if it writes one, and why that isn't at its path; the status; and why standard
+/// output hasn't got the text.
+#[derive(Clone, Copy)]
+pub(crate) struct Delivered<'a> {
+    pub target: Option<Target<'a>>,
+    pub fault: Option<&'a FileFault>,
+    pub code: u8,
+    pub untold: Option<io::Error>,
+}
+
+/// Tells why the file of a job isn't at its path, or where it lies where standard output hasn't got the text.
+fn tell_file<R: Files + AllocGlobal + Eprint>(rt: &R, delivered: Delivered<'_>) {
+    match (delivered.target, delivered.fault, delivered.untold) {
+        (Some(target), Some(fault), _) => tell_fault(rt, target, fault),
+        (Some(target), None, Some(_)) => tell_whole(rt, target),
+        _ => {}
     }
 }
 
-/// Tells what would help a search that ended without a proof, or that its certificate is too large to be read.
-fn tell_advice<R: Files + AllocGlobal + Eprint>(rt: &R, line: &Line, told: &Told, is_there: bool) {
-    let (Line::Plan { .. } | Line::Resume { .. }) = line else {
+/// Tells at the end of a job why its file isn't at its path, or where it lies where standard output hasn't got the text. Of
+/// what was asked of a search or a merge also what was found, where standard output hasn't got it, and what would help.
+pub(crate) fn tell_end<R: Files + AllocGlobal + Eprint>(
+    rt: &R,
+    told: &Told,
+    delivered: Delivered<'_>,
+    asked: Option<Asked>,
+) {
+    tell_file(rt, delivered);
+    let Some(asked) = asked else {
         return;
     };
-    let filed = filed_at(rt, text_of(line.out()), is_there);
-    if let Ok(text) = advice(rt.alloc(), told.ending, filed, asked_of(line, told)) {
+    if delivered.code == 4 {
+        tell_text(rt, UNTOLD, told.answer.text.as_str());
+    }
+    let filed = filed_at(rt, delivered.target, delivered.fault);
+    if let Ok(text) = advice(rt.alloc(), told.ending, filed, asked) {
         let _ = rt.eprint(text.as_str());
     }
 }
 
-/// Tells what a search found, where standard output hasn't got it.
-fn tell_found<R: AllocGlobal + Eprint>(rt: &R, line: &Line, told: &Told) {
-    if let Line::Plan { .. } | Line::Resume { .. } = line {
-        tell_text(rt, UNTOLD, told.answer.text.as_str());
-    }
-}
-
-/// Tells why the file of a job isn't at its path.
-fn tell_file<R: AllocGlobal + Eprint>(rt: &R, line: &Line, fault: &FileFault) {
-    let [target, _, _, _] = targets_of(line);
-    if let Some(target) = target {
-        let Target { path, content } = target;
-        tell_fault(rt, Target { path, content }, fault);
-    }
-}
-
-/// Tells on standard error what came of a line: what a refusal means, why a file isn't at its path, what was found where
-/// standard output hasn't got it, and what would help a search that ended without a proof. Where that can't be written or
-/// made, nothing is told.
+/// Tells on standard error what came of a line: why standard output hasn't got the text, what a refusal means, why a file
+/// isn't at its path or where it lies, what was found where standard output hasn't got it, and what would help a search that
+/// ended without a proof. Where that can't be written or made, nothing is told.
 pub(crate) fn remark<'x, R: Files + AllocGlobal + Eprint>(
     rt: &R,
     line: &'x Line,
     left: Left<'x>,
     report: &Report,
+    untold: Option<io::Error>,
 ) {
+    tell_untold(rt, untold);
     let told = match &report.told {
         Ok(told) => told,
         Err(refusal) => return tell_refusal(rt, refusal, line, left),
     };
-    if let Some(fault) = &report.fault {
-        tell_file(rt, line, fault);
-    }
-    if report.status.code == 4 {
-        tell_found(rt, line, told);
-    }
-    tell_advice(rt, line, told, report.fault.is_none());
+    let [target, _, _, _] = targets_of(line);
+    let delivered = Delivered {
+        target,
+        fault: report.fault.as_ref(),
+        code: report.status.code,
+        untold,
+    };
+    tell_end(rt, told, delivered, asked_of(line, told));
 }

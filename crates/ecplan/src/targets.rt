@@ -1,7 +1,9 @@
 //! What a line writes to paths, looked at before the job.
 
+use crate::faults::unwritten;
 use crate::telling::{tell_path, tell_reason};
 use ec_cli_command::Line;
+use ec_cli_explain::quoted_path;
 use ec_cli_files::{Content, Late, are_one, reason_to_keep};
 use std::alloc::{AllocError, Global};
 use std::rt::Files;
@@ -31,18 +33,14 @@ fn unwritable(content: Content) -> &'static str {
     match content {
         Content::Certificate =>
             "The search goes on and tells its plan, but the certificate cannot be written to",
-        Content::Capture => "The capture cannot be written to",
-        Content::Picture => "The picture cannot be written to",
         Content::Units =>
             "The search goes on and tells its plan, but the units cannot be written to",
-        Content::Header => "The header cannot be written to",
-        Content::Map => "The map cannot be written to",
-        Content::Report => "The report cannot be written to",
+        _ => unwritten(content),
     }
 }
 
-/// A path of a line, if it is there.
-fn target_at(path: &Option<String>, content: Content) -> Option<Target<'_>> {
+/// A path to write, if it is there.
+pub(crate) fn target_at(path: &Option<String>, content: Content) -> Option<Target<'_>> {
     match path {
         Some(path) => Some(Target {
             path: path.as_str(),
@@ -97,7 +95,8 @@ fn same_words(alloc: Global, one: &str, other: &str) -> Result<String, AllocErro
     if one == other {
         return String::from_str(alloc, "Give each a path of its own");
     }
-    format!(in alloc; "\"{other}\" is the same file: give each a path of its own")
+    let other = quoted_path(alloc, other)?;
+    format!(in alloc; "{other} is the same file: give each a path of its own")
 }
 
 /// Tells that two paths to write are one file.

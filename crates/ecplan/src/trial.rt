@@ -1,17 +1,19 @@
 //! A play that loses slaves, or whose frames are written as a capture file.
 
-ghost use Rattle.std.specs.Prelude.{◌≡◌};
+ghost use Rattle.std.specs.Prelude.{◌≡◌, false};
 ghost use Rattle.ec_cli_command.specs.Words.{JobFits, job_of};
+ghost use Rattle.ec_wire.specs.Stream.{has_failed};
 
-use crate::faults::tell_fault;
+use crate::faults::{tell_whole, write_target};
 use crate::kept::Kept;
+use crate::output::{Output, refuse_line, refuse_text, tell_untold};
 use crate::progress::{Progress, Telling};
 use crate::remark::{Left, tell_refusal};
-use crate::targets::{Target, is_kept};
+use crate::targets::{Target, is_kept, target_at};
 use ec_cli_answers::Told;
-use ec_cli_files::{Content, FileFault, write_whole};
+use ec_cli_files::{Content, FileFault};
 use ec_cli_refusals::Refusal;
-use ec_cli_run::{do_line, refuse, refuse_words};
+use ec_cli_run::{do_line, refuse};
 use ec_cli_words::Words;
 use ec_fmmu::layout;
 use ec_frame_text::stations_of;
@@ -24,7 +26,7 @@ use ec_wire::Io;
 use std::alloc::{AllocError, Global};
 use std::fmt::Write as _;
 use std::io;
-use std::io::{ErrorKind, Read};
+use std::io::{ErrorKind, Read, Write};
 use std::rt::{Clock, Files};
 use std::sync::Wait;
 use std::thread::Threads;
@@ -55,13 +57,7 @@ struct Played {
 
 /// The path of the capture file of a play, and what is written there.
 fn target_of(words: &Words) -> Option<Target<'_>> {
-    match &words.trial.pcap {
-        Some(path) => Some(Target {
-            path: path.as_str(),
-            content: Content::Capture,
-        }),
-        None => None,
-    }
+    target_at(&words.trial.pcap, Content::Capture)
 }
 
 /// Whether a play is told or written otherwise than by its job.
@@ -179,23 +175,31 @@ fn write_capture<H: Files + AllocGlobal + Eprint>(
     words: &Words,
     played: &Played,
 ) -> Option<Refusal> {
-    let (Some(Target { path, content }), Some(bytes)) = (target_of(words), &played.capture) else {
+    let (Some(target), Some(bytes)) = (target_of(words), &played.capture) else {
         return None;
     };
-    match write_whole(rt, rt.alloc(), path, content, bytes.as_slice()) {
+    match write_target(rt, target, bytes.as_slice()) {
         Ok(()) => None,
-        Err(fault) => {
-            tell_fault(rt, Target { path, content }, &fault);
-            Some(refusal_of(&fault))
-        }
+        Err(fault) => Some(refusal_of(&fault)),
     }
 }
 
 /// Writes a text. The status.
-fn write_text<H: Print>(rt: &H, text: &str) -> u8 {
-    match Io::new(io::writer(rt)).write_whole(text.as_bytes()) {
+fn write_text<W: Write>(out: &mut Io<W>, text: &str) -> u8 {
+    match out.write_whole(text.as_bytes()) {
         Ok(()) => 0,
         Err(_) => 4,
+    }
+}
+
+/// Writes what is told of a play. The status.
+fn write_answer<W: Write>(out: &mut Io<W>, told: &Result<Told, Refusal>, played: &Played) -> u8
+    requires { has_failed out.old ≡ false }
+{
+    match (&played.text, told) {
+        (Some(text), _) => write_text(out, text.as_str()),
+        (None, Ok(told)) => write_text(out, told.answer.text.as_str()),
+        (None, Err(refusal)) => refuse(*refusal, out).code,
     }
 }
 
@@ -207,13 +211,16 @@ fn write_played<H: Files + AllocGlobal + Eprint + Print>(
     played: &Played,
 ) -> u8 {
     if let Some(refusal) = write_capture(rt, words, played) {
-        return refuse(refusal, &mut Io::new(io::writer(rt))).code;
+        return refuse_line(rt, refusal);
     }
-    match (&played.text, told) {
-        (Some(text), _) => write_text(rt, text.as_str()),
-        (None, Ok(told)) => write_text(rt, told.answer.text.as_str()),
-        (None, Err(refusal)) => refuse(*refusal, &mut Io::new(io::writer(rt))).code,
+    let mut output = Output::new(rt, false);
+    let code = write_answer(&mut Io::new(&mut output), told, played);
+    let untold = output.fault();
+    tell_untold(rt, untold);
+    if let (Some(target), Some(_)) = (target_of(words), untold) {
+        tell_whole(rt, target);
     }
+    code
 }
 
 /// Writes what comes of a play, or why nothing does, whose job told this of the units. The status.
@@ -225,13 +232,11 @@ fn finish<'x, H: Files + AllocGlobal + Eprint + Print>(
 ) -> u8 {
     match try_told(rt.alloc(), words, left.units, told) {
         Ok(played) => write_played(rt, words, told, &played),
-        Err(TrialFault::Station(text)) => {
-            refuse_words(&mut Io::new(io::writer(rt)), text.as_str()).code
-        }
+        Err(TrialFault::Station(text)) => refuse_text(rt, text.as_str()),
         Err(TrialFault::Refused(refusal)) => {
-            let status = refuse(refusal, &mut Io::new(io::writer(rt)));
+            let code = refuse_line(rt, refusal);
             tell_refusal(rt, &refusal, &words.line, left);
-            status.code
+            code
         }
     }
 }
@@ -254,13 +259,5 @@ pub(crate) fn do_trial<
         &mut Io::new(io::sink()),
         &progress,
     );
-    let left = Left {
-        path: match &words.units {
-            Some(path) => Some(path.as_str()),
-            None => None,
-        },
-        units: units.front(),
-        fault: units.fault(),
-    };
-    finish(rt, words, left, &report.told)
+    finish(rt, words, Left::of(&words.units, &units), &report.told)
 }

@@ -3,10 +3,11 @@
 //! Its head is the line of a refusal, and below it `cert PATH`, `out PATH` and `reason WORDS` where the job had them. Or it is
 //! the first line of a search's text: of one without a proof `unproved V`, below it `cut WHY` and `at least L`, and `strong`
 //! of a search by the strong rules, `most` of one that took as much as may be asked for, `merged` of merged certificates; and
-//! where a certificate was wanted, `out PATH` and `bytes N`, and `missing` where it isn't there.
+//! where a certificate was wanted, `out PATH` and `bytes N`, and `missing` where it isn't there, or `beside` where it is too
+//! large to be there.
 
 use crate::refusals::refusal_of;
-use ec_cli_explain::{Asked, Filed, Inputs, Written, advice, explain, merged_advice};
+use ec_cli_explain::{Asked, Filed, Inputs, Written, advice, explain};
 use ec_outcome::{Cut, Ending};
 use std::alloc::{AllocError, Global};
 
@@ -28,6 +29,7 @@ fn filed_of(head: &str) -> Filed<'_> {
         .unwrap_or(0);
     match part(head, "out ") {
         Some(_) if part(head, "missing").is_some() => Filed::Missing,
+        Some(_) if part(head, "beside").is_some() => Filed::TooLarge,
         Some(path) => Filed::There(Written { path, bytes }),
         None => Filed::Unasked,
     }
@@ -66,6 +68,9 @@ fn asked_of(head: &str) -> Asked {
     if part(head, "part").is_some() {
         return Asked::Part;
     }
+    if part(head, "merged").is_some() {
+        return Asked::Merged;
+    }
     Asked::Whole
 }
 
@@ -76,9 +81,6 @@ pub(crate) fn answer_to<'x>(
     units: &'x [u8],
     cert: Option<&'x [u8]>,
 ) -> Result<String, AllocError> {
-    if part(head, "merged").is_some() {
-        return merged_advice(alloc, ending_of(head), filed_of(head));
-    }
     if !head.starts_with("refused ") {
         return advice(alloc, ending_of(head), filed_of(head), asked_of(head));
     }

@@ -1,0 +1,14 @@
+-- Where what is told of is ASCII.
+use Rattle.std.specs.Prelude.{IsAscii, ⊤, IfSome}
+use Rattle.ec_cli_hints.specs.declared.advising.Filed.{Filed}
+use Rattle.ec_cli_hints.specs.declared.advising.Filed.TheVariants as filed
+use Rattle.ec_cli_hints.specs.declared.inputs.Inputs.{Inputs}
+
+-- the units of a refusal and its paths are
+abbrev pub AreAscii : Inputs → Type 0
+AreAscii inputs = IsAscii inputs.units.now × IfSome inputs.cert_path (λ path. IsAscii path.now) × IfSome inputs.out_path (λ path. IsAscii path.now)
+
+-- the path of a certificate is, if one is told
+abbrev pub HasAsciiPath : Filed → Type 0
+HasAsciiPath (filed.There cert) = IsAscii cert.path.now
+HasAsciiPath _ = ⊤

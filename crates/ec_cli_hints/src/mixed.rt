@@ -1,0 +1,99 @@
+//! A unit text that begins `unit`, or the `slave` of one unit, in two ways.
+
+use crate::headers::{Header, header_of};
+use crate::label::add_line;
+use ec_text_builder::Draft;
+
+/// An array of tables: the table that has it, its name in a header, its key, and how each of its tables begins.
+#[derive(Clone, Copy)]
+struct Array {
+    table: &'static str,
+    name: &'static str,
+    key: &'static str,
+    rule: &'static str,
+}
+
+const UNIT: Array = Array {
+    table: "",
+    name: "unit",
+    key: "unit",
+    rule: "each unit begins with [[unit]], also the first.\n",
+};
+
+const SLAVE: Array = Array {
+    table: "unit",
+    name: "unit.slave",
+    key: "slave",
+    rule: "each slave of a unit begins with [[unit.slave]], also the first.\n",
+};
+
+/// The array that was begun otherwise before a line at which the reader stopped with a message, if it is for that.
+fn array_at(line: &str, message: &str) -> Option<Array> {
+    let header = header_of(line)?;
+    if message.starts_with("cannot extend") {
+        return Some(UNIT);
+    }
+    match header {
+        _ if !message.contains("duplicate") => None,
+        Header::Unit => Some(UNIT),
+        Header::Slave => Some(SLAVE),
+    }
+}
+
+/// What stands before a sign.
+fn before(text: &str, sign: char) -> &str {
+    text.split(sign).next().unwrap_or("")
+}
+
+/// The name in a header, or the key of a line.
+fn name_of(line: &str) -> &str {
+    before(before(line.trim().trim_start_matches('['), '='), ']').trim()
+}
+
+/// Whether a name is this one, or that of something in it.
+fn is_within(name: &str, outer: &str) -> bool {
+    match name.strip_prefix(outer) {
+        Some(rest) => rest.is_empty() || rest.starts_with('.'),
+        None => false,
+    }
+}
+
+/// The first line, from 1, of those before a line, from 0, that begins the array which is begun there once more.
+fn line_begun(text: &str, end: usize, array: Array) -> Option<usize> {
+    let mut found = None;
+    let mut has_keys = array.table.is_empty();
+    for (index, line) in text.lines().take(end).enumerate() {
+        let name = name_of(line);
+        let is_header = line.trim().starts_with('[');
+        if is_header {
+            has_keys = name == array.table;
+            if has_keys {
+                found = None;
+            }
+        }
+        let is_begun = if is_header {
+            is_within(name, array.name)
+        } else {
+            has_keys && is_within(name, array.key)
+        };
+        if is_begun && found.is_none() {
+            found = Some(index.saturating_add(1));
+        }
+    }
+    found
+}
+
+/// Adds that `unit` or `slave` was begun otherwise before a line, from 0, at which the reader stopped with a message, and says
+/// whether it was.
+pub(crate) fn add_mixed(out: &mut Draft, text: &str, at: usize, line: &str, message: &str) -> bool {
+    let Some(array) = array_at(line, message) else {
+        return false;
+    };
+    out.add("Before this line ");
+    out.add(array.key);
+    out.add(" was begun otherwise");
+    add_line(out, line_begun(text, at, array));
+    out.add(": ");
+    out.add(array.rule);
+    true
+}

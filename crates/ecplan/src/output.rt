@@ -1,0 +1,90 @@
+//! Standard output, and what is told where it takes no text.
+
+use crate::progress::BLANKS;
+use ec_cli_refusals::Refusal;
+use ec_cli_run::{refuse, refuse_words};
+use ec_wire::Io;
+use std::alloc::{AllocError, Global};
+use std::io;
+use std::io::{ErrorKind, Write as _};
+
+/// Standard output, before whose first bytes what stands in the line of a terminal is taken away. It remembers why a write to
+/// it failed.
+#[derive(Drop)]
+pub(crate) struct Output<'a, H> {
+    rt: &'a H,
+    /// Whether something may stand in the line of the terminal.
+    covers: bool,
+    fault: Option<io::Error>,
+}
+
+impl<'a, H> Output<'a, H> {
+    /// Standard output, to which nothing was written yet.
+    pub(crate) fn new(rt: &'a H, covers: bool) -> Output<'a, H> {
+        Output {
+            rt,
+            covers,
+            fault: None,
+        }
+    }
+
+    /// Why the text isn't there whole. None where it is, and where its reader went away, who is told nothing of it.
+    pub(crate) fn fault(&self) -> Option<io::Error> {
+        match self.fault {
+            Some(error) if error.kind() == ErrorKind::BrokenPipe => None,
+            fault => fault,
+        }
+    }
+}
+
+impl<'a, H: Eprint + Print> io::Write for Output<'a, H> {
+    fn write(&mut self, bytes: &[u8]) -> io::Result<usize> {
+        if self.covers {
+            self.covers = false;
+            let _ = self.rt.eprint(BLANKS);
+        }
+        let written = io::writer(self.rt).write(bytes);
+        match &written {
+            Ok(0) if !bytes.is_empty() => self.fault = Some(io::Error::from(ErrorKind::WriteZero)),
+            Ok(_) => {}
+            Err(error) => self.fault = Some(*error),
+        }
+        written
+    }
+
+    fn flush(&mut self) -> io::Result<()> {
+        Ok(())
+    }
+}
+
+/// That a text isn't written, and why.
+fn untold_words(alloc: Global, fault: io::Error) -> Result<String, AllocError> {
+    let why = fault.to_string(alloc)?;
+    format!(in alloc; "The text cannot be written to standard output: {why}.\n")
+}
+
+/// Tells why a text isn't written, if it isn't.
+pub(crate) fn tell_untold<H: AllocGlobal + Eprint>(rt: &H, fault: Option<io::Error>) {
+    let Some(fault) = fault else {
+        return;
+    };
+    if let Ok(words) = untold_words(rt.alloc(), fault) {
+        let _ = rt.eprint(words.as_str());
+    }
+}
+
+/// Writes the line that refuses; tells why, where it can't. The status.
+pub(crate) fn refuse_line<H: AllocGlobal + Eprint + Print>(rt: &H, refusal: Refusal) -> u8 {
+    let mut output = Output::new(rt, false);
+    let status = refuse(refusal, &mut Io::new(&mut output));
+    tell_untold(rt, output.fault());
+    status.code
+}
+
+/// Says by this text why words are no command line; tells why, where it can't. The status.
+pub(crate) fn refuse_text<H: AllocGlobal + Eprint + Print>(rt: &H, text: &str) -> u8 {
+    let mut output = Output::new(rt, false);
+    let status = refuse_words(&mut Io::new(&mut output), text);
+    tell_untold(rt, output.fault());
+    status.code
+}
