@@ -77,7 +77,7 @@ sends-periods b p f (suc k) h =
     ap (sum_below (sends b p f)) (mul-suc p k) ∙ omega (arith, mul-suc b k)
 
 -- the bytes of a slot, and the rest of its payload with its overhead
-abbrev bytes : List Item → ℕ → ℕ → ℕ
+abbrev pub bytes : List Item → ℕ → ℕ → ℕ
 bytes xs t s = sum_by (λ x. x.bytes) (carried xs t s)
 
 abbrev pub head : List Item → ℕ → ℕ → ℕ
@@ -136,7 +136,7 @@ one_slot n t x h =
       | false ↦ refl
     ]
 
-sum_bytes : (xs : List Item) (n t : ℕ) → All (λ x. x.slot < n) xs → sum_below (bytes xs t) n ≡ moved xs t
+pub sum_bytes : (xs : List Item) (n t : ℕ) → All (λ x. x.slot < n) xs → sum_below (bytes xs t) n ≡ moved xs t
 sum_bytes [] n t h = sum_below-none (bytes [] t) n (λ _ _. refl)
 sum_bytes (x ∷ xs) n t h =
     sum_below-agree (bytes (x ∷ xs) t) (λ s. cond (is_sent t s x) x.bytes 0 + bytes xs t s) n (λ s _. bytes-cons x xs t s)
@@ -169,7 +169,7 @@ AreWhole n h xs = All (λ x. (x.slot < n) × (x.phase < x.period) × (x.period �
 pub AreWhole-legal : (loads : List Load) (n : ℕ) (plan : List Place) → AreLoads loads → IsLegal loads n plan → AreWhole n (lcm_of (periods_of loads)) (plan_items loads plan)
 AreWhole-legal loads n plan within legal = λ k d l. (legal.slots k d l, legal.phases k d l, DivideAll-loads loads (map Some plan) (lcm_of (periods_of loads)) within (λ i. lcm_of (periods_of loads)) k d l)
 
-sum_moved : (xs : List Item) (n h : ℕ) → AreWhole n h xs → sum_below (moved xs) h ≡ weight xs h
+pub sum_moved : (xs : List Item) (n h : ℕ) → AreWhole n h xs → sum_below (moved xs) h ≡ weight xs h
 sum_moved [] n h all = sum_below-none (moved []) h (λ _ _. refl)
 sum_moved (x ∷ xs) n h all =
     let own = All-head (λ y. (y.slot < n) × (y.phase < y.period) × (y.period ∣ h)) x xs all in

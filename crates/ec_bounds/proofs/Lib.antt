@@ -12,3 +12,4 @@ pub mod GroupLemmas
 pub mod FallLemmas
 pub mod StepLemmas
 pub mod ShownLemmas
+pub mod MeanLemmas

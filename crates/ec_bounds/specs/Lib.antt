@@ -1,4 +1,5 @@
 pub mod Examples
+pub mod IsMeanTick
 pub mod Laws
 pub mod Left
 pub mod RoomLaws

@@ -5,6 +5,7 @@ mod bound;
 mod counted;
 mod grouped;
 mod law;
+mod mean;
 mod merged;
 mod rest;
 mod rooms;
@@ -18,6 +19,7 @@ pub use law::{
     law_counted_units_bound, law_leaves_bound, law_leaves_fall, law_new_groups_bound,
     law_raw_at_most_cost, law_room_suffices, law_rooms_fall,
 };
+pub use mean::{MeanTick, mean_tick};
 pub use merged::merge_bound;
 pub use rest::Rest;
 pub use tops::Ticks;
