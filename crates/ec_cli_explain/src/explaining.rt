@@ -6,9 +6,8 @@ ghost use Rattle.ec_cli_explain.specs.IsShown.{IsShown};
 ghost use Rattle.ec_cli_explain.specs.AreAscii.{AreAscii, HasAsciiPath};
 
 use crate::plain::{plain_text, shown_text};
-use ec_cli_hints::{Asked, Filed, Inputs, counsel, remarks};
+use ec_cli_hints::{Asked, Cycle, Filed, Found, Inputs, counsel, remarks};
 use ec_cli_refusals::Refusal;
-use ec_outcome::Ending;
 use std::alloc::{AllocError, Global};
 
 /// Whether a path, if there is one, is ASCII.
@@ -68,19 +67,21 @@ pub fn explain(alloc: Global, refusal: &Refusal, inputs: &Inputs<'_>) -> Result<
 
 /// What to do after a search, or after certificates were merged, in a few sentences, each a line. Of an end without a proof:
 /// what the plan is good for, what is proved of every plan, what would help, by what was asked for, and how one goes on from it.
-/// Of any: that its certificate, if one was written, has more than the 67,108,864 bytes that are read again.
+/// Of any: whether the plan fits into its ticks, what would make room where there is none, and that its certificate, if one was
+/// written, has more than the 67,108,864 bytes that are read again. Less where the cycle of the line isn't known.
 ///
 /// Whatever the path holds, the text has no control character but line feeds, and where the path is ASCII nothing but that, as
 /// `explain` says it. Only want of memory is an error (own profile).
 pub fn advice(
     alloc: Global,
-    ending: Option<Ending>,
+    found: Found,
+    cycle: Option<Cycle>,
     filed: Filed<'_>,
     asked: Asked,
 ) -> Result<String, AllocError>
     ensures shown { IfOk result (λ told. IsShown (string_bytes told)) }
     ensures plain { HasAsciiPath filed.entry → IfOk result (λ told. All IsPlain (string_bytes told)) }
 {
-    let sentences = counsel(alloc, ending, filed, asked)?;
+    let sentences = counsel(alloc, found, cycle, filed, asked)?;
     laid_out(alloc, sentences.as_str(), has_ascii_path(filed))
 }

@@ -1,5 +1,7 @@
-//! What to do after a search: what would help one without a proof, and whether its certificate can be read again.
+//! What to do after a search: whether its plan fits, what would help one without a proof, and whether its certificate can be read
+//! again.
 
+use crate::cycle::Cycle;
 use crate::quoted::{add_command, add_path};
 use ec_outcome::{Cut, Ending};
 use ec_text_builder::Draft;
@@ -7,6 +9,12 @@ use std::alloc::{AllocError, Global};
 
 /// The most bytes of a certificate that are read.
 const MOST_READ: u64 = 67_108_864;
+
+/// The nodes that a search may visit where no number is asked for.
+const NODES: u64 = 1_000_000;
+
+/// A node takes at most so many bytes of a certificate, in most searches.
+const BYTES_OF_NODE: u64 = 8;
 
 /// What to try where a search didn't go by the strong rules.
 const STRONGER: &str =
@@ -47,6 +55,17 @@ impl<'a> Filed<'a> {
             Filed::Unasked | Filed::Missing => false,
         }
     }
+}
+
+/// What was found.
+#[derive(Clone, Copy)]
+pub enum Found {
+    /// A plan that is proved to be the best, whose busiest tick costs so many wire bytes.
+    Least(u64),
+    /// That no plan is legal.
+    NoPlan,
+    /// No proof.
+    Unproved(Ending),
 }
 
 /// What was asked for, where what would help hangs on that.
@@ -224,6 +243,21 @@ impl Onward {
     }
 }
 
+/// Adds how many nodes one may go on with, where those that are visited if none are asked for may make a certificate that can't
+/// be read.
+fn add_room(out: &mut Draft, bytes: u64) {
+    let nodes = MOST_READ.saturating_sub(bytes) / BYTES_OF_NODE / 1000 * 1000;
+    if nodes >= NODES {
+        return;
+    }
+    out.add(format_args!("It has {bytes} bytes, and at most {MOST_READ} are read: "));
+    if nodes == 0 {
+        out.add("what goes on with it will have more.\n");
+    } else {
+        out.add(format_args!("go on with --nodes {nodes} at most.\n"));
+    }
+}
+
 /// Adds how one goes on from a certificate that can be read.
 fn add_onward(out: &mut Draft, filed: Filed<'_>, asked: Asked) {
     let onward = Onward::of(asked);
@@ -233,6 +267,9 @@ fn add_onward(out: &mut Draft, filed: Filed<'_>, asked: Asked) {
             out.add("The command ");
             add_command(out, front, cert.path, behind);
             out.add(onward.does);
+            if !matches!(asked, Asked::Part) {
+                add_room(out, cert.bytes);
+            }
         }
         Filed::Missing | Filed::TooLarge => {}
         Filed::Unasked => out.add(onward.unasked),
@@ -262,37 +299,72 @@ fn smaller(asked: Asked) -> &'static str {
     }
 }
 
+/// The end with the level that the bytes of the line alone give, where that is greater.
+fn raised(ending: Ending, cycle: Cycle) -> Ending {
+    Ending {
+        level: ending.level.max(cycle.mean.cost),
+        ..ending
+    }
+}
+
 /// Adds what an end without a proof is good for, and what would help.
 fn add_unproved(out: &mut Draft, ending: Ending, filed: Filed<'_>, asked: Asked) {
-    if ending.best.is_some() {
-        out.add("The plan is legal and can be used as it stands.\n");
-    }
     add_level(out, ending);
     if is_helped(ending, filed, asked) {
         out.add(help(ending, asked));
     }
     out.add(other_rules(ending, asked));
+    if !filed.is_too_large() {
+        add_onward(out, filed, asked);
+    }
 }
 
-/// What to do after a search, or after certificates were merged, in a few sentences, each a line. Of an end without a proof: what
-/// the plan is good for, what is proved of every plan, what would help, by what was asked for, and how one goes on from it. Of
-/// any: that its certificate, if one was written, has more bytes than are read again. Only want of memory is an error (own
-/// profile).
+/// Adds what an end without a proof is good for, what is known of each plan of this line, and what would help.
+fn add_ending(
+    out: &mut Draft,
+    ending: Ending,
+    cycle: Option<Cycle>,
+    filed: Filed<'_>,
+    asked: Asked,
+) {
+    if ending.best.is_some() {
+        out.add("The plan is legal and can be used as it stands.\n");
+    }
+    let Some(cycle) = cycle else {
+        return add_unproved(out, ending, filed, asked);
+    };
+    let known = raised(ending, cycle);
+    cycle.add_fit(out, ending.best, known.level);
+    if cycle.is_overfull() {
+        return cycle.add_overfull(out);
+    }
+    if ending.level < known.level {
+        cycle.add_mean(out);
+    }
+    add_unproved(out, known, filed, asked);
+}
+
+/// What to do after a search, or after certificates were merged, in a few sentences, each a line. Of any: whether the plan fits
+/// into its ticks, and that its certificate, if one was written, has more bytes than are read again. Of an end without a proof
+/// also: what the plan is good for, what is proved of every plan, what would help, by what was asked for, and how one goes on from
+/// it. Without a plan: what would make room. Less where the units aren't known. Only want of memory is an error (own profile).
 pub fn counsel(
     alloc: Global,
-    ending: Option<Ending>,
+    found: Found,
+    cycle: Option<Cycle>,
     filed: Filed<'_>,
     asked: Asked,
 ) -> Result<String, AllocError> {
     let mut out = Draft::new(alloc);
-    if let Some(ending) = ending {
-        add_unproved(&mut out, ending, filed, asked);
+    match (found, cycle) {
+        (Found::Unproved(ending), cycle) => add_ending(&mut out, ending, cycle, filed, asked),
+        (Found::Least(busiest), Some(cycle)) => cycle.add_fit(&mut out, Some(busiest), busiest),
+        (Found::NoPlan, Some(cycle)) => cycle.add_none(&mut out),
+        (Found::Least(_) | Found::NoPlan, None) => {}
     }
     if filed.is_too_large() {
         add_size(&mut out, filed);
         out.add(smaller(asked));
-    } else if ending.is_some() {
-        add_onward(&mut out, filed, asked);
     }
     out.finish()
 }

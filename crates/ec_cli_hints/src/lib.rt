@@ -1,4 +1,4 @@
-//! What there is to tell a person of a refusal and of a search without a proof, in a few sentences.
+//! What there is to tell a person of a refusal and after a search, in a few sentences.
 //!
 //! Nothing of it takes part in a job: it is made after the job, of copies of what the job read.
 #![tactic(auto)]
@@ -7,6 +7,7 @@ mod advising;
 mod areas;
 mod certs;
 mod checks;
+mod cycle;
 mod due;
 mod headers;
 mod inputs;
@@ -25,7 +26,8 @@ mod syntax;
 mod telling;
 mod units;
 
-pub use advising::{Asked, Filed, Written, counsel};
+pub use advising::{Asked, Filed, Found, Written, counsel};
+pub use cycle::Cycle;
 pub use inputs::Inputs;
 pub use quoted::{PIECE, quoted_path};
 pub use telling::remarks;

@@ -4,7 +4,7 @@
 use crate::faults::{tell_fault, tell_whole};
 use crate::handing::hand_over;
 use crate::targets::Target;
-use crate::telling::{CHANGED, NO_FORM, tell_path};
+use crate::telling::{CHANGED, NO_FORM, NO_PLAN, tell_path};
 use ec_cli_answers::Told;
 use ec_cli_command::Line;
 use ec_cli_files::{Content, FileFault, are_one, are_same_file, read_front, write_whole};
@@ -151,7 +151,10 @@ pub(crate) fn write_after<R: Files + AllocGlobal + Eprint>(
                 Content::Units,
                 fill(rt, units, plan, path.as_str(), is_own),
             ),
-            None => return true,
+            None => {
+                tell_path(rt, "The places are not written to", path.as_str(), NO_PLAN);
+                return true;
+            }
         },
         Line::Frames { .. } => return hand_over(rt, line, units, told, is_told),
         _ => return true,

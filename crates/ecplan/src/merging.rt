@@ -96,7 +96,7 @@ fn tell_report<H: Files + AllocGlobal + Eprint>(
                 code: report.status.code,
                 untold,
             };
-            tell_end(rt, told, delivered, Some(Asked::Merged));
+            tell_end(rt, told, left.units, delivered, Some(Asked::Merged));
         }
         Err(MergeFault::Refused(why)) => {
             let line = Line::Cost {

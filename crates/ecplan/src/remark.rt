@@ -6,15 +6,17 @@ use crate::kept::Kept;
 use crate::output::tell_untold;
 use crate::targets::{Target, targets_of};
 use crate::telling::{UNTOLD, tell_reason, tell_text};
+use ec_cert::Cert;
 use ec_cert_text::CertFault;
 use ec_checker::CheckFault;
-use ec_cli_answers::Told;
+use ec_cli_answers::{File, Told};
 use ec_cli_command::{Effort, Line};
-use ec_cli_explain::{Asked, Filed, Inputs, Written, advice, explain};
+use ec_cli_explain::{Asked, Cycle, Filed, Found, Inputs, Written, advice, explain};
 use ec_cli_files::FileFault;
 use ec_cli_refusals::Refusal;
 use ec_cli_run::Report;
 use ec_outcome::Cut;
+use ec_unit_text::read_units;
 use std::alloc::{AllocError, Global};
 use std::io::{ErrorKind, Read};
 use std::rt::Files;
@@ -213,6 +215,31 @@ fn asked_of(line: &Line, told: &Told) -> Option<Asked> {
     })
 }
 
+/// What a search or a merge found.
+fn found_of(told: &Told) -> Found {
+    match (told.ending, &told.file) {
+        (Some(ending), _) => Found::Unproved(ending),
+        (
+            None,
+            File::Cert(
+                Cert {
+                    best: Some(best),
+                    ..
+                },
+            ),
+        ) => Found::Least(best.busiest),
+        (None, _) => Found::NoPlan,
+    }
+}
+
+/// What is known of the line of the units that were read.
+fn cycle_of(alloc: Global, units: &[u8]) -> Option<Cycle> {
+    match read_units(alloc, units) {
+        Ok(units) => Some(Cycle::of(&units)),
+        Err(_) => None,
+    }
+}
+
 /// How what a job told was written: its file, if it writes one, and why that isn't at its path; the status; and why standard
 /// output hasn't got the text.
 #[derive(Clone, Copy)]
@@ -233,10 +260,11 @@ fn tell_file<R: Files + AllocGlobal + Eprint>(rt: &R, delivered: Delivered<'_>) 
 }
 
 /// Tells at the end of a job why its file isn't at its path, or where it lies where standard output hasn't got the text. Of
-/// what was asked of a search or a merge also what was found, where standard output hasn't got it, and what would help.
+/// what was asked of a search or a merge for these units also what was found, where standard output hasn't got it, and what to do.
 pub(crate) fn tell_end<R: Files + AllocGlobal + Eprint>(
     rt: &R,
     told: &Told,
+    units: &[u8],
     delivered: Delivered<'_>,
     asked: Option<Asked>,
 ) {
@@ -248,7 +276,8 @@ pub(crate) fn tell_end<R: Files + AllocGlobal + Eprint>(
         tell_text(rt, UNTOLD, told.answer.text.as_str());
     }
     let filed = filed_at(rt, delivered.target, delivered.fault);
-    if let Ok(text) = advice(rt.alloc(), told.ending, filed, asked) {
+    let (alloc, found) = (rt.alloc(), found_of(told));
+    if let Ok(text) = advice(alloc, found, cycle_of(alloc, units), filed, asked) {
         let _ = rt.eprint(text.as_str());
     }
 }
@@ -275,5 +304,5 @@ pub(crate) fn remark<'x, R: Files + AllocGlobal + Eprint>(
         code: report.status.code,
         untold,
     };
-    tell_end(rt, told, delivered, asked_of(line, told));
+    tell_end(rt, told, left.units, delivered, asked_of(line, told));
 }

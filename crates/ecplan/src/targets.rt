@@ -152,11 +152,20 @@ fn is_among<H: Files + AllocGlobal + Eprint>(
 }
 
 /// Whether a line may write what it says: none of its paths is one whose file is left as it is, and no two are one. Tells
-/// what is wrong.
-pub(crate) fn may_write<H: Files + AllocGlobal + Eprint>(rt: &H, line: &Line) -> bool {
+/// what is wrong. The units' own file is judged as the units are.
+pub(crate) fn may_write<H: Files + AllocGlobal + Eprint>(
+    rt: &H,
+    line: &Line,
+    is_own: bool,
+) -> bool {
     let targets = targets_of(line);
     let [one, second, third, _] = targets;
-    !is_any_kept(rt, &targets)
+    let is_kept = if is_own {
+        is_kept(rt, one)
+    } else {
+        is_any_kept(rt, &targets)
+    };
+    !is_kept
         && !is_among(rt, one, &targets[1..])
         && !is_among(rt, second, &targets[2..])
         && !is_among(rt, third, &targets[3..])

@@ -14,6 +14,9 @@ pub(crate) const CLOSED: &str = "The units cannot be read: standard input is clo
 pub(crate) const NO_FORM: &str =
     "Each unit of the text has to begin with a line [[unit]], and each key to have a line of its own";
 
+/// What is told where no plan gives places to fill in.
+pub(crate) const NO_PLAN: &str = "No plan was found";
+
 /// What is told of a file of units that isn't written over.
 pub(crate) const CHANGED: &str =
     "It isn't the text any more that the search began with, and is left as it is. The plan was told";

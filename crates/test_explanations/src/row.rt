@@ -1,14 +1,15 @@
 //! A row of the table.
 //!
 //! Its head is the line of a refusal, and below it `cert PATH`, `out PATH` and `reason WORDS` where the job had them. Or it is
-//! the first line of a search's text: of one without a proof `unproved V`, below it `cut WHY` and `at least L`, and `strong`
-//! of a search by the strong rules, `most` of one that took as much as may be asked for, `merged` of merged certificates; and
-//! where a certificate was wanted, `out PATH` and `bytes N`, and `missing` where it isn't there, or `beside` where it is too
-//! large to be there.
+//! the first line of a search's text: `optimal V`, `no plan`, or of one without a proof `unproved V`, below it `cut WHY` and
+//! `at least L`, and `strong` of a search by the strong rules, `most` of one that took as much as may be asked for, `merged` of
+//! merged certificates; and where a certificate was wanted, `out PATH` and `bytes N`, and `missing` where it isn't there, or
+//! `beside` where it is too large to be there. Its units are those of the search; where they can't be read, they aren't known.
 
 use crate::refusals::refusal_of;
-use ec_cli_explain::{Asked, Filed, Inputs, Written, advice, explain};
+use ec_cli_explain::{Asked, Cycle, Filed, Found, Inputs, Written, advice, explain};
 use ec_outcome::{Cut, Ending};
+use ec_unit_text::read_units;
 use std::alloc::{AllocError, Global};
 
 /// What stands after a word at the beginning of a line of the head.
@@ -60,6 +61,24 @@ fn ending_of(head: &str) -> Option<Ending> {
     })
 }
 
+/// What a search of the head found.
+fn found_of(head: &str) -> Found {
+    let least = part(head, "optimal ").unwrap_or("").parse::<u64>();
+    match (ending_of(head), least) {
+        (Some(ending), _) => Found::Unproved(ending),
+        (None, Ok(least)) => Found::Least(least),
+        (None, Err(_)) => Found::NoPlan,
+    }
+}
+
+/// What is known of the line of these units.
+fn cycle_of(alloc: Global, units: &[u8]) -> Option<Cycle> {
+    match read_units(alloc, units) {
+        Ok(units) => Some(Cycle::of(&units)),
+        Err(_) => None,
+    }
+}
+
 /// What a search was asked for.
 fn asked_of(head: &str) -> Asked {
     if part(head, "most").is_some() {
@@ -82,7 +101,13 @@ pub(crate) fn answer_to<'x>(
     cert: Option<&'x [u8]>,
 ) -> Result<String, AllocError> {
     if !head.starts_with("refused ") {
-        return advice(alloc, ending_of(head), filed_of(head), asked_of(head));
+        return advice(
+            alloc,
+            found_of(head),
+            cycle_of(alloc, units),
+            filed_of(head),
+            asked_of(head),
+        );
     }
     let Some(refusal) = refusal_of(head.lines().next().unwrap_or("")) else {
         return String::from_str(alloc, "no line of a refusal\n");
