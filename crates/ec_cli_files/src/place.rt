@@ -7,6 +7,9 @@ use std::path::Path;
 use std::rt::Files;
 use std::{fs, io};
 
+/// The system's number for a path at which nothing stands.
+const NO_ENTRY: i32 = 2;
+
 /// Where the bytes for a path go.
 #[derive(Drop)]
 pub(crate) enum Place {
@@ -22,7 +25,7 @@ pub(crate) enum Place {
 /// there.
 fn find_place<F: Files>(files: &F, alloc: Global, path: &str) -> io::Result<Place> {
     if path.is_empty() {
-        return Err(io::Error::from(ErrorKind::NotFound));
+        return Err(io::Error::from_raw_os_error(NO_ENTRY));
     }
     let named = String::from_str(alloc, path)?;
     let itself = match fs::symlink_metadata(files, path) {

@@ -2,7 +2,7 @@
 
 use std::alloc::Global;
 use std::io;
-use std::io::{ErrorKind, Read};
+use std::io::Read;
 
 /// The most bytes of a unit text that are read, and one, by which a longer one shows.
 const MOST_TEXT: usize = 1_048_577;
@@ -35,7 +35,7 @@ impl Front {
 pub(crate) struct Kept<R> {
     inner: R,
     front: Front,
-    fault: Option<ErrorKind>,
+    fault: Option<io::Error>,
 }
 
 impl<R> Kept<R> {
@@ -57,7 +57,7 @@ impl<R> Kept<R> {
     }
 
     /// Why a read failed last, if one did.
-    pub(crate) fn fault(&self) -> Option<ErrorKind> {
+    pub(crate) fn fault(&self) -> Option<io::Error> {
         self.fault
     }
 }
@@ -72,7 +72,7 @@ impl<R: Read> Read for Kept<R> {
                 Ok(count)
             }
             Err(error) => {
-                self.fault = Some(error.kind());
+                self.fault = Some(error);
                 Err(error)
             }
         }

@@ -18,7 +18,7 @@ use ec_cli_run::Report;
 use ec_outcome::Cut;
 use ec_unit_text::read_units;
 use std::alloc::{AllocError, Global};
-use std::io::{ErrorKind, Read};
+use std::io::Read;
 use std::rt::Files;
 use std::{fs, io};
 
@@ -33,7 +33,7 @@ const MOST_MINUTES: u32 = 10_000;
 pub(crate) struct Left<'a> {
     pub path: Option<&'a str>,
     pub units: &'a [u8],
-    pub fault: Option<ErrorKind>,
+    pub fault: Option<io::Error>,
 }
 
 impl<'a> Left<'a> {
@@ -75,11 +75,11 @@ fn reason_for<R: Files + AllocGlobal>(
     rt: &R,
     refusal: &Refusal,
     line: &Line,
-    fault: Option<ErrorKind>,
+    fault: Option<io::Error>,
 ) -> Result<String, AllocError> {
     let alloc = rt.alloc();
     match (refusal, fault, line.cert()) {
-        (Refusal::Read, Some(kind), _) => kind.to_string(alloc),
+        (Refusal::Read, Some(error), _) => error.to_string(alloc),
         (Refusal::Read, None, Some(path)) => reason_of(alloc, try_read(rt, path.as_str())),
         _ => Ok(String::new(alloc)),
     }
@@ -159,13 +159,8 @@ pub(crate) fn tell_refusal<'x, R: Files + AllocGlobal + Eprint>(
     line: &'x Line,
     left: Left<'x>,
 ) {
-    if let (Some(path), Some(kind)) = (left.path, left.fault) {
-        tell_reason(
-            rt,
-            "The units cannot be read from",
-            path,
-            io::Error::from(kind),
-        );
+    if let (Some(path), Some(error)) = (left.path, left.fault) {
+        tell_reason(rt, "The units cannot be read from", path, error);
         return;
     }
     if let Ok(told) = refusal_text(rt, refusal, line, left) {
