@@ -1,14 +1,13 @@
 -- From the plan of units, or of a certificate, to the text that a job writes of it, be that its frames, a play or its
 -- costs. The text is a parameter. A new text of a plan is a relation between units, places and bytes that there is
 -- once, and its line of `IsUnitsOutput`.
-use Rattle.std.proofs.Common.{◌≡◌, ℕ, List, Option, Some, None, Result, Ok, Err, inl, inr, arith, sym, subst}
-use Rattle.std.specs.Prelude.{◌⊎◌, ◌≤◌, ◌<◌, length, MatchOption, MatchResult}
+use Rattle.std.proofs.Common.{◌≡◌, ℕ, List, Option, Some, None, Result, Ok, Err, inl, inr, sym, subst}
+use Rattle.std.specs.Prelude.{◌⊎◌, ◌≤◌, ◌<◌, length, MatchResult}
 use Rattle.ec_units.specs.declared.slave.Place.{Place}
 use Rattle.ec_units.specs.declared.units.Units.{Units}
-use Rattle.ec_units.specs.Views.{UnitsView, units_view, view_loads}
+use Rattle.ec_units.specs.Views.{UnitsView, units_view}
 use Rattle.ec_unit_text.specs.declared.fault.UnitFault.{UnitFault}
 use Rattle.ec_unit_text.specs.Reading.{reading}
-use Rattle.ec_loads.specs.Legal.{IsLegal}
 use Rattle.ec_loads.specs.declared.plan.Plan.{Plan}
 use Rattle.ec_cert.specs.declared.cert.Best.{Best}
 use Rattle.ec_cert.specs.Shapes.{CertView}
@@ -20,13 +19,10 @@ use Rattle.ec_cli_refusals.specs.declared.refusal.Refusal.{Refusal}
 use Rattle.ec_cli_refusals.specs.declared.refusal.Refusal.TheVariants as refusal
 use Rattle.ec_cli_command.specs.declared.job.Job.{Job}
 use Rattle.ec_cli_text.specs.Framed.{IsFramedPlan}
-use Rattle.ec_cli_text.specs.Output.{Written, IsPlacedText, IsBestText, IsCertText, IsTextFor, Answers, first_unplaced, places_of, refused, shown}
-use Rattle.ec_cli_refusals.specs.Refusals.{refusal_code, IsFramesMemory, IsMemory}
-use Rattle.ec_cli_refusals.proofs.RefusalLemmas.{code_above}
+use Rattle.ec_cli_text.specs.Output.{Written, IsBestText, IsCertText, IsTextFor, Answers, refused}
+use Rattle.ec_cli_text.proofs.PlacedLemmas.{Texts, answers_so, no_status, own_alike, placed_text}
+use Rattle.ec_cli_refusals.specs.Refusals.{IsFramesMemory, IsMemory}
 use Rattle.ec_cli_answers.specs.Captures.{IsFramesFault, FramesFrom}
-
-abbrev Texts : Type 1
-Texts = UnitsView → List Place → List ℕ → Type 0
 
 -- what a job that tells of a plan writes for the bytes of units, and of a certificate where there is one
 abbrev IsTextOf : Texts → Option (List ℕ) → List ℕ → Written → Type 0
@@ -36,11 +32,7 @@ IsTextOf T cert bytes w =
 -- ---- a plan has its text
 
 text_for : (T : Texts) (cert : Option (List ℕ)) (v : UnitsView) (places : List Place) (w : Written) → IsFramedPlan cert v places → T v places w.text → w.code ≡ 0 → IsTextFor T cert v w
-text_for T None v places w plan text code = rw plan.all (inr (
-  subst (λ (ps : List Place). IsLegal (view_loads v.units) v.slots ps) plan.given plan.legal,
-  subst (λ (ps : List Place). T v ps w.text) plan.given text,
-  code,
-))
+text_for T None v places w plan text code = placed_text T v places w plan text code
 text_for T (Some t) v places w plan text code =
     let own : T (units_view plan.units) plan.plan.best.plan.places w.text =
     subst (λ (u : UnitsView). T u plan.plan.best.plan.places w.text) (sym plan.seen) (subst (λ (ps : List Place). T v ps w.text) plan.plan.plan text) in
@@ -49,28 +41,11 @@ text_for T (Some t) v places w plan text code =
 pub text_of : (T : Texts) (cert : Option (List ℕ)) (bytes : List ℕ) (v : UnitsView) (places : List Place) (w : Written) → length bytes ≤ 1048576 → reading bytes ≡ Ok v → IsFramedPlan cert v places → T v places w.text → w.code ≡ 0 → IsTextOf T cert bytes w
 text_of T cert bytes v places w short said plan text code = inl (short, rw said (text_for T cert v places w plan text code))
 
--- an answer that is as one fact says is as a fact says that follows from it
-pub answers_so : (j : Job) (answer : Result Answer Refusal) (P Q : Written → Type 0) → ((w : Written) → P w → Q w) → Answers j answer P → Answers j answer Q
-answers_so j (Ok a) P Q so h = so (shown a) h
-answers_so j (Err r) P Q so (inl memory) = inl memory
-answers_so j (Err r) P Q so (inr h) = inr (so (refused r) h)
-
 pub answered : (T : Texts) (j : Job) (cert : Option (List ℕ)) (bytes : List ℕ) (us : Units) (plan : Plan) (answer : Result Answer Refusal) → FramesFrom cert (Ok (us, plan)) bytes → Answers j answer (λ w. T (units_view us) plan.places w.text × (w.code ≡ 0)) → Answers j answer (IsTextOf T cert bytes)
 answered T j cert bytes us plan answer from h =
     answers_so j answer (λ w. T (units_view us) plan.places w.text × (w.code ≡ 0)) (IsTextOf T cert bytes) (λ w is. text_of T cert bytes (units_view us) plan.places w from.0 from.1 from.2 is.0 is.1) h
 
 -- ---- a refusal doesn't ask what is told
-
-no_status : {A : Type 0} (r : Refusal) → refusal_code r ≡ 0 → A
-no_status r e = absurd (omega (arith, e, code_above r))
-
-placed_alike : (T U : Texts) (v : UnitsView) (ps : List Place) (r : Refusal) → IsPlacedText T v ps (refused r) → IsPlacedText U v ps (refused r)
-placed_alike T U v ps r (inl h) = inl h
-placed_alike T U v ps r (inr h) = no_status r h.2
-
-own_alike : (T U : Texts) (v : UnitsView) (r : Refusal) (o : Option ℕ) → MatchOption o (IsPlacedText T v (places_of v.units) (refused r)) (λ n. refused r ≡ refused (refusal.NoPlace n)) → MatchOption o (IsPlacedText U v (places_of v.units) (refused r)) (λ n. refused r ≡ refused (refusal.NoPlace n))
-own_alike T U v r None h = placed_alike T U v (places_of v.units) r h
-own_alike T U v r (Some n) h = h
 
 best_alike : (T U : Texts) (v : UnitsView) (best : Option Best) (r : Refusal) → IsBestText T v best (refused r) → IsBestText U v best (refused r)
 best_alike T U v None r h = h
@@ -85,7 +60,7 @@ read_alike T U v r (Ok c) h = cert_alike T U v c r h
 read_alike T U v r (Err f) h = h
 
 text_alike : (T U : Texts) (cert : Option (List ℕ)) (v : UnitsView) (r : Refusal) → IsTextFor T cert v (refused r) → IsTextFor U cert v (refused r)
-text_alike T U None v r h = own_alike T U v r (first_unplaced v.units) h
+text_alike T U None v r h = own_alike T U v r h
 text_alike T U (Some text) v r h = read_alike T U v r (cert_reading text) h
 
 units_alike : (T U : Texts) (cert : Option (List ℕ)) (r : Refusal) (read : Result UnitsView UnitFault) → MatchResult read (λ v. IsTextFor T cert v (refused r)) (λ f. refused r ≡ refused (refusal.Unit f))

@@ -18,7 +18,7 @@ use Rattle.ec_cli_command.specs.declared.job.Job.{Job}
 use Rattle.ec_cli_command.specs.declared.job.Job.TheVariants as job
 use Rattle.ec_cli_text.specs.declared.answer.Answer.{Answer}
 use Rattle.ec_cli_text.specs.Outcomes.{IsLevelOf, outcome_output}
-use Rattle.ec_cli_text.specs.Output.{Written, Answers, IsCheckOutput, IsCostOutput, IsCostsText, IsNoMemory, IsOutput, refused, shown, written_of}
+use Rattle.ec_cli_text.specs.Output.{Written, Answers, IsCheckOutput, IsCostsText, IsNoMemory, IsOutput, IsOwnText, refused, shown, written_of}
 use Rattle.ec_cli_inputs.specs.Input.{AnswersUnits, IsUnread}
 use Rattle.ec_frame_text.specs.Lines.{IsFramesText}
 use Rattle.ec_play_text.specs.Plays.{IsPlayText}
@@ -31,7 +31,8 @@ use Rattle.ec_cli_answers.proofs.CheckedLemmas.{too_long}
 use Rattle.ec_cli_answers.proofs.FramedLemmas.{unread_fault}
 use Rattle.ec_cli_answers.proofs.PlanLemmas.{outcome_tells, search_untold}
 use Rattle.ec_cli_answers.proofs.ResumeLemmas.{resume_of, stopped_text, unresumed}
-use Rattle.ec_cli_answers.proofs.TextLemmas.{answered, answers_so, unanswered}
+use Rattle.ec_cli_answers.proofs.TextLemmas.{answered, unanswered}
+use Rattle.ec_cli_text.proofs.PlacedLemmas.{answers_so}
 
 -- ---- a job without a file
 
@@ -68,10 +69,10 @@ simple_untold j bytes cert r t simple is h = simple_tells j bytes cert (Err r) t
 
 -- ---- a cost, and a check
 
-cost_said : (bytes : List ℕ) (cert : Option (List ℕ)) (us : Units) (a : Result Answer Refusal) → AnswersUnits (Ok us) bytes → Answers job.Cost a (IsCostOutput (units_view us)) → Answers job.Cost a (IsOutput job.Cost bytes cert)
-cost_said bytes cert us a read h = answers_so job.Cost a (IsCostOutput (units_view us)) (IsOutput job.Cost bytes cert) (λ w is. inl (read.0, rw read.1 is)) h
+cost_said : (bytes : List ℕ) (cert : Option (List ℕ)) (us : Units) (a : Result Answer Refusal) → AnswersUnits (Ok us) bytes → Answers job.Cost a (IsOwnText IsCostsText (units_view us)) → Answers job.Cost a (IsOutput job.Cost bytes cert)
+cost_said bytes cert us a read h = answers_so job.Cost a (IsOwnText IsCostsText (units_view us)) (IsOutput job.Cost bytes cert) (λ w is. inl (read.0, rw read.1 is)) h
 
-pub cost_tells : (bytes : List ℕ) (cert : Option (List ℕ)) (us : Units) (a : Result Answer Refusal) (t : Result Told Refusal) → AnswersUnits (Ok us) bytes → told t ≡ written_of a → file_of t ≡ None → Answers job.Cost a (IsCostOutput (units_view us)) → TellsFor job.Cost bytes cert t
+pub cost_tells : (bytes : List ℕ) (cert : Option (List ℕ)) (us : Units) (a : Result Answer Refusal) (t : Result Told Refusal) → AnswersUnits (Ok us) bytes → told t ≡ written_of a → file_of t ≡ None → Answers job.Cost a (IsOwnText IsCostsText (units_view us)) → TellsFor job.Cost bytes cert t
 cost_tells bytes cert us a t read text none h = simple_tells job.Cost bytes cert a t tt text none (cost_said bytes cert us a read h)
 
 check_said : (bytes text : List ℕ) (us : Units) (a : Result Answer Refusal) → AnswersUnits (Ok us) bytes → Answers job.Check a (IsCheckOutput (units_view us) text) → Answers job.Check a (IsOutput job.Check bytes (Some text))
@@ -100,6 +101,12 @@ capture_tells bytes cert us plan (Ok t) from h = record {
 }
 capture_tells bytes cert us plan (Err r) from h = record { file = None; is = inr (record { refusal = r; fault = inl h; line = refl; none = refl }); made = refl }
 
+-- what is told of costs may be want of memory over a certificate too
+costs_want : (a : Result Answer Refusal) (P : Written → Type 0) → Answers job.Cost a P → Answers job.PlanCost a P
+costs_want (Ok a) P h = h
+costs_want (Err r) P (inl memory) = inl (inl memory)
+costs_want (Err r) P (inr h) = inr h
+
 -- an answer with the same text and the same file tells the same
 pub same_tells : (j : Job) (bytes : List ℕ) (cert : Option (List ℕ)) (t s : Result Told Refusal) → told s ≡ told t → file_of s ≡ file_of t → TellsFor j bytes cert t → TellsFor j bytes cert s
 same_tells j bytes cert t s text file h = record { file = h.file; is = subst (λ (w : Written). IsTold j bytes cert w h.file) (sym text) h.is; made = file ∙ h.made }
@@ -111,7 +118,7 @@ plan_tells (job.Resume workers nodes part) bytes cert us plan t of from h = absu
 plan_tells job.Check bytes cert us plan t of from h = absurd of
 plan_tells job.Frames bytes cert us plan t of from h = simple_tells job.Frames bytes cert h.0 t tt h.1 h.2 (answered IsFramesText job.Frames cert bytes us plan h.0 from h.3)
 plan_tells job.Capture bytes cert us plan t of from h = capture_tells bytes cert us plan t from h
-plan_tells job.PlanCost bytes cert us plan t of from h = simple_tells job.PlanCost bytes cert h.0 t tt h.1 h.2 (answered IsCostsText job.PlanCost cert bytes us plan h.0 from h.3)
+plan_tells job.PlanCost bytes cert us plan t of from h = simple_tells job.PlanCost bytes cert h.0 t tt h.1 h.2 (answered IsCostsText job.PlanCost cert bytes us plan h.0 from (costs_want h.0 _ h.3))
 plan_tells job.Play bytes cert us plan t of from h = simple_tells job.Play bytes cert h.0 t tt h.1 h.2 (answered IsPlayText job.Play cert bytes us plan h.0 from h.3)
 
 pub fault_tells : (j : Job) (bytes : List ℕ) (cert : Option (List ℕ)) (r : Refusal) (t : Result Told Refusal) → IsOfPlan j → t ≡ Err r → IsFramesFault cert bytes r → TellsFor j bytes cert t

@@ -106,7 +106,7 @@ IsCaptureTold v places (Err r) = IsFramesMemory r
 abbrev pub IsPlanTold : Job → UnitsView → List Place → Result Told Refusal → Type 0
 IsPlanTold job.Capture v places answer = IsCaptureTold v places answer
 IsPlanTold job.Play v places answer = IsTextTold job.Play IsPlayText v places answer
-IsPlanTold job.PlanCost v places answer = IsTextTold job.PlanCost IsCostsText v places answer
+IsPlanTold job.PlanCost v places answer = IsTextTold job.Cost IsCostsText v places answer
 IsPlanTold _ v places answer = IsTextTold job.Frames IsFramesText v places answer
 
 -- ---- what a job reads

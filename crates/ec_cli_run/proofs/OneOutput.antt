@@ -24,7 +24,7 @@ use Rattle.ec_cli_refusals.specs.declared.refusal.Refusal.TheVariants as refusal
 use Rattle.ec_cli_command.specs.declared.job.Job.{Job}
 use Rattle.ec_cli_command.specs.declared.job.Job.TheVariants as job
 use Rattle.ec_cli_text.specs.Lines.{cost_lines}
-use Rattle.ec_cli_text.specs.Output.{Written, IsOutput, IsUnitsOutput, IsCheckedOutput, IsPlacedOutput, IsPlacedText, IsBestText, IsCertTextOf, IsCertText, IsTextFor, IsCostText, IsCostsText, refused, verdict_output, first_unplaced, places_of}
+use Rattle.ec_cli_text.specs.Output.{Written, IsOutput, IsUnitsOutput, IsCheckedOutput, IsPlacedText, IsBestText, IsCertTextOf, IsCertText, IsTextFor, IsCostText, IsCostsText, refused, verdict_output, first_unplaced, places_of}
 use Rattle.ec_cli_refusals.specs.Refusals.{refusal_code}
 use Rattle.ec_cli_run.proofs.OneCheck.{checked_once}
 use Rattle.ec_cli_run.proofs.OneIllegal.{neither_less, illegal_once, legal_none}
@@ -46,16 +46,6 @@ text_once xs n h ns a b p q =
 
 costs_once : (v : UnitsView) (ps : List Place) (a b : List ℕ) → IsCostsText v ps a → IsCostsText v ps b → a ≡ b
 costs_once v ps a b p q = text_once _ _ _ _ a b p q
-
-placed_once : (v : UnitsView) (ps : List Place) (a b : Written) → IsPlacedOutput v ps a → IsPlacedOutput v ps b → a ≡ b
-placed_once v ps a b (inl p) (inl q) =
-    p.2 ∙ ap (λ (f : Illegal). refused (refusal.Illegal f)) (illegal_once (view_loads v.units) v.slots ps p.0 q.0 p.1 q.1) ∙ sym q.2
-placed_once v ps a b (inl p) (inr q) = absurd (legal_none (view_loads v.units) v.slots ps p.0 q.0 p.1)
-placed_once v ps a b (inr p) (inl q) = absurd (legal_none (view_loads v.units) v.slots ps q.0 p.0 q.1)
-placed_once v ps a b (inr p) (inr q) =
-    let text : a.text ≡ b.text = text_once _ _ _ _ a.text b.text p.1 q.1 in
-    let code : a.code ≡ b.code = p.2 ∙ sym q.2 in
-    (λ i. record { text = text i; code = code i })
 
 option_once : (o : Option ℕ) (N : Written → Type 0) (S : ℕ → Written) → ((a b : Written) → N a → N b → a ≡ b) → (a b : Written) → MatchOption o (N a) (λ n. a ≡ S n) → MatchOption o (N b) (λ n. b ≡ S n) → a ≡ b
 option_once None N S once a b p q = once a b p q
@@ -122,8 +112,7 @@ text_once_for T once None v a b p q =
 text_once_for T once (Some text) v a b p q = cert_text T once v (cert_reading text) a b p q
 
 units_once : (j : Job) (cert : Option (List ℕ)) (v : UnitsView) (a b : Written) → IsUnitsOutput j cert v a → IsUnitsOutput j cert v b → a ≡ b
-units_once job.Cost cert v a b p q =
-    option_once (first_unplaced v.units) (IsPlacedOutput v (places_of v.units)) (λ n. refused (refusal.NoPlace n)) (placed_once v (places_of v.units)) a b p q
+units_once job.Cost cert v a b p q = text_once_for IsCostsText costs_once None v a b p q
 units_once (job.Plan workers nodes strong) cert v a b p q = absurd p
 units_once (job.Resume workers nodes part) cert v a b p q = absurd p
 units_once job.Check None v a b p q = absurd p

@@ -1,4 +1,3 @@
-pub mod FramesLemmas
 pub mod LineLemmas
-pub mod OutputLemmas
 pub mod PlaceLemmas
+pub mod PlacedLemmas

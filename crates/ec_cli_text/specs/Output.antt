@@ -1,6 +1,6 @@
 -- What the program writes for what it reads.
 use Rattle.std.specs.Prelude.{◌≡◌, ◌≢◌, ℕ, ◌<◌, ◌≤◌, ◌⊎◌, is_none, List, length, Option, Result, Ok, Err, MatchOption, MatchResult, string_bytes}
-use Rattle.std.proofs.Common.{inl, inr, MutBor, Some, None}
+use Rattle.std.proofs.Common.{Some, None}
 use Rattle.std.specs.List.{position_from, filter_map}
 use Rattle.ec_hyper.specs.Lcm.{lcm_of}
 use Rattle.ec_units.specs.declared.slave.Place.{Place}
@@ -64,19 +64,6 @@ first_unplaced units = position_from (λ u. is_none u.place) 0 units
 abbrev pub places_of : List UnitView → List Place
 places_of units = filter_map (λ u. u.place) units
 
--- what is written for units that all have a place: the fault of their plan, or its costs
-abbrev pub IsPlacedOutput : UnitsView → List Place → Written → Type 0
-IsPlacedOutput v places w =
-    ((f : Illegal) × IsIllegalBy (view_loads v.units) v.slots places f × (w ≡ refused (refusal.Illegal f)))
-    ⊎ (IsLegal (view_loads v.units) v.slots places
-    × IsCostsText v places w.text
-    × (w.code ≡ 0))
-
--- what is written for units
-abbrev pub IsCostOutput : UnitsView → Written → Type 0
-IsCostOutput v w =
-    MatchOption (first_unplaced v.units) (IsPlacedOutput v (places_of v.units) w) (λ n. w ≡ refused (refusal.NoPlace n))
-
 -- what is written for a verdict, which has the status 1 where no plan is legal, and 2 where no more than a level is shown
 abbrev pub verdict_output : Verdict → Written
 verdict_output (verdict.Least b) = done (least_line b)
@@ -137,7 +124,7 @@ module _ (IsText : UnitsView → List Place → List ℕ → Type 0) where
 
 -- what a job that searches for nothing writes for units, and for the bytes of a certificate where it reads one
 abbrev pub IsUnitsOutput : Job → Option (List ℕ) → UnitsView → Written → Type 0
-IsUnitsOutput job.Cost cert v w = IsCostOutput v w
+IsUnitsOutput job.Cost cert v w = IsOwnText IsCostsText v w
 IsUnitsOutput (job.Plan workers nodes strong) cert v w = ⊥
 IsUnitsOutput (job.Resume workers nodes part) cert v w = ⊥
 IsUnitsOutput job.Check None v w = ⊥

@@ -1,43 +1,24 @@
-//! The command `cost`: what each tick of the placed units costs.
+//! The command `cost`: what each tick costs at the places of a plan.
 
-ghost use Rattle.std.specs.Prelude.{◌≡◌, ◌⊎◌, ℕ, ◌+◌, ◌*◌, ◌<◌, ◌≤◌, ◌++◌, length, map, string_bytes, None, Some, IfOk, IfErr, OnOk};
+ghost use Rattle.std.specs.Prelude.{◌≡◌, ◌+◌, ◌<◌, ◌≤◌, ◌++◌, length, string_bytes, IfOk, OnOk};
 ghost use Rattle.ec_hyper.specs.Lcm.{lcm_of};
 ghost use Rattle.ec_units.specs.Load.{loads_of, periods_of};
-ghost use Rattle.ec_units.specs.Views.{unit_view, units_view};
+ghost use Rattle.ec_units.specs.Views.{units_view};
 ghost use Rattle.ec_loads.specs.Cost.{plan_items, tick_cost};
 ghost use Rattle.ec_loads.specs.Legal.{IsLegal};
 ghost use Rattle.ec_loads.specs.Held.{items_of};
 ghost use Rattle.ec_cli_text.specs.Lines.{tick_line, tick_lines};
-ghost use Rattle.ec_cli_text.specs.Output.{IsCostText, IsCostsText, first_unplaced, places_of, IsCostOutput, Answers};
-ghost use Rattle.ec_cli_refusals.specs.Refusals.{out_of_memory};
-ghost use Rattle.ec_cli_refusals.specs.declared.refusal.Refusal.TheVariants.{NoPlace};
-ghost use Rattle.ec_cli_command.specs.declared.job.Job.TheVariants.{Cost, PlanCost};
+ghost use Rattle.ec_cli_text.specs.Output.{IsCostText, IsCostsText, IsOwnText, Answers};
+ghost use Rattle.ec_cli_command.specs.declared.job.Job.TheVariants.{Cost};
 
 use crate::answer::Answer;
+use crate::placing::placed_plan;
 use ec_cli_refusals::Refusal;
-use ec_loads::{Loads, Places, Plan, is_legal};
+use ec_loads::{Loads, Plan};
 use ec_units::Units;
 use ec_wire::{fits, ns_of};
 use std::alloc::{AllocError, Global};
 use std::fmt::Write;
-
-/// The plan that the places of the units make.
-pub(crate) fn plan_of(alloc: Global, units: &Units) -> Result<Plan, Refusal>
-    ensures ok { IfOk result (λ plan. (first_unplaced (map unit_view units.now.units) ≡ None) × (plan.places ≡ places_of (map unit_view units.now.units)) × (length plan.places ≡ length units.now.units)) }
-    ensures err { IfErr result (λ r. (r ≡ out_of_memory) ⊎ ((n : ℕ) × (r ≡ NoPlace n) × (first_unplaced (map unit_view units.now.units) ≡ Some n))) }
-{
-    let mut places = Vec::new(alloc);
-    let all = units.units.as_slice();
-    for (i, unit) in all.iter().enumerate() {
-        match unit.place {
-            Some(place) => places.push(place)?,
-            None => return Err(Refusal::NoPlace(i)),
-        }
-    }
-    Ok(Plan {
-        places: Places::new(places),
-    })
-}
 
 /// The loads of the units at the places of the plan.
 fn loads_at(alloc: Global, units: &Units, plan: &Plan) -> Result<Loads, AllocError>
@@ -96,22 +77,16 @@ fn cost_text(alloc: Global, units: &Units, plan: &Plan) -> Result<String, AllocE
 /// What is answered for a legal plan of the units: the text of its costs, or that memory ran out.
 pub fn plan_cost(alloc: Global, units: &Units, plan: &Plan) -> Result<Answer, Refusal>
     requires { IsLegal (loads_of units.now.units) units.now.slots plan.now.places }
-    ensures { Answers PlanCost result (λ w. IsCostsText (units_view units.now) plan.now.places w.text × (w.code ≡ 0)) }
+    ensures { Answers Cost result (λ w. IsCostsText (units_view units.now) plan.now.places w.text × (w.code ≡ 0)) }
 {
     let text = cost_text(alloc, units, plan)?;
     Ok(Answer { text, code: 0 })
 }
 
-/// What is answered for units: the text of their costs, or why there is none.
+/// What is answered for units: the text of the costs of their own places, or why there is none.
 pub fn cost_of(alloc: Global, units: &Units) -> Result<Answer, Refusal>
-    ensures { Answers Cost result (IsCostOutput (units_view units.now)) }
+    ensures { Answers Cost result (IsOwnText IsCostsText (units_view units.now)) }
 {
-    let plan = plan_of(alloc, units)?;
-    match is_legal(units, &plan) {
-        Ok(()) => Ok(Answer {
-            text: cost_text(alloc, units, &plan)?,
-            code: 0,
-        }),
-        Err(illegal) => Err(Refusal::Illegal(illegal)),
-    }
+    let plan = placed_plan(alloc, units)?;
+    plan_cost(alloc, units, &plan)
 }

@@ -1,22 +1,20 @@
 //! The command `frames`: the FMMU records and the frames of a plan.
 
-ghost use Rattle.std.specs.Prelude.{◌≡◌, ◌⊎◌, string_bytes, IfOk, IfErr};
+ghost use Rattle.std.specs.Prelude.{◌≡◌, string_bytes, IfOk, IfErr};
 ghost use Rattle.ec_units.specs.Load.{loads_of};
 ghost use Rattle.ec_units.specs.Views.{units_view};
 ghost use Rattle.ec_loads.specs.Legal.{IsLegal};
 ghost use Rattle.ec_frame_text.specs.Lines.{IsFramesText};
 ghost use Rattle.ec_frame_text.specs.Captures.{IsCapture};
-ghost use Rattle.ec_cli_text.specs.Framed.{IsPlacedPlan};
-ghost use Rattle.ec_cli_text.specs.Output.{IsOwnText, Answers, refused};
+ghost use Rattle.ec_cli_text.specs.Output.{Answers};
 ghost use Rattle.ec_cli_refusals.specs.Refusals.{IsFramesMemory};
 ghost use Rattle.ec_cli_command.specs.declared.job.Job.TheVariants.{Frames};
 
 use crate::answer::Answer;
-use crate::cost::plan_of;
 use ec_cli_refusals::Refusal;
 use ec_fmmu::layout;
 use ec_frame_text::{capture_of, frames_text};
-use ec_loads::{Plan, is_legal};
+use ec_loads::Plan;
 use ec_outcome::PlayFault;
 use ec_units::Units;
 use std::alloc::Global;
@@ -57,21 +55,4 @@ pub fn plan_capture(alloc: Global, units: &Units, plan: &Plan) -> Result<Capture
         answer: Answer { text, code: 0 },
         file,
     })
-}
-
-/// The plan of the places of the units, where it is legal.
-///
-/// # Errors
-///
-/// `NoPlace` of the first unit without a place, else `Illegal`; or that memory ran out.
-pub fn placed_plan(alloc: Global, units: &Units) -> Result<Plan, Refusal>
-    ensures ok { IfOk result (λ plan. IsPlacedPlan (units_view units.now) plan.places) }
-    ensures legal { IfOk result (λ plan. IsLegal (loads_of units.now.units) units.now.slots plan.places) }
-    ensures err { IfErr result (λ r. IsFramesMemory r ⊎ IsOwnText IsFramesText (units_view units.now) (refused r)) }
-{
-    let plan = plan_of(alloc, units)?;
-    match is_legal(units, &plan) {
-        Ok(()) => Ok(plan),
-        Err(illegal) => Err(Refusal::Illegal(illegal)),
-    }
 }

@@ -5,12 +5,14 @@ mod answer;
 mod cost;
 mod frames;
 mod outcome;
+mod placing;
 mod play;
 mod verdict;
 
 pub use answer::Answer;
 pub use cost::{cost_of, plan_cost};
-pub use frames::{Captured, placed_plan, plan_capture, plan_frames};
+pub use frames::{Captured, plan_capture, plan_frames};
 pub use outcome::outcome_answer;
+pub use placing::placed_plan;
 pub use play::{Alone, Player, Together};
 pub use verdict::verdict_answer;

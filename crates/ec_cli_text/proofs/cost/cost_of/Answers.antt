@@ -1,9 +1,15 @@
-use Rattle.std.proofs.Common.{inr}
-use Rattle.ec_cli_text.proofs.OutputLemmas.{legal_output, illegal_output}
+use Rattle.std.proofs.Common.{◌∙◌, Err, ap}
+use Rattle.std.proofs.lemmas.Result.{err_from_is_err_and}
+use Rattle.ec_units.specs.Views.{units_view}
+use Rattle.ec_cli_command.specs.declared.job.Job.TheVariants as job
+use Rattle.ec_cli_text.specs.Output.{IsCostsText}
+use Rattle.ec_cli_text.proofs.PlacedLemmas.{placed_answers, unplaced_costs}
 use Rattle.ec_cli_text.proofs.cost.cost_of.Goals as goal
 
-pub returns-in-Ok : goal.returns-in-Ok
-returns-in-Ok c = legal_output c.args.units.now c.in_ok-plan.plan.places _ c.in_ok-plan.ensures.ok.0 c.in_ok-plan.ensures.ok.1 c.in-Ok.ensures.ok c.in_ok-cost_text-in-Ok.ensures
+pub returns-in_err-plan : goal.returns-in_err-plan
+returns-in_err-plan c =
+    let p = err_from_is_err_and c.from_residual.result c.from_residual.ensures.1 in
+    unplaced_costs (units_view c.args.units.now) c.in_err-plan.field-0.0 c.from_residual.result (p.1 ∙ ap (λ e. Err e) p.2) c.in_err-plan.ensures.err
 
 pub returns : goal.returns
-returns c = inr (illegal_output c.args.units.now c.in_ok-plan.plan.places _ c.in_ok-plan.ensures.ok.0 c.in_ok-plan.ensures.ok.1 c.in-Err.ensures.err)
+returns c = placed_answers IsCostsText job.Cost (units_view c.args.units.now) c.in_ok-plan.plan.places c.plan_cost.result c.in_ok-plan.ensures.ok c.plan_cost.ensures

@@ -1,6 +1,6 @@
 use Rattle.std.specs.Prelude.{string_bytes}
 use Rattle.std.proofs.Common.{refl}
-use Rattle.ec_cli_text.proofs.OutputLemmas.{costs_text}
+use Rattle.ec_cli_text.proofs.PlacedLemmas.{costs_text}
 use Rattle.ec_cli_text.proofs.cost.plan_cost.Goals as goal
 
 pub returns : goal.returns

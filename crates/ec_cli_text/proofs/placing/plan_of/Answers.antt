@@ -1,6 +1,6 @@
 use Rattle.std.proofs.Common.{◌≡◌, inr, refl, Some}
 use Rattle.ec_cli_text.proofs.PlaceLemmas.{unplaced-here, unplaced_from}
-use Rattle.ec_cli_text.proofs.cost.plan_of.Goals as goal
+use Rattle.ec_cli_text.proofs.placing.plan_of.Goals as goal
 
 pub returns-in-None-clause-err : goal.returns-in-None-clause-err
 returns-in-None-clause-err c =
