@@ -1,43 +1,56 @@
--- From what the checker answers to what is written.
-use Rattle.std.proofs.Common.{◌≡◌, ◌≢◌, ℕ, ◌<◌, List, length, Err, refl, ap, ◌∙◌, inl, inr}
-use Rattle.std.specs.Prelude.{◌⊎◌}
+-- From what is found in a certificate's text to what is written.
+use Rattle.std.proofs.Common.{◌≡◌, ◌≢◌, ℕ, ◌<◌, List, length, Result, Err, refl, ap, ◌∙◌, inl, inr}
+use Rattle.std.specs.Prelude.{◌⊎◌, MatchResult}
 use Rattle.std.proofs.lemmas.Bool.{lt-ltb}
 use Rattle.ec_units.specs.declared.units.Units.{Units}
 use Rattle.ec_units.specs.Views.{units_view}
+use Rattle.ec_cert_text.specs.declared.fault.CertFault.{CertFault}
 use Rattle.ec_cert_text.specs.declared.fault.CertFault.TheVariants as cert
-use Rattle.ec_cert_text.specs.Reading.{reading as cert_reading}
+use Rattle.ec_cert_text.specs.Reading.{Fails, reading as cert_reading}
 use Rattle.ec_cert.specs.Shapes.{CertView}
 use Rattle.ec_checker.specs.declared.fault.CheckFault.{CheckFault}
 use Rattle.ec_checker.specs.declared.fault.CheckFault.TheVariants as check
 use Rattle.ec_checker.specs.declared.fault.Verdict.{Verdict}
-use Rattle.ec_checker.specs.Certified.{IsCertified, IsFaultOf, verdict_of}
+use Rattle.ec_checker.specs.Certified.{IsFaultOf, verdict_of}
 use Rattle.ec_cli_text.specs.declared.answer.Answer.{Answer}
+use Rattle.ec_cli_refusals.specs.declared.refusal.Refusal.{Refusal}
 use Rattle.ec_cli_refusals.specs.declared.refusal.Refusal.TheVariants as refusal
 use Rattle.ec_cli_command.specs.declared.job.Job.TheVariants as job
-use Rattle.ec_cli_text.specs.Output.{IsCheckedOutput, shown, refused, verdict_output}
-use Rattle.ec_cli_refusals.specs.Refusals.{IsMemory}
+use Rattle.ec_cli_text.specs.Output.{Answers, IsCheckedOutput, IsCheckOutput, Written, shown, refused, verdict_output}
+use Rattle.ec_cli_answers.specs.RightTexts.{IsRightText, IsWrongText}
 
--- a yes
-pub checked_yes : (us : Units) (c : CertView) (a : Answer) (v : Verdict) → IsCertified us.units us.slots c → v ≡ verdict_of c.best c.level → shown a ≡ verdict_output v → IsCheckedOutput (units_view us) c (shown a)
-checked_yes us c a v is said told = (us, refl, inl (is, told ∙ ap verdict_output said))
+-- ---- why a text says no certificate to which the checker says yes
 
 pub memory_or : (f : CheckFault) → (f ≡ check.OutOfMemory) ⊎ (f ≢ check.OutOfMemory)
 memory_or check.OutOfMemory = inl refl
-memory_or check.OtherUnits = inr (λ e. absurd cc)
-memory_or check.Order = inr (λ e. absurd cc)
-memory_or (check.Plan i) = inr (λ e. absurd cc)
-memory_or (check.Value s f) = inr (λ e. absurd cc)
-memory_or (check.Children k w g) = inr (λ e. absurd cc)
-memory_or (check.Leaf k) = inr (λ e. absurd cc)
-memory_or (check.Depth k) = inr (λ e. absurd cc)
-memory_or (check.Level l v) = inr (λ e. absurd cc)
+memory_or f = inr (λ e. absurd cc)
 
--- a no, which may be want of memory
-pub checked_no : (us : Units) (c : CertView) (f : CheckFault) → IsFaultOf us.units us.slots c f → IsMemory job.Check (refusal.Check f) ⊎ IsCheckedOutput (units_view us) c (refused (refusal.Check f))
-checked_no us c f h = elim (memory_or f) [
-  | inl e ↦ inl (inr (inr (ap (λ (g : CheckFault). refusal.Check g) e)))
-  | inr other ↦ inr (us, refl, inr (f, other, h, refl))
+read_memory_or : {A : Type 0} (f : CertFault) (read : Result A CertFault) → Fails f read → (f ≡ cert.OutOfMemory) ⊎ (read ≡ Err f)
+read_memory_or cert.OutOfMemory read h = inl refl
+read_memory_or f read h = inr h
+
+-- memory ran out, or it is the text's fault, or what is said of a certificate with its fault
+pub wrong_told : (P : CertView → Written → Type 0) (us : Units) (text : List ℕ) (r : Refusal) → ((c : CertView) (f : CheckFault) → f ≢ check.OutOfMemory → IsFaultOf us.units us.slots c f → P c (refused (refusal.Check f))) → IsWrongText us text r
+    → ((r ≡ refusal.Cert cert.OutOfMemory) ⊎ (r ≡ refusal.Check check.OutOfMemory)) ⊎ MatchResult (cert_reading text) (λ c. P c (refused r)) (λ f. refused r ≡ refused (refusal.Cert f))
+wrong_told P us text r told (inl h) = elim (read_memory_or h.0 (cert_reading text) h.2) [
+  | inl memory ↦ inl (inl (h.1 ∙ ap (λ (f : CertFault). refusal.Cert f) memory))
+  | inr said ↦ inr (rw (said, h.1) refl)
 ]
+wrong_told P us text r told (inr h) = elim (memory_or h.2.0) [
+  | inl memory ↦ inl (inr (h.2.1 ∙ ap (λ (f : CheckFault). refusal.Check f) memory))
+  | inr other ↦ inr (rw (h.1, h.2.1) (told h.0 h.2.0 other h.2.2))
+]
+
+-- ---- a check
+
+pub checked_yes : (us : Units) (text : List ℕ) (c : CertView) (a : Answer) (v : Verdict) → IsRightText us text c → v ≡ verdict_of c.best c.level → shown a ≡ verdict_output v → IsCheckOutput (units_view us) text (shown a)
+checked_yes us text c a v right said told = rw right.0 (us, refl, inl (right.1.certified, told ∙ ap verdict_output said))
+
+pub checked_no : (us : Units) (text : List ℕ) (r : Refusal) (a : Result Answer Refusal) → a ≡ Err r → IsWrongText us text r → Answers job.Check a (IsCheckOutput (units_view us) text)
+checked_no us text r a is h = rw is (elim (wrong_told (IsCheckedOutput (units_view us)) us text r (λ c f other is. (us, refl, inr (f, other, is, refl))) h) [
+  | inl memory ↦ inl (inr memory)
+  | inr told ↦ inr told
+])
 
 -- a text with too many bytes is no certificate
 pub too_long : (text : List ℕ) → 67108864 < length text → cert_reading text ≡ Err cert.TooLarge

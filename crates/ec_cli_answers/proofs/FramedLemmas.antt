@@ -1,42 +1,41 @@
 -- From units, a certificate and what the checker answers to the plan whose text is written, or why there is none.
 use Rattle.std.proofs.Common.{◌≡◌, ℕ, List, Option, Some, None, Result, Ok, Err, refl, sym, ap, subst, inl, inr}
-use Rattle.std.specs.Prelude.{◌⊎◌, IfOk}
+use Rattle.std.specs.Prelude.{◌⊎◌, IfErr}
 use Rattle.ec_units.specs.declared.units.Units.{Units}
 use Rattle.ec_units.specs.Views.{units_view}
 use Rattle.ec_loads.specs.declared.plan.Plan.{Plan}
 use Rattle.ec_cert.specs.declared.cert.Best.{Best}
 use Rattle.ec_cert.specs.Shapes.{CertView}
-use Rattle.ec_cert_text.specs.Reading.{reading as cert_reading}
-use Rattle.ec_checker.specs.declared.fault.CheckFault.{CheckFault}
-use Rattle.ec_checker.specs.Certified.{IsCertified, IsFaultOf}
 use Rattle.ec_frame_text.specs.Lines.{IsFramesText}
 use Rattle.ec_cli_refusals.specs.declared.refusal.Refusal.{Refusal}
 use Rattle.ec_cli_refusals.specs.declared.refusal.Refusal.TheVariants as refusal
-use Rattle.ec_cli_text.specs.Framed.{IsBestPlanOf, IsCertPlan, IsFramedPlan}
-use Rattle.ec_cli_text.specs.Output.{IsBestText, IsCertText, IsTextFor, refused}
+use Rattle.ec_cli_text.specs.Framed.{IsCertPlan, IsFramedPlan}
+use Rattle.ec_cli_text.specs.Output.{IsBestText, IsCertText, IsReadText, IsTextFor, refused}
 use Rattle.ec_cli_refusals.specs.Refusals.{IsFramesMemory}
 use Rattle.ec_cli_inputs.specs.Input.{AnswersUnits, IsUnread, Says, text_given}
 use Rattle.ec_cli_inputs.specs.declared.input.Inputs.{Inputs}
 use Rattle.ec_cli_answers.specs.Captures.{IsFramesFault, FramesFrom}
-use Rattle.ec_cli_answers.proofs.CheckedLemmas.{memory_or, too_long}
+use Rattle.ec_cli_answers.specs.RightTexts.{IsRightText, IsWrongText}
+use Rattle.ec_cli_answers.proofs.CheckedLemmas.{too_long, wrong_told}
 
--- ---- the plan of a certificate
+-- ---- the plan of a certificate's text
+
+pub plan_held : (us : Units) (text : List ℕ) (c : CertView) (b : Best) → IsRightText us text c → c.best ≡ Some b → IsCertPlan text (units_view us) b.plan.places
+plan_held us text c b right held = record { units = us; seen = refl; cert = c; said = right.0; plan = record { right = right.1.certified; best = b; held = held; plan = refl } }
 
 -- there is none
-pub framed_none : (us : Units) (c : CertView) → IsCertified us.units us.slots c → c.best ≡ None → IsCertText IsFramesText (units_view us) c (refused refusal.CertHasNoPlan)
-framed_none us c is e = (us, refl, inl (is, subst (λ (o : Option Best). IsBestText IsFramesText (units_view us) o (refused refusal.CertHasNoPlan)) (sym e) refl))
+pub framed_none : (us : Units) (text : List ℕ) (c : CertView) → IsRightText us text c → c.best ≡ None → IsReadText IsFramesText (units_view us) text (refused refusal.CertHasNoPlan)
+framed_none us text c right none = rw right.0 (us, refl, inl (right.1.certified, subst (λ (o : Option Best). IsBestText IsFramesText (units_view us) o (refused refusal.CertHasNoPlan)) (sym none) refl))
 
--- a no, which may be want of memory
-pub framed_no : (us : Units) (c : CertView) (f : CheckFault) → IsFaultOf us.units us.slots c f → IsFramesMemory (refusal.Check f) ⊎ IsCertText IsFramesText (units_view us) c (refused (refusal.Check f))
-framed_no us c f h = elim (memory_or f) [
-  | inl e ↦ inl (inr (inr (inl (ap (λ (g : CheckFault). refusal.Check g) e))))
-  | inr other ↦ inr (us, refl, inr (f, other, h, refl))
-]
+-- there is no certificate
+pub framed_no : (us : Units) (text : List ℕ) (r : Refusal) (p : Result Plan Refusal) → p ≡ Err r → IsWrongText us text r → IfErr p (λ r. IsFramesMemory r ⊎ IsReadText IsFramesText (units_view us) text (refused r))
+framed_no us text r p is h = rw is (elim (wrong_told (IsCertText IsFramesText (units_view us)) us text r (λ c f other is. (us, refl, inr (f, other, is, refl))) h) [
+  | inl (inl read) ↦ inl (inr (inl read))
+  | inl (inr room) ↦ inl (inr (inr (inl room)))
+  | inr told ↦ inr told
+])
 
--- what is said of a certificate is said of the text that it was read of
-pub plan_ok : (us : Units) (text : List ℕ) (c : CertView) (r : Result Plan Refusal) → cert_reading text ≡ Ok c → IfOk r (λ p. IsBestPlanOf us c p.places) → IfOk r (λ p. IsCertPlan text (units_view us) p.places)
-plan_ok us text c (Ok p) said h = record { units = us; seen = refl; cert = c; said = said; plan = h }
-plan_ok us text c (Err r) said h = tt
+-- ---- why there is none
 
 -- why units have none is why there are no frames
 pub units_fault : (cert : Option (List ℕ)) (bytes : List ℕ) (r : Refusal) → AnswersUnits (Err r) bytes → IsFramesFault cert bytes r

@@ -7,8 +7,6 @@ use Rattle.ec_units.specs.declared.slave.Place.{Place}
 use Rattle.ec_units.specs.declared.unit.Unit.{Unit as SyncUnit}
 use Rattle.ec_units.specs.declared.units.Units.{Units}
 use Rattle.ec_units.specs.Load.{loads_of}
-use Rattle.ec_unit_text.specs.Reading.{reading}
-use Rattle.ec_units.specs.Views.{units_view}
 use Rattle.ec_loads.specs.Shape.{Shape, open_leaf}
 use Rattle.ec_cert.specs.declared.cert.Best.{Best}
 use Rattle.ec_cert.specs.declared.part.Part.{Part}
@@ -16,7 +14,6 @@ use Rattle.ec_cert.specs.IsBestPlan.{IsBestPlan, value_of}
 use Rattle.ec_cert.specs.Shapes.{CertView, shape_of}
 use Rattle.ec_cert.specs.WellFormed.{IsWellFormed}
 use Rattle.ec_cert_text.specs.declared.fault.CertFault.TheVariants as cert
-use Rattle.ec_cert_text.specs.Reading.{reading as cert_reading}
 use Rattle.ec_tree.specs.Trees.{TreesBound, LevelsBound}
 use Rattle.ec_checker.specs.declared.fault.CheckFault.{CheckFault}
 use Rattle.ec_checker.specs.declared.fault.CheckFault.TheVariants as check
@@ -33,7 +30,7 @@ use Rattle.ec_book.specs.Parts.{LeavesOthers}
 use Rattle.ec_workers.proofs.GrowLemmas.{drawn-same, stays}
 use Rattle.ec_cli_refusals.specs.declared.refusal.Refusal.{Refusal}
 use Rattle.ec_cli_inputs.specs.Input.{AnswersUnits, IsInputFault}
-use Rattle.ec_cli_answers.specs.Planned.{GoesOn, GoesOnFrom, IsProofBy, IsStopped, IsStoppedFrom, IsResumeOf, IsResumeFault}
+use Rattle.ec_cli_answers.specs.Planned.{GoesOn, GoesOnFrom, IsProofBy, IsStoppedFrom, IsResumeOf, IsResumeFault}
 use Rattle.ec_cli_answers.proofs.CheckedLemmas.{memory_or, too_long}
 
 -- ---- a certificate that is a proof
@@ -126,24 +123,18 @@ goes_by_proof workers nodes part us c o right none is own = record {
 
 -- ---- why nothing comes of it
 
--- the faults of a search that goes on
-stopped_fault : (workers : ℕ) (bytes text : List ℕ) (us : Units) (c : CertView) (r : Refusal) → reading bytes ≡ Ok (units_view us) → cert_reading text ≡ Ok c → IsStopped workers us c r → IsResumeFault workers bytes text r
-stopped_fault workers bytes text us c r said read (inl memory) = inl (inr (inl memory))
-stopped_fault workers bytes text us c r said read (inr (inl h)) = inl (inr (inr h))
-stopped_fault workers bytes text us c r said read (inr (inr h)) = inr (inr (inr (h.0, h.1, record { units = us; said = said; cert = c; read = read; fault = h.2 })))
-
 -- a text from which nothing comes
-pub stopped_text : (workers : ℕ) (bytes text : List ℕ) (us : Units) (r : Refusal) → reading bytes ≡ Ok (units_view us) → IsStoppedFrom workers us text r → IsResumeFault workers bytes text r
-stopped_text workers bytes text us r said (inl (inl memory)) = inl (inr (inl memory))
-stopped_text workers bytes text us r said (inl (inr fault)) = inr (inr (inl fault))
-stopped_text workers bytes text us r said (inr h) = stopped_fault workers bytes text us h.0 r said h.1 h.2
+pub stopped_text : (workers : ℕ) (bytes text : List ℕ) (us : Units) (r : Refusal) → AnswersUnits (Ok us) bytes → IsStoppedFrom workers us text r → IsResumeFault workers bytes text r
+stopped_text workers bytes text us r read (inl memory) = inl (inr (inl memory))
+stopped_text workers bytes text us r read (inr (inl fault)) = inl (inr (inr fault))
+stopped_text workers bytes text us r read (inr (inr wrong)) = inr (inr (us, read, wrong))
 
 -- why there are no inputs is why nothing comes of it
 pub unresumed : (workers : ℕ) (bytes text : List ℕ) (r : Refusal) → IsInputFault bytes text r → IsResumeFault workers bytes text r
 unresumed workers bytes text r (inl (inl memory)) = inl (inr (inl memory))
 unresumed workers bytes text r (inl (inr room)) = inr (inl room)
 unresumed workers bytes text r (inr (inl h)) = inl (inl h)
-unresumed workers bytes text r (inr (inr h)) = inr (inr (inl (cert.TooLarge, h.2, too_long text h.3)))
+unresumed workers bytes text r (inr (inr h)) = inr (inr (h.0, h.1, inl (cert.TooLarge, h.2, too_long text h.3)))
 
 -- an outcome of the text for the units that the bytes say
 pub resume_of : (workers nodes : ℕ) (part : Part) (bytes text : List ℕ) (us : Units) (o : Outcome) → AnswersUnits (Ok us) bytes → GoesOnFrom workers nodes part us text o → IsResumeOf workers nodes part bytes text us o

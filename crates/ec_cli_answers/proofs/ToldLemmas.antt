@@ -164,7 +164,7 @@ resumed_tells workers nodes part bytes text us o t read goes ok err =
 
 pub resumed_untold : (workers nodes : ℕ) (part : Part) (bytes text : List ℕ) (us : Units) (r : Refusal) (t : Result Told Refusal) → AnswersUnits (Ok us) bytes → t ≡ Err r → IsStoppedFrom workers us text r → TellsFor (job.Resume workers nodes part) bytes (Some text) t
 resumed_untold workers nodes part bytes text us r t read is h =
-    let w = search_untold (IsResumeOf workers nodes part bytes text) (IsResumeFault workers bytes text) r t is (stopped_text workers bytes text us r read.1 h) in
+    let w = search_untold (IsResumeOf workers nodes part bytes text) (IsResumeFault workers bytes text) r t is (stopped_text workers bytes text us r read h) in
     record { file = w.0; is = w.1; made = w.2 }
 
 pub resumed_short : (workers nodes : ℕ) (part : Part) (bytes text : List ℕ) (t : Result Told Refusal) → t ≡ Err out_of_memory → TellsFor (job.Resume workers nodes part) bytes (Some text) t

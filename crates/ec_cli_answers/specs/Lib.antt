@@ -1,4 +1,5 @@
 pub mod Captures
 pub mod Merged
 pub mod Planned
+pub mod RightTexts
 pub mod Told

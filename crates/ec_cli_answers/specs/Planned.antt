@@ -11,11 +11,9 @@ use Rattle.ec_loads.specs.Shape.{open_leaf}
 use Rattle.ec_cert.specs.declared.part.Part.{Part}
 use Rattle.ec_cert.specs.IsBestPlan.{value_of}
 use Rattle.ec_cert.specs.Shapes.{CertView, cert_view, shape_of}
-use Rattle.ec_cert_text.specs.Reading.{Fails, reading as cert_reading}
+use Rattle.ec_cert_text.specs.Reading.{reading as cert_reading}
 use Rattle.ec_cert_text.specs.Text.{certificate_text}
-use Rattle.ec_cert_text.specs.declared.fault.CertFault.{CertFault}
-use Rattle.ec_checker.specs.Certified.{IsCertified, IsFaultOf}
-use Rattle.ec_checker.specs.declared.fault.CheckFault.{CheckFault}
+use Rattle.ec_checker.specs.Certified.{IsCertified}
 use Rattle.ec_checker.specs.declared.fault.Verdict.TheVariants as verdict
 use Rattle.ec_outcome.specs.declared.search.Outcome.{Outcome}
 use Rattle.ec_outcome.specs.declared.search.Outcome.TheVariants as outcome
@@ -24,10 +22,11 @@ use Rattle.ec_workers.specs.Answers.{Asked, asked_beyond, GoesBeyond, HasLevelFr
 use Rattle.ec_workers.specs.Outcomes.{partial_for, Shows}
 use Rattle.ec_cli_refusals.specs.declared.refusal.Refusal.{Refusal}
 use Rattle.ec_cli_refusals.specs.declared.refusal.Refusal.TheVariants as refusal
-use Rattle.ec_cli_inputs.specs.Input.{IsUnitsFault}
+use Rattle.ec_cli_inputs.specs.Input.{AnswersUnits, IsUnitsFault}
 use Rattle.ec_cli_text.specs.Outcomes.{outcome_output, IsLevelOf}
 use Rattle.ec_cli_text.specs.Output.{Written, refused}
 use Rattle.ec_cli_refusals.specs.Refusals.{out_of_memory, check_memory}
+use Rattle.ec_cli_answers.specs.RightTexts.{IsWrongText}
 
 -- the certificate that is written for an outcome of these units: its own, or that of a search without a proof, with its level
 abbrev pub outcome_cert : Units → Outcome → Option ℕ → Option (List ℕ)
@@ -73,24 +72,13 @@ pub record GoesOn (workers nodes : ℕ) (part : Part) (us : Units) (c : CertView
   pub proof : c.level ≡ None → IsProofBy c o
   pub order : HasOrder c.order o
 
--- why nothing comes of it: the checker says no, memory ran out, or the search has no outcome
-abbrev pub IsStopped : ℕ → Units → CertView → Refusal → Type 0
-IsStopped workers us c r =
-    (r ≡ out_of_memory)
-    ⊎ (((f : SolveFault) × (r ≡ refusal.Solve f) × IsSolveFault workers f)
-    ⊎ ((f : CheckFault) × (r ≡ refusal.Check f) × IsFaultOf us.units us.slots c f))
-
--- the text has this fault, or memory ran out over it
-abbrev pub IsTextFault : List ℕ → Refusal → Type 0
-IsTextFault text r = (f : CertFault) × (r ≡ refusal.Cert f) × Fails f (cert_reading text)
-
 -- the same of the certificate that a text says
 abbrev pub GoesOnFrom : ℕ → ℕ → Part → Units → List ℕ → Outcome → Type 0
 GoesOnFrom workers nodes part us text o = (c : CertView) × (cert_reading text ≡ Ok c) × GoesOn workers nodes part us c o
 
--- and why nothing comes of it: the text has a fault, or nothing comes of its certificate
+-- and why nothing comes of it: memory ran out, the search has no outcome, or the text says no certificate to which the checker says yes
 abbrev pub IsStoppedFrom : ℕ → Units → List ℕ → Refusal → Type 0
-IsStoppedFrom workers us text r = ((r ≡ out_of_memory) ⊎ IsTextFault text r) ⊎ ((c : CertView) × (cert_reading text ≡ Ok c) × IsStopped workers us c r)
+IsStoppedFrom workers us text r = (r ≡ out_of_memory) ⊎ (((f : SolveFault) × (r ≡ refusal.Solve f) × IsSolveFault workers f) ⊎ IsWrongText us text r)
 
 -- of a resumed search: what comes of going on with the certificate that the text says, for the units that the bytes say
 pub record IsResumeOf (workers nodes : ℕ) (part : Part) (bytes text : List ℕ) (us : Units) (o : Outcome) : Type 0 where
@@ -100,18 +88,10 @@ pub record IsResumeOf (workers nodes : ℕ) (part : Part) (bytes text : List ℕ
   pub read : cert_reading text ≡ Ok cert
   pub goes : GoesOn workers nodes part us cert o
 
--- the checker says no to the certificate that the text says, for the units that the bytes say
-pub record IsNoFor (bytes text : List ℕ) (f : CheckFault) : Type 0 where
-  pub units : Units
-  pub said : reading bytes ≡ Ok (units_view units)
-  pub cert : CertView
-  pub read : cert_reading text ≡ Ok cert
-  pub fault : IsFaultOf units.units units.slots cert f
-
--- why there is no outcome of it: as of a plan, or memory ran out over the room for the check, or the text has a fault, or the checker says no
+-- why there is no outcome of it: as of a plan, or memory ran out over the room for the check, or the text says no certificate to which the checker says yes for the
+-- units that the bytes say
 abbrev pub IsResumeFault : ℕ → List ℕ → List ℕ → Refusal → Type 0
-IsResumeFault workers bytes text r =
-    IsSearchFault workers bytes r ⊎ ((r ≡ check_memory) ⊎ (IsTextFault text r ⊎ ((f : CheckFault) × (r ≡ refusal.Check f) × IsNoFor bytes text f)))
+IsResumeFault workers bytes text r = IsSearchFault workers bytes r ⊎ ((r ≡ check_memory) ⊎ ((us : Units) × AnswersUnits (Ok us) bytes × IsWrongText us text r))
 
 -- ---- what is written for it
 

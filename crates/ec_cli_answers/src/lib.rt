@@ -2,15 +2,16 @@
 #![tactic(auto)]
 
 mod answering;
-mod check;
 mod merges;
 mod outcome;
 mod plain;
 mod plans;
 mod resume;
+mod right;
 mod told;
 
 pub use answering::answer;
-pub use merges::{joined, right_cert, tell_merged};
+pub use merges::{joined, tell_merged};
 pub use plain::answer_plain;
+pub use right::{Right, right_cert};
 pub use told::{File, Told};

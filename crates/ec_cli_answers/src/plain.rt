@@ -6,20 +6,37 @@ ghost use Rattle.ec_units.specs.Views.{units_view};
 ghost use Rattle.ec_loads.specs.Held.{no_places};
 ghost use Rattle.ec_loads.specs.Legal.{IsLegal};
 ghost use Rattle.ec_cli_command.specs.Words.{IsPlain};
+ghost use Rattle.ec_cli_command.specs.declared.job.Job.TheVariants.{Check};
 ghost use Rattle.ec_cli_inputs.specs.Input.{Says, HasRoom, text_given};
+ghost use Rattle.ec_cli_text.specs.Output.{Answers, IsCheckOutput};
 ghost use Rattle.ec_cli_answers.specs.Told.{HasInput, IsCaptureTold, IsOfPlan, IsPlanTold, IsWritable, TellsFor, file_of, told as told_of};
 
-use crate::check::check_answer;
 use crate::plans::plan_for;
+use crate::right::right_cert;
 use crate::told::{File, Told, without_file};
 use ec_checker::Verdict;
 use ec_cli_command::Job;
 use ec_cli_inputs::{Given, Inputs};
 use ec_cli_refusals::Refusal;
-use ec_cli_text::{Player, cost_of, plan_capture, plan_cost, plan_frames};
-use ec_loads::Plan;
+use ec_cli_text::{Answer, Player, cost_of, plan_capture, plan_cost, plan_frames, verdict_answer};
+use ec_loads::{Loads, Plan};
 use ec_units::Units;
 use std::alloc::Global;
+
+/// What is answered for units and a certificate's text: its verdict, or why it shows nothing. The loads are those of the
+/// units, with no place.
+fn check_answer(
+    alloc: Global,
+    loads: &mut Loads,
+    units: &Units,
+    text: Vec<u8>,
+) -> Result<Answer, Refusal>
+    requires { loads.old ≡ record { loads = loads_of units.now.units; slots = units.now.slots; places = no_places (loads_of units.now.units) } }
+    ensures { Answers Check result (IsCheckOutput (units_view units.now) text.items) }
+{
+    let right = right_cert(alloc, loads, units, text)?;
+    Ok(verdict_answer(alloc, right.verdict)?)
+}
 
 /// What is told of the frames of a legal plan, with their capture file.
 fn tell_capture(alloc: Global, units: &Units, plan: &Plan) -> Result<Told, Refusal>
@@ -110,7 +127,7 @@ pub fn answer_plain<P: Player>(
         Job::Check => match given {
             Some(given) => {
                 let Given { mut loads, text } = given;
-                without_file(check_answer(alloc, &mut loads, &units, &text))
+                without_file(check_answer(alloc, &mut loads, &units, text))
             }
             None => unreachable!(),
         },

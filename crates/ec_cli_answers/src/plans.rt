@@ -5,15 +5,14 @@ ghost use Rattle.ec_units.specs.Load.{loads_of};
 ghost use Rattle.ec_units.specs.Views.{units_view};
 ghost use Rattle.ec_loads.specs.Held.{no_places};
 ghost use Rattle.ec_loads.specs.Legal.{IsLegal};
-ghost use Rattle.ec_cert.specs.Shapes.{cert_view};
 ghost use Rattle.ec_frame_text.specs.Lines.{IsFramesText};
 ghost use Rattle.ec_cli_refusals.specs.Refusals.{IsFramesMemory};
-ghost use Rattle.ec_cli_text.specs.Framed.{IsBestPlanOf, IsCertPlan, IsFramedPlan};
-ghost use Rattle.ec_cli_text.specs.Output.{IsCertText, IsReadText, IsTextFor, refused};
+ghost use Rattle.ec_cli_text.specs.Framed.{IsCertPlan, IsFramedPlan};
+ghost use Rattle.ec_cli_text.specs.Output.{IsReadText, IsTextFor, refused};
 
+use crate::right::{Right, right_cert};
 use ec_cert::Cert;
-use ec_cert_text::read_cert;
-use ec_checker::{Verdict, check_in};
+use ec_checker::Verdict;
 use ec_cli_inputs::Given;
 use ec_cli_refusals::Refusal;
 use ec_cli_text::placed_plan;
@@ -21,45 +20,30 @@ use ec_loads::{Loads, Plan};
 use ec_units::Units;
 use std::alloc::Global;
 
-/// The plan of a certificate where the checker says yes, or why there is none; `verdict` gets what it says. The loads are those
-/// of the units, with no place.
-fn best_plan(
+/// The plan of a certificate's text where the checker says yes, or why there is none; `verdict` gets what it says. The loads are
+/// those of the units, with no place.
+fn text_plan(
+    alloc: Global,
     loads: &mut Loads,
     units: &Units,
-    cert: Cert,
+    text: Vec<u8>,
     verdict: &mut Option<Verdict>,
 ) -> Result<Plan, Refusal>
     requires { loads.old ≡ record { loads = loads_of units.now.units; slots = units.now.slots; places = no_places (loads_of units.now.units) } }
-    ensures ok { IfOk result (λ plan. IsBestPlanOf units.now (cert_view cert) plan.places) }
-    ensures err { IfErr result (λ r. IsFramesMemory r ⊎ IsCertText IsFramesText (units_view units.now) (cert_view cert) (refused r)) }
+    ensures ok { IfOk result (λ plan. IsCertPlan text.items (units_view units.now) plan.places) }
+    ensures legal { IfOk result (λ plan. IsLegal (loads_of units.now.units) units.now.slots plan.places) }
+    ensures err { IfErr result (λ r. IsFramesMemory r ⊎ IsReadText IsFramesText (units_view units.now) text.items (refused r)) }
 {
-    let said = check_in(loads, units, &cert);
-    if let Err(fault) = said {
-        return Err(Refusal::Check(fault));
-    }
-    *verdict = said.ok();
+    let Right {
+        cert,
+        verdict: said,
+    } = right_cert(alloc, loads, units, text)?;
+    *verdict = Some(said);
     let Cert { best, .. } = cert;
     match best {
         Some(best) => Ok(best.plan),
         None => Err(Refusal::CertHasNoPlan),
     }
-}
-
-/// The plan of a certificate's text; `verdict` gets what the checker says.
-fn text_plan(
-    alloc: Global,
-    loads: &mut Loads,
-    units: &Units,
-    text: &[u8],
-    verdict: &mut Option<Verdict>,
-) -> Result<Plan, Refusal>
-    requires { loads.old ≡ record { loads = loads_of units.now.units; slots = units.now.slots; places = no_places (loads_of units.now.units) } }
-    ensures ok { IfOk result (λ plan. IsCertPlan text.now (units_view units.now) plan.places) }
-    ensures legal { IfOk result (λ plan. IsLegal (loads_of units.now.units) units.now.slots plan.places) }
-    ensures err { IfErr result (λ r. IsFramesMemory r ⊎ IsReadText IsFramesText (units_view units.now) text.now (refused r)) }
-{
-    let cert = read_cert(alloc, text)?;
-    best_plan(loads, units, cert, verdict)
 }
 
 /// The plan of the certificate where there is one, else that of the places in the units; `verdict` gets what the checker says
@@ -78,7 +62,7 @@ pub(crate) fn plan_for(
     match given {
         Some(given) => {
             let Given { mut loads, text } = given;
-            text_plan(alloc, &mut loads, units, &text, verdict)
+            text_plan(alloc, &mut loads, units, text, verdict)
         }
         None => placed_plan(alloc, units),
     }

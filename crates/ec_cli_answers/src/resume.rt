@@ -8,11 +8,11 @@ ghost use Rattle.ec_cert.specs.Shapes.{cert_view};
 ghost use Rattle.ec_cert.specs.WellFormed.{IsWellFormed};
 ghost use Rattle.ec_checker.specs.Certified.{IsCertified};
 ghost use Rattle.ec_workers.specs.Answers.{Asked, IsOutcome};
-ghost use Rattle.ec_cli_answers.specs.Planned.{GoesOn, GoesOnFrom, IsProofBy, IsStopped, IsStoppedFrom};
+ghost use Rattle.ec_cli_answers.specs.Planned.{GoesOnFrom, IsProofBy, IsStoppedFrom};
 
+use crate::right::{Right, right_cert};
 use ec_cert::{Cert, Part};
-use ec_cert_text::read_cert;
-use ec_checker::{Verdict, check_in, law_faults_refute};
+use ec_checker::{Verdict, law_faults_refute};
 use ec_cli_refusals::Refusal;
 use ec_loads::Loads;
 use ec_outcome::Outcome;
@@ -48,37 +48,6 @@ fn proof_of(alloc: Global, units: &Units, cert: Cert) -> Result<Outcome, AllocEr
     })
 }
 
-/// What comes of going on with a certificate for the units. The loads are those of the units, with no place, and are so again
-/// afterwards.
-fn went_on<T: Threads + Wait + Sync, G: Gate + Sync>(
-    rt: &T,
-    alloc: Global,
-    workers: usize,
-    nodes: u32,
-    part: Part,
-    loads: &mut Loads,
-    units: &Units,
-    cert: Cert,
-    gate: &G,
-) -> Result<Outcome, Refusal>
-    requires workers { (1 ≤ workers) × (workers ≤ 16) }
-    requires nodes { (1 ≤ nodes) × (nodes ≤ 10000000) }
-    requires part { IsPart part }
-    requires empty { loads.old ≡ record { loads = loads_of units.now.units; slots = units.now.slots; places = no_places (loads_of units.now.units) } }
-    requires formed { IsWellFormed (cert_view cert) }
-    ensures same { loads.new ≡ loads.old }
-    ensures ok { IfOk result (GoesOn workers nodes part units.now (cert_view cert)) }
-    ensures err { IfErr result (IsStopped workers units.now (cert_view cert)) }
-{
-    match check_in(loads, units, &cert) {
-        Ok(Verdict::AtLeast(_)) => Ok(solve_from(
-            rt, alloc, units, cert, part, workers, nodes, gate,
-        )?),
-        Ok(_) => Ok(proof_of(alloc, units, cert)?),
-        Err(fault) => Err(Refusal::Check(fault)),
-    }
-}
-
 /// What comes of going on with a certificate's text for the units. The loads are those of the units, with no place, and are
 /// so again afterwards. The text is dropped once it is read, before the search.
 pub(crate) fn text_outcome<T: Threads + Wait + Sync, G: Gate + Sync>(
@@ -100,8 +69,9 @@ pub(crate) fn text_outcome<T: Threads + Wait + Sync, G: Gate + Sync>(
     ensures ok { IfOk result (GoesOnFrom workers nodes part units.now text.items) }
     ensures err { IfErr result (IsStoppedFrom workers units.now text.items) }
 {
-    let read = read_cert(alloc, text.as_slice());
-    drop(text);
-    let cert = read?;
-    went_on(rt, alloc, workers, nodes, part, loads, units, cert, gate)
+    let Right { cert, verdict } = right_cert(alloc, loads, units, text)?;
+    match verdict {
+        Verdict::AtLeast(_) => Ok(solve_from(rt, alloc, units, cert, part, workers, nodes, gate)?),
+        _ => Ok(proof_of(alloc, units, cert)?),
+    }
 }

@@ -78,7 +78,7 @@ fn cert_at<F: Files>(
         return Err(Refusal::Read);
     };
     let text = cert_text(alloc, &mut Io::new(file))?;
-    right_cert(alloc, loads, units, text)
+    Ok(right_cert(alloc, loads, units, text)?.cert)
 }
 
 /// What some certificates and the one at a path, which is of this number, show together.

@@ -12,8 +12,8 @@ returns-in-Cost-clause-told g c = λ bytes cert says.
 
 pub returns-in-Some-clause-told : goal.returns-in-Some-clause-told
 returns-in-Some-clause-told g c = λ bytes cert says.
-    rw c.in-Check.is (check_tells bytes cert c.args.inputs.units c.deref.result.now c.check_answer.result c.without_file-in-Some.result says.0
-    (ap (λ t. Some t) c.deref.ensures.value ∙ sym (ap (λ (o : Option Given). option_map (λ (g : Given). g.text.items) o) c.in-Some.is) ∙ says.1)
+    rw c.in-Check.is (check_tells bytes cert c.args.inputs.units c.in-Some.given.text.items c.check_answer.result c.without_file-in-Some.result says.0
+    (sym (ap (λ (o : Option Given). option_map (λ (g : Given). g.text.items) o) c.in-Some.is) ∙ says.1)
     c.without_file-in-Some.ensures.text c.without_file-in-Some.ensures.file c.check_answer.ensures)
 
 pub returns-in_err-plan-in-Frames-clause-told : goal.returns-in_err-plan-in-Frames-clause-told

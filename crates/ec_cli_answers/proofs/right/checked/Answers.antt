@@ -1,0 +1,8 @@
+use Rattle.std.proofs.Common.{rules}
+use Rattle.ec_cli_answers.proofs.right.checked.Goals as goal
+
+pub returns-in-Err-clause-err : goal.returns-in-Err-clause-err
+returns-in-Err-clause-err c = search rules
+
+pub returns-in-Ok-clause-verdict : goal.returns-in-Ok-clause-verdict
+returns-in-Ok-clause-verdict c = search rules
