@@ -43,14 +43,10 @@ IsSimple job.Capture = ⊥
 IsSimple _ = Unit {0}
 
 simple_is : (j : Job) (bytes : List ℕ) (cert : Option (List ℕ)) (w : Written) → IsSimple j → (IsOutput j bytes cert w ⊎ IsNoMemory j w) → IsTold j bytes cert w None
-simple_is job.Cost bytes cert w simple h = (h, refl)
 simple_is (job.Plan workers nodes strong) bytes cert w simple h = absurd simple
 simple_is (job.Resume workers nodes part) bytes cert w simple h = absurd simple
-simple_is job.Check bytes cert w simple h = (h, refl)
-simple_is job.Frames bytes cert w simple h = (h, refl)
 simple_is job.Capture bytes cert w simple h = absurd simple
-simple_is job.PlanCost bytes cert w simple h = (h, refl)
-simple_is job.Play bytes cert w simple h = (h, refl)
+simple_is j bytes cert w simple h = (h, refl)
 
 said : (j : Job) (bytes : List ℕ) (cert : Option (List ℕ)) (a : Result Answer Refusal) → Answers j a (IsOutput j bytes cert) → (IsOutput j bytes cert (written_of a) ⊎ IsNoMemory j (written_of a))
 said j bytes cert (Ok a) h = inl h
@@ -112,24 +108,18 @@ pub same_tells : (j : Job) (bytes : List ℕ) (cert : Option (List ℕ)) (t s : 
 same_tells j bytes cert t s text file h = record { file = h.file; is = subst (λ (w : Written). IsTold j bytes cert w h.file) (sym text) h.is; made = file ∙ h.made }
 
 pub plan_tells : (j : Job) (bytes : List ℕ) (cert : Option (List ℕ)) (us : Units) (plan : Plan) (t : Result Told Refusal) → IsOfPlan j → FramesFrom cert (Ok (us, plan)) bytes → IsPlanTold j (units_view us) plan.places t → TellsFor j bytes cert t
-plan_tells job.Cost bytes cert us plan t of from h = absurd of
-plan_tells (job.Plan workers nodes strong) bytes cert us plan t of from h = absurd of
-plan_tells (job.Resume workers nodes part) bytes cert us plan t of from h = absurd of
-plan_tells job.Check bytes cert us plan t of from h = absurd of
 plan_tells job.Frames bytes cert us plan t of from h = simple_tells job.Frames bytes cert h.0 t tt h.1 h.2 (answered IsFramesText job.Frames cert bytes us plan h.0 from h.3)
 plan_tells job.Capture bytes cert us plan t of from h = capture_tells bytes cert us plan t from h
 plan_tells job.PlanCost bytes cert us plan t of from h = simple_tells job.PlanCost bytes cert h.0 t tt h.1 h.2 (answered IsCostsText job.PlanCost cert bytes us plan h.0 from (costs_want h.0 _ h.3))
 plan_tells job.Play bytes cert us plan t of from h = simple_tells job.Play bytes cert h.0 t tt h.1 h.2 (answered IsPlayText job.Play cert bytes us plan h.0 from h.3)
+plan_tells j bytes cert us plan t of from h = absurd of
 
 pub fault_tells : (j : Job) (bytes : List ℕ) (cert : Option (List ℕ)) (r : Refusal) (t : Result Told Refusal) → IsOfPlan j → t ≡ Err r → IsFramesFault cert bytes r → TellsFor j bytes cert t
-fault_tells job.Cost bytes cert r t of is h = absurd of
-fault_tells (job.Plan workers nodes strong) bytes cert r t of is h = absurd of
-fault_tells (job.Resume workers nodes part) bytes cert r t of is h = absurd of
-fault_tells job.Check bytes cert r t of is h = absurd of
 fault_tells job.Frames bytes cert r t of is h = simple_untold job.Frames bytes cert r t tt is h
 fault_tells job.Capture bytes cert r t of is h = rw is (record { file = None; is = inr (record { refusal = r; fault = h; line = refl; none = refl }); made = refl })
 fault_tells job.PlanCost bytes cert r t of is h = simple_untold job.PlanCost bytes cert r t tt is (unanswered IsCostsText job.PlanCost cert bytes r (λ m. m) h)
 fault_tells job.Play bytes cert r t of is h = simple_untold job.Play bytes cert r t tt is (unanswered IsPlayText job.Play cert bytes r (λ m. inl m) h)
+fault_tells j bytes cert r t of is h = absurd of
 
 -- ---- what is told of a search
 
@@ -192,19 +182,15 @@ plan_unread workers nodes strong bytes r (inr fault) = inl fault
 
 pub unread_tells : (j : Job) (bytes : List ℕ) (cert : Option (List ℕ)) (r : Refusal) (t : Result Told Refusal) → HasInput j cert → t ≡ Err r → IsUnread bytes cert r → TellsFor j bytes cert t
 unread_tells job.Cost bytes None r t has is h = simple_untold job.Cost bytes None r t tt is (cost_unread bytes r h)
-unread_tells job.Cost bytes (Some text) r t has is h = absurd cc
 unread_tells (job.Plan workers nodes strong) bytes None r t has is h =
     let w = search_untold (IsPlanOf (asked_for strong workers nodes) bytes) (IsPlanFault (asked_for strong workers nodes) bytes) r t is (plan_unread workers nodes strong bytes r h) in
     record { file = w.0; is = w.1; made = w.2 }
-unread_tells (job.Plan workers nodes strong) bytes (Some text) r t has is h = absurd cc
-unread_tells (job.Resume workers nodes part) bytes None r t has is h = absurd has
 unread_tells (job.Resume workers nodes part) bytes (Some text) r t has is h =
     let w = search_untold (IsResumeOf workers nodes part bytes text) (IsResumeFault workers bytes text) r t is (unresumed workers bytes text r h) in
     record { file = w.0; is = w.1; made = w.2 }
-unread_tells job.Check bytes None r t has is h = absurd has
 unread_tells job.Check bytes (Some text) r t has is h = simple_untold job.Check bytes (Some text) r t tt is (check_unread bytes text r h)
-unread_tells job.Frames bytes cert r t has is h = fault_tells job.Frames bytes cert r t tt is (unread_fault bytes cert r h)
-unread_tells job.Capture bytes cert r t has is h = fault_tells job.Capture bytes cert r t tt is (unread_fault bytes cert r h)
-unread_tells job.PlanCost bytes None r t has is h = absurd has
-unread_tells job.PlanCost bytes (Some text) r t has is h = fault_tells job.PlanCost bytes (Some text) r t tt is (unread_fault bytes (Some text) r h)
-unread_tells job.Play bytes cert r t has is h = fault_tells job.Play bytes cert r t tt is (unread_fault bytes cert r h)
+unread_tells job.Cost bytes (Some text) r t has is h = absurd cc
+unread_tells (job.Plan workers nodes strong) bytes (Some text) r t has is h = absurd cc
+unread_tells (job.Resume workers nodes part) bytes None r t has is h = absurd has
+unread_tells job.Check bytes None r t has is h = absurd has
+unread_tells j bytes cert r t has is h = fault_tells j bytes cert r t tt is (unread_fault bytes cert r h)

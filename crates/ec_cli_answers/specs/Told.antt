@@ -69,15 +69,11 @@ IsPlainTold j bytes cert w file = (IsOutput j bytes cert w ⊎ IsNoMemory j w) �
 
 -- what is told of a job for the bytes of units, and of a certificate where there is one
 abbrev pub IsTold : Job → List ℕ → Option (List ℕ) → Written → Option (List ℕ) → Type 0
-IsTold job.Cost bytes cert w file = IsPlainTold job.Cost bytes cert w file
 IsTold (job.Plan workers nodes strong) bytes cert w file = IsPlanWritten (asked_for strong workers nodes) bytes w file
 IsTold (job.Resume workers nodes part) bytes None w file = ⊥
 IsTold (job.Resume workers nodes part) bytes (Some text) w file = IsResumeWritten workers nodes part bytes text w file
-IsTold job.Check bytes cert w file = IsPlainTold job.Check bytes cert w file
-IsTold job.Frames bytes cert w file = IsPlainTold job.Frames bytes cert w file
 IsTold job.Capture bytes cert w file = IsFramesWritten cert bytes w file
-IsTold job.PlanCost bytes cert w file = IsPlainTold job.PlanCost bytes cert w file
-IsTold job.Play bytes cert w file = IsPlainTold job.Play bytes cert w file
+IsTold j bytes cert w file = IsPlainTold j bytes cert w file
 
 -- an answer is what is told, and has the file that is told
 pub record TellsFor (j : Job) (bytes : List ℕ) (cert : Option (List ℕ)) (answer : Result Told Refusal) : Type 0 where
@@ -123,12 +119,8 @@ IsOfPlan _ = ⊥
 abbrev pub HasInput : Job → Option (List ℕ) → Type 0
 HasInput job.Cost cert = cert ≡ None
 HasInput (job.Plan workers nodes strong) cert = cert ≡ None
-HasInput (job.Resume workers nodes part) None = ⊥
-HasInput (job.Resume workers nodes part) (Some text) = Unit {0}
-HasInput job.Check None = ⊥
-HasInput job.Check (Some text) = Unit {0}
-HasInput job.PlanCost None = ⊥
-HasInput job.PlanCost (Some text) = Unit {0}
 HasInput job.Frames cert = Unit {0}
 HasInput job.Capture cert = Unit {0}
 HasInput job.Play cert = Unit {0}
+HasInput j None = ⊥
+HasInput j (Some text) = Unit {0}

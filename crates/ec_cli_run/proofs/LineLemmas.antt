@@ -15,24 +15,18 @@ some-none h = absurd cc
 -- a line with the path of a certificate reads one
 pub reads_its_cert : (l : Line) (path : String Global) → cert_of l ≡ Some path → reads_cert (job_of l) ≡ true
 reads_its_cert (line.Cost None svg) path is = absurd (none-some is)
-reads_its_cert (line.Cost (Some cert) svg) path is = refl
 reads_its_cert (line.Plan effort strong out places) path is = absurd (none-some is)
-reads_its_cert (line.Resume cert effort part out places) path is = refl
-reads_its_cert (line.Check cert) path is = refl
 reads_its_cert (line.Frames cert None header table report) path is = refl
-reads_its_cert (line.Frames cert (Some pcap) header table report) path is = refl
-reads_its_cert (line.Play cert) path is = refl
+reads_its_cert l path is = refl
 
 -- and one without such a path needs none
 pub needs_none : (l : Line) → cert_of l ≡ None → HasInput (job_of l) None
 needs_none (line.Cost None svg) is = refl
-needs_none (line.Cost (Some cert) svg) is = absurd (some-none is)
 needs_none (line.Plan effort strong out places) is = refl
-needs_none (line.Resume cert effort part out places) is = absurd (some-none is)
-needs_none (line.Check cert) is = absurd (some-none is)
 needs_none (line.Frames cert None header table report) is = tt
 needs_none (line.Frames cert (Some pcap) header table report) is = tt
 needs_none (line.Play cert) is = tt
+needs_none l is = absurd (some-none is)
 
 -- what a method answers of a path, which a line has or not
 pub with_path : {B : Type 0} (now : B → String Global) {found : Option B} {path : B} {of_line : Option (String Global)} → found ≡ Some path → option_map now found ≡ of_line → Some (now path) ≡ of_line

@@ -113,14 +113,12 @@ text_once_for T once (Some text) v a b p q = cert_text T once v (cert_reading te
 
 units_once : (j : Job) (cert : Option (List ℕ)) (v : UnitsView) (a b : Written) → IsUnitsOutput j cert v a → IsUnitsOutput j cert v b → a ≡ b
 units_once job.Cost cert v a b p q = text_once_for IsCostsText costs_once None v a b p q
-units_once (job.Plan workers nodes strong) cert v a b p q = absurd p
-units_once (job.Resume workers nodes part) cert v a b p q = absurd p
-units_once job.Check None v a b p q = absurd p
 units_once job.Check (Some text) v a b p q = cert_once v (cert_reading text) a b p q
 units_once job.Frames cert v a b p q = text_once_for IsFramesText frames_once cert v a b p q
 units_once job.Capture cert v a b p q = text_once_for IsFramesText frames_once cert v a b p q
 units_once job.Play cert v a b p q = text_once_for IsPlayText play_once cert v a b p q
 units_once job.PlanCost cert v a b p q = text_once_for IsCostsText costs_once cert v a b p q
+units_once j cert v a b p q = absurd p
 
 result_once : (j : Job) (cert : Option (List ℕ)) (r : Result UnitsView UnitFault) (a b : Written) → MatchResult r (λ v. IsUnitsOutput j cert v a) (λ f. a ≡ refused (refusal.Unit f)) → MatchResult r (λ v. IsUnitsOutput j cert v b) (λ f. b ≡ refused (refusal.Unit f)) → a ≡ b
 result_once j cert (Ok v) a b p q = units_once j cert v a b p q

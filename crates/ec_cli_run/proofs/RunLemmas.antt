@@ -54,12 +54,7 @@ true_or_false false = inr refl
 some_input : (j : Job) (text : List ℕ) → reads_cert j ≡ true → HasInput j (Some text)
 some_input job.Cost text h = absurd (true≢false (sym h))
 some_input (job.Plan workers nodes strong) text h = absurd (true≢false (sym h))
-some_input (job.Resume workers nodes part) text h = tt
-some_input job.Check text h = tt
-some_input job.Frames text h = tt
-some_input job.Capture text h = tt
-some_input job.PlanCost text h = tt
-some_input job.Play text h = tt
+some_input j text h = tt
 
 tells_one : (j : Job) (bytes : List ℕ) (text : Option (List ℕ)) (read : Result Inputs Refusal) (t : Result Told Refusal) → HasInput j text → AnswersOf j read t → AreRead bytes text read → TellsFor j bytes text t
 tells_one j bytes text (Ok i) t has a said = a bytes text said
@@ -249,35 +244,15 @@ does j u cert out t a w d = does_at j u cert.tells cert.old cert.new out.tells o
 
 -- ---- which certificates a job is lent
 
-pub fresh_cert : {C : Type 0} (j : Job) (cert : Io C) → HasCert j (Some cert) → reads_cert j ≡ true → has_failed cert ≡ false
-fresh_cert job.Cost cert has is = absurd (true≢false (sym is))
-fresh_cert (job.Plan workers nodes strong) cert has is = absurd (true≢false (sym is))
-fresh_cert (job.Resume workers nodes part) cert has is = has
-fresh_cert job.Check cert has is = has
-fresh_cert job.Frames cert has is = has
-fresh_cert job.Capture cert has is = has
-fresh_cert job.PlanCost cert has is = has
-fresh_cert job.Play cert has is = has
-
-pub none_needed : (j : Job) → reads_cert j ≡ false → HasInput j None
+none_needed : (j : Job) → reads_cert j ≡ false → HasInput j None
 none_needed job.Cost is = refl
 none_needed (job.Plan workers nodes strong) is = refl
-none_needed (job.Resume workers nodes part) is = absurd (true≢false is)
-none_needed job.Check is = absurd (true≢false is)
-none_needed job.Frames is = tt
-none_needed job.Capture is = tt
-none_needed job.PlanCost is = absurd (true≢false is)
-none_needed job.Play is = tt
+none_needed j is = absurd (true≢false is)
 
-pub none_lent : (C : Type 0) (j : Job) → HasCert {C = C} j None → HasInput j None
+none_lent : (C : Type 0) (j : Job) → HasCert {C = C} j None → HasInput j None
 none_lent C job.Cost has = refl
 none_lent C (job.Plan workers nodes strong) has = refl
-none_lent C (job.Resume workers nodes part) has = has
-none_lent C job.Check has = has
-none_lent C job.Frames has = has
-none_lent C job.Capture has = has
-none_lent C job.PlanCost has = has
-none_lent C job.Play has = has
+none_lent C j has = has
 
 -- ---- from what was read, and from how that is delivered, to what a run does
 

@@ -34,15 +34,10 @@ Searches (job.Resume workers nodes part) = Unit {0}
 Searches _ = ⊥
 
 search_true : LevelsBound → (j : Job) → Searches j → (bytes : List ℕ) (cert : Option (List ℕ)) (w : Written) (file : Option (List ℕ)) → IsTold j bytes cert w file → TellsTruth bytes w file
-search_true levels job.Cost is bytes cert w file h = absurd is
 search_true levels (job.Plan workers nodes strong) is bytes cert w file h = plan_true levels (asked_for strong workers nodes) bytes w file h
 search_true levels (job.Resume workers nodes part) is bytes None w file h = absurd h
 search_true levels (job.Resume workers nodes part) is bytes (Some text) w file h = resume_true levels workers nodes part bytes text w file h
-search_true levels job.Check is bytes cert w file h = absurd is
-search_true levels job.Frames is bytes cert w file h = absurd is
-search_true levels job.Capture is bytes cert w file h = absurd is
-search_true levels job.PlanCost is bytes cert w file h = absurd is
-search_true levels job.Play is bytes cert w file h = absurd is
+search_true levels j is bytes cert w file h = absurd is
 
 check_true : TreesBound → LevelsBound → (bytes text : List ℕ) (w : Written) → IsOutput job.Check bytes (Some text) w ⊎ IsNoMemory job.Check w → YesTellsTruth bytes w
 check_true trees levels bytes text w (inl h) = yes_true trees levels bytes text w h
@@ -110,16 +105,12 @@ lent_there : {C : Type 0} (j : Job) (cert : Lent C) (none : Type 0) (P : Use C �
 lent_there j cert none P Q needs has say h = known_at j cert.tells cert.old cert.new none P Q needs has say h
 
 pub run_true : {R C O : Type 0} → TreesBound → LevelsBound → (j : Job) (u : Use R) (cert : Lent C) (out : Lent O) (w : Written) → HasCert j cert.old → DoesWith j u cert out w → RunIsTrue j u out w
-run_true trees levels job.Cost u cert out w has d = tt
 run_true trees levels (job.Plan workers nodes strong) u cert out w has d = λ sound. plan_all levels workers nodes strong (before u) out w (λ fine. d.0.told sound tt fine) d.0.unwritten
 run_true trees levels (job.Resume workers nodes part) u cert out w has d = λ sound.
     lent_there (job.Resume workers nodes part) cert _ _ (IfSome (before u) (IsTrueWith out w)) (λ e. e) has (λ c h. resume_all levels workers nodes part (before u) out w h) (d.0.some sound)
 run_true trees levels job.Check u cert out w has d = λ sound.
     lent_there job.Check cert _ _ (IfSome (before u) (λ bytes. YesTellsTruth bytes w)) (λ e. e) has (λ c h. check_all trees levels (before u) (λ file. Unit {0}) w h) (d.0.some sound)
-run_true trees levels job.Frames u cert out w has d = tt
-run_true trees levels job.Capture u cert out w has d = tt
-run_true trees levels job.PlanCost u cert out w has d = tt
-run_true trees levels job.Play u cert out w has d = tt
+run_true trees levels j u cert out w has d = tt
 
 -- what a run does, and that it is true
 pub truly : {R C O : Type 0} → TreesBound → LevelsBound → (j : Job) (u : Use R) (cert : Lent C) (out : Lent O) (w : Written) → HasCert j cert.old → DoesWith j u cert out w → DoesWith j u cert out w × RunIsTrue j u out w
@@ -144,10 +135,8 @@ line_check trees levels from to (Some bytes) w (inr h) = check_true trees levels
 
 pub line_true : {R : Type 0} → TreesBound → LevelsBound → (l : Line) (u : Use R) (w : Written) → DoesLine l u w → LineIsTrue (job_of l) u w
 line_true trees levels (line.Cost None svg) u w d = tt
-line_true trees levels (line.Cost (Some cert) svg) u w d = tt
 line_true trees levels (line.Plan effort strong out places) u w d = λ sound. line_search levels (job.Plan effort.workers effort.nodes strong) tt None out (before u) w (d.told sound)
 line_true trees levels (line.Resume cert effort part out places) u w d = λ sound. line_search levels (job.Resume effort.workers effort.nodes part) tt (Some cert) out (before u) w (d.told sound)
 line_true trees levels (line.Check cert) u w d = λ sound. line_check trees levels cert None (before u) w (d.told sound)
 line_true trees levels (line.Frames cert None header table report) u w d = tt
-line_true trees levels (line.Frames cert (Some pcap) header table report) u w d = tt
-line_true trees levels (line.Play cert) u w d = tt
+line_true trees levels l u w d = tt
