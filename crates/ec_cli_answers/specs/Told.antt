@@ -1,5 +1,5 @@
 -- What a job tells for what it has read: a text with its status, and the file that is written before it.
-use Rattle.std.specs.Prelude.{◌≡◌, ◌⊎◌, ℕ, List, Option, Some, None, Result, Ok, Err, option_map}
+use Rattle.std.specs.Prelude.{◌≡◌, ◌⊎◌, ℕ, List, Option, Some, None, Result, Ok, Err, IfOk, option_map}
 use Rattle.ec_cert.specs.Shapes.{cert_view}
 use Rattle.ec_loads.specs.declared.plan.Plan.{Plan}
 use Rattle.ec_outcome.specs.declared.ending.Ending.{Ending}
@@ -83,8 +83,7 @@ pub record TellsFor (j : Job) (bytes : List ℕ) (cert : Option (List ℕ)) (ans
 
 -- its certificate has a text
 abbrev pub IsWritable : Result Told Refusal → Type 0
-IsWritable (Ok t) = HasText t.file
-IsWritable (Err r) = Unit {0}
+IsWritable answer = IfOk answer (λ t. HasText t.file)
 
 -- ---- what is told of a plan
 

@@ -14,8 +14,8 @@ use Rattle.ec_cli_answers.specs.Told.{file_bytes}
 use Rattle.ec_cli_answers.specs.declared.told.Told.{Told}
 use Rattle.ec_cli_run.specs.declared.merging.MergeFault.{MergeFault}
 use Rattle.ec_cli_run.specs.declared.merging.MergeFault.TheVariants as fault
-use Rattle.ec_cli_run.specs.Merging.{IsTrueMerge, MergeTellsTruth, merge_written, misfit_output}
-use Rattle.ec_cli_run.specs.Runs.{Tells}
+use Rattle.ec_cli_run.specs.Merging.{IsTrueMerge, MergeTellsTruth, misfit_output, unmerged}
+use Rattle.ec_cli_run.specs.Runs.{Tells, reported}
 use Rattle.ec_cli_run.specs.Sound.{TellsTruth}
 use Rattle.ec_cli_run.proofs.PlanSound.{merge_true, refusal_true}
 use Rattle.ec_cli_run.proofs.RunLemmas.{tells_more}
@@ -41,18 +41,18 @@ misfit_true bytes w why number is =
       λ two. absurd (omega (arith, code, two)),
     )
 
-written_true : (bytes : List ℕ) (w : Written) (t : Result Told MergeFault) (file : Option FileFault) → w ≡ merge_written t file → IsTrueMerge bytes t → (cert : Option (List ℕ)) × TellsTruth bytes w cert
+written_true : (bytes : List ℕ) (w : Written) (t : Result Told MergeFault) (file : Option FileFault) → w ≡ reported unmerged t file → IsTrueMerge bytes t → (cert : Option (List ℕ)) × TellsTruth bytes w cert
 written_true bytes w (Ok a) None is true = (file_bytes a.file, subst (λ (v : Written). TellsTruth bytes v (file_bytes a.file)) (sym is) true)
 written_true bytes w (Ok a) (Some why) is true = (None, refusal_true bytes w None refusal.Write is)
 written_true bytes w (Err (fault.Refused r)) file is true = (None, refusal_true bytes w None r is)
 written_true bytes w (Err (fault.Cert number r)) file is true = (None, refusal_true bytes w None r is)
 written_true bytes w (Err (fault.Misfit number why)) file is true = (None, misfit_true bytes w why number is)
 
-all_true : (left : Option (List ℕ)) (w : Written) (t : Result Told MergeFault) (file : Option FileFault) → w ≡ merge_written t file → IfSome left (λ bytes. IsTrueMerge bytes t) → IfSome left (λ bytes. (cert : Option (List ℕ)) × TellsTruth bytes w cert)
+all_true : (left : Option (List ℕ)) (w : Written) (t : Result Told MergeFault) (file : Option FileFault) → w ≡ reported unmerged t file → IfSome left (λ bytes. IsTrueMerge bytes t) → IfSome left (λ bytes. (cert : Option (List ℕ)) × TellsTruth bytes w cert)
 all_true None w t file is true = tt
 all_true (Some bytes) w t file is true = written_true bytes w t file is true
 
 -- what is written of it tells the truth
 pub merge_tells : {R W : Type 0} (units : Use R) (text : Use W) (code : ℕ) (t s : Result Told MergeFault) (file : Option FileFault) → s ≡ t → (IsSound units → IfSome (before units) (λ bytes. IsTrueMerge bytes t))
-    → Tells (λ w. w ≡ merge_written s file) text code → Tells (MergeTellsTruth units) text code
-merge_tells units text code t s file same true told = tells_more (λ w is sound. all_true (before units) w t file (is ∙ ap (λ (x : Result Told MergeFault). merge_written x file) same) (true sound)) told
+    → Tells (λ w. w ≡ reported unmerged s file) text code → Tells (MergeTellsTruth units) text code
+merge_tells units text code t s file same true told = tells_more (λ w is sound. all_true (before units) w t file (is ∙ ap (λ (x : Result Told MergeFault). reported unmerged x file) same) (true sound)) told

@@ -19,7 +19,7 @@ use Rattle.std.proofs.lemmas.Option.{IfSome_then}
 use Rattle.ec_cli_inputs.specs.declared.input.Inputs.{Inputs}
 use Rattle.ec_cli_inputs.specs.Use.{Use, used, before, after, IsSound, HasFailed, IsKept, IsLeft, Lent, IfLent, here, nobody}
 use Rattle.ec_cli_inputs.proofs.InputLemmas.{read_refused}
-use Rattle.ec_cli_text.specs.Output.{Written}
+use Rattle.ec_cli_text.specs.Output.{Written, refused}
 use Rattle.ec_cli_answers.specs.Planned.{Gets, GetsFront}
 use Rattle.ec_cli_answers.specs.Told.{HasInput, IsTold, TellsFor, file_of, told}
 use Rattle.ec_cli_answers.specs.declared.told.Told.{Told}
@@ -295,21 +295,21 @@ line_answered j (Some path) to bytes answer w is (inl read) = inl (inl (is ∙ a
 line_answered j (Some path) to bytes answer w is (inr h) = inr (h.0, h.1.file, subst (λ (x : Written). IsTold j bytes (Some h.0) x h.1.file) (sym is) h.1.is)
 
 -- what is reported is told
-line_reported : (j : Job) (from to : Option (String Global)) (bytes : List ℕ) (answer : Result Told Refusal) (fault : Option FileFault) (w : Written) → (to ≡ None → fault ≡ None) → w ≡ reported answer fault → AnswersLine j from bytes answer → LineTold j from to w bytes
+line_reported : (j : Job) (from to : Option (String Global)) (bytes : List ℕ) (answer : Result Told Refusal) (fault : Option FileFault) (w : Written) → (to ≡ None → fault ≡ None) → w ≡ reported refused answer fault → AnswersLine j from bytes answer → LineTold j from to w bytes
 line_reported j from to bytes (Err r) fault w none is h = line_answered j from to bytes (Err r) w is h
 line_reported j from to bytes (Ok t) None w none is h = line_answered j from to bytes (Ok t) w is h
 line_reported j from (Some to) bytes (Ok t) (Some f) w none is h = line_refused j from to bytes w is
 line_reported j from None bytes (Ok t) (Some f) w none is h = absurd (some-none (none refl))
 
-line_all : (j : Job) (from to : Option (String Global)) (left : Option (List ℕ)) (answer : Result Told Refusal) (fault : Option FileFault) (w : Written) → (to ≡ None → fault ≡ None) → w ≡ reported answer fault → IfSome left (λ bytes. AnswersLine j from bytes answer) → IfSome left (LineTold j from to w)
+line_all : (j : Job) (from to : Option (String Global)) (left : Option (List ℕ)) (answer : Result Told Refusal) (fault : Option FileFault) (w : Written) → (to ≡ None → fault ≡ None) → w ≡ reported refused answer fault → IfSome left (λ bytes. AnswersLine j from bytes answer) → IfSome left (LineTold j from to w)
 line_all j from to None answer fault w none is h = tt
 line_all j from to (Some bytes) answer fault w none is h = line_reported j from to bytes answer fault w none is h
 
-unread_reported : (answer : Result Told Refusal) (fault : Option FileFault) (w : Written) → w ≡ reported answer fault → answer ≡ Err refusal.Read → Refuses refusal.Read w
-unread_reported answer fault w is read = is ∙ ap (λ (a : Result Told Refusal). reported a fault) read
+unread_reported : (answer : Result Told Refusal) (fault : Option FileFault) (w : Written) → w ≡ reported refused answer fault → answer ≡ Err refusal.Read → Refuses refusal.Read w
+unread_reported answer fault w is read = is ∙ ap (λ (a : Result Told Refusal). reported refused a fault) read
 
 pub line_does : {R : Type 0} (line : Line) (u : Use R) (answer : Result Told Refusal) (fault : Option FileFault) → (out_of line ≡ None → fault ≡ None) → ReadsUpTo u most_of_units (answer ≡ Err refusal.Read)
-    → (IsSound u → IfSome (before u) (λ bytes. AnswersLine (job_of line) (cert_of line) bytes answer)) → (w : Written) → w ≡ reported answer fault → DoesLine line u w
+    → (IsSound u → IfSome (before u) (λ bytes. AnswersLine (job_of line) (cert_of line) bytes answer)) → (w : Written) → w ≡ reported refused answer fault → DoesLine line u w
 line_does line u answer fault none read tells w is = record {
   read = reads_more (λ f r. unread_reported answer fault w is r) read;
   told = λ sound. line_all (job_of line) (cert_of line) (out_of line) (before u) answer fault w none is (tells sound);
@@ -317,8 +317,8 @@ line_does line u answer fault none read tells w is = record {
 
 -- the same of what a report says
 pub line_reports : {R : Type 0} (line : Line) (u : Use R) (answer said : Result Told Refusal) (fault why : Option FileFault) → said ≡ answer → why ≡ fault → (out_of line ≡ None → fault ≡ None) → ReadsUpTo u most_of_units (answer ≡ Err refusal.Read)
-    → (IsSound u → IfSome (before u) (λ bytes. AnswersLine (job_of line) (cert_of line) bytes answer)) → (w : Written) → w ≡ reported said why → (w ≡ reported said why) × DoesLine line u w
-line_reports line u answer said fault why same also none read tells w is = (is, line_does line u answer fault none read tells w (is ∙ (ap (λ (a : Result Told Refusal). reported a why) same ∙ ap (reported answer) also)))
+    → (IsSound u → IfSome (before u) (λ bytes. AnswersLine (job_of line) (cert_of line) bytes answer)) → (w : Written) → w ≡ reported refused said why → (w ≡ reported refused said why) × DoesLine line u w
+line_reports line u answer said fault why same also none read tells w is = (is, line_does line u answer fault none read tells w (is ∙ (ap (λ (a : Result Told Refusal). reported refused a why) same ∙ ap (reported refused answer) also)))
 
 -- where nothing was read
 pub nothing_read : {R : Type 0} (tells : R → Option (List ℕ)) (io : Io R) (P : Type 0) → has_failed io ≡ false → ReadsUpTo (used tells io io) most_of_units P
@@ -328,11 +328,6 @@ nothing_read tells io P fresh = record { known = ([], omega arith, Consumes-nil 
 pub unopened : (j : Job) (from : String Global) (left : Option (List ℕ)) → IfSome left (λ bytes. AnswersLine j (Some from) bytes (Err refusal.Read))
 unopened j from None = tt
 unopened j from (Some bytes) = inl refl
-
--- what is written for an answer whose file is at its path, or that has none
-pub reported_whole : (answer : Result Told Refusal) → reported answer None ≡ told answer
-reported_whole (Ok t) = refl
-reported_whole (Err r) = refl
 
 -- what a line tells is what its job tells of its certificate
 pub told_line : {j k : Job} {one from : Option (String Global)} (left : Option (List ℕ)) (answer : Result Told Refusal) → j ≡ k → one ≡ from → IfSome left (λ bytes. AnswersLine j one bytes answer) → IfSome left (λ bytes. AnswersLine k from bytes answer)

@@ -1,11 +1,9 @@
 -- What a merge of certificates writes.
-use Rattle.std.specs.Prelude.{ℕ, List, ◌++◌, Option, Some, None, Result, Ok, Err, IfSome, codes}
+use Rattle.std.specs.Prelude.{ℕ, List, ◌++◌, Option, Result, Ok, Err, IfSome, codes}
 use Rattle.std.specs.Fmt.{decimal}
-use Rattle.ec_cli_files.specs.declared.fault.FileFault.{FileFault}
 use Rattle.ec_cli_inputs.specs.Use.{Use, before, IsSound}
 use Rattle.ec_cert_merge.specs.declared.fault.Misfit.{Misfit}
 use Rattle.ec_cert_merge.specs.declared.fault.Misfit.TheVariants as misfit
-use Rattle.ec_cli_refusals.specs.declared.refusal.Refusal.TheVariants as refusal
 use Rattle.ec_cli_text.specs.Output.{Written, refused, shown}
 use Rattle.ec_cli_answers.specs.Told.{file_bytes}
 use Rattle.ec_cli_answers.specs.declared.told.Told.{Told}
@@ -27,12 +25,6 @@ abbrev pub unmerged : MergeFault → Written
 unmerged (fault.Refused why) = refused why
 unmerged (fault.Cert number why) = refused why
 unmerged (fault.Misfit number why) = misfit_output why number
-
--- what is written: where the merged certificate isn't at its path, the refusal of a failed write
-abbrev pub merge_written : Result Told MergeFault → Option FileFault → Written
-merge_written (Ok t) None = shown t.answer
-merge_written (Ok t) (Some why) = refused refusal.Write
-merge_written (Err why) file = unmerged why
 
 -- what is told of certificates that were merged is true of the units that the bytes say, and so is their file
 abbrev pub IsTrueMerge : List ℕ → Result Told MergeFault → Type 0

@@ -81,11 +81,11 @@ abbrev pub AnswersLine : Job → Option (String Global) → List ℕ → Result 
 AnswersLine j None bytes answer = TellsFor j bytes None answer
 AnswersLine j (Some from) bytes answer = (answer ≡ Err refusal.Read) ⊎ ((text : List ℕ) × TellsFor j bytes (Some text) answer)
 
--- what is written for an answer: where its file isn't at its path, the refusal of a failed write
-abbrev pub reported : Result Told Refusal → Option FileFault → Written
-reported (Ok t) None = shown t.answer
-reported (Ok t) (Some fault) = refused refusal.Write
-reported (Err r) fault = refused r
+-- what is written for an answer: where its file isn't at its path, the refusal of a failed write; where nothing is told, the line that says why
+abbrev pub reported : {E : Type 0} → (E → Written) → Result Told E → Option FileFault → Written
+reported line (Ok t) None = shown t.answer
+reported line (Ok t) (Some fault) = refused refusal.Write
+reported line (Err why) fault = line why
 
 -- what is told where the job, the path of a certificate to read and that of a file to write are these: of a certificate whose file isn't known, what is told for
 -- some text, unless a read or a write failed

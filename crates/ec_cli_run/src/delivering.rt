@@ -30,7 +30,7 @@ pub(crate) fn write_file<O: Write>(file: &File, out: &mut Io<O>) -> Result<(), W
 }
 
 /// Writes what is told without its file: its text or the refusal, whole, with its status.
-pub(crate) fn deliver<W: Write>(told: &Result<Told, Refusal>, text: &mut Io<W>) -> Status
+fn deliver<W: Write>(told: &Result<Told, Refusal>, text: &mut Io<W>) -> Status
     requires { has_failed text.old ≡ false }
     ensures { Tells (λ w. w ≡ told_of told.now) (used W.contents text.old text.new) result.code }
 {

@@ -1,18 +1,19 @@
 //! Does what a command line says, with the paths that it names.
 
-ghost use Rattle.std.specs.Prelude.{◌≡◌, true, false, IfSome, None};
+ghost use Rattle.std.specs.Prelude.{◌≡◌, true, false, IfOk, IfSome, None};
 ghost use Rattle.ec_wire.specs.Stream.{has_failed, stream};
-ghost use Rattle.ec_cli_command.specs.Words.{JobFits, cert_of, job_of, out_of, reads_cert};
+ghost use Rattle.ec_cli_command.specs.Words.{JobFits, cert_of, job_of, reads_cert};
 ghost use Rattle.ec_cli_inputs.specs.Input.{ReadsUpTo, most_of_units};
 ghost use Rattle.ec_cli_inputs.specs.Use.{used};
+ghost use Rattle.ec_cli_text.specs.Output.{refused};
 ghost use Rattle.ec_cli_answers.specs.Told.{HasText, IsWritable};
 ghost use Rattle.ec_cli_run.specs.Runs.{AnswersLine, DoesLine, Tells, reported};
 ghost use Rattle.ec_cli_run.specs.Sound.{LineIsTrue};
 
 use crate::answering::tell;
-use crate::delivering::{deliver, write_file};
-use crate::job::{Status, refuse};
+use crate::delivering::write_file;
 use crate::older::reason_to_stay;
+use crate::reporting::{Report, deliver_report};
 use ec_cli_answers::{File, Told};
 use ec_cli_command::{Job, Line};
 use ec_cli_files::{Content, FileFault, KeepReason, Late};
@@ -28,18 +29,6 @@ use std::io::{Read, Write};
 use std::rt::Files;
 use std::sync::Wait;
 use std::thread::Threads;
-
-/// What came of a command line.
-#[derive(Debug, Drop)]
-pub struct Report {
-    /// What the job told, or why it told nothing.
-    pub told: Result<Told, Refusal>,
-    /// Why the certificate or the capture file that it tells isn't at its path, if it isn't. The text is then the refusal of
-    /// a failed write.
-    pub fault: Option<FileFault>,
-    /// The exit status of what was written.
-    pub status: Status,
-}
 
 /// What a job tells of the units and of the certificate at a path, which is opened before the units are read.
 fn tell_from<R: Read, F: Files, T: Threads + Wait + Sync, G: Gate + Sync>(
@@ -118,7 +107,7 @@ fn reason_to_leave<F: Files>(
 
 /// Writes a file, if there is one, of what went on with the certificate `from` if it did with one, and lets it take its
 /// place. Why it isn't there.
-pub(crate) fn settle_file<F: Files>(
+fn settle_file<F: Files>(
     alloc: Global,
     from: Option<&String>,
     file: &File,
@@ -138,55 +127,19 @@ pub(crate) fn settle_file<F: Files>(
     }
 }
 
-/// Writes the file of what is told of a line, if there is one, and lets it take its place. Why it isn't there.
-fn write_late<F: Files>(
+/// Writes the file of what is told, if there is one, of what went on with the certificate `from` if it did with one, and lets it
+/// take its place. Why it isn't there.
+pub(crate) fn write_late<E, F: Files>(
     alloc: Global,
-    line: &Line,
-    told: &Result<Told, Refusal>,
+    from: Option<&String>,
+    told: &Result<Told, E>,
     late: Late<'_, F>,
 ) -> Option<FileFault>
-    requires { IsWritable told.now }
+    requires { IfOk told.now (λ t. HasText t.file) }
 {
     match told {
-        Ok(told) => settle_file(alloc, line.cert(), &told.file, late),
+        Ok(told) => settle_file(alloc, from, &told.file, late),
         Err(_) => None,
-    }
-}
-
-/// Writes what is told, or why nothing is, or that its file couldn't be written.
-fn write_report<W: Write>(
-    told: &Result<Told, Refusal>,
-    fault: &Option<FileFault>,
-    text: &mut Io<W>,
-) -> Status
-    requires { has_failed text.old ≡ false }
-    ensures { Tells (λ w. w ≡ reported told.now fault.now) (used W.contents text.old text.new) result.code }
-{
-    match fault {
-        Some(_) => match told {
-            Ok(_) => refuse(Refusal::Write, text),
-            Err(refusal) => refuse(*refusal, text),
-        },
-        None => deliver(told, text),
-    }
-}
-
-/// Writes what came of a line, and reports it.
-fn deliver_report<W: Write>(
-    told: Result<Told, Refusal>,
-    fault: Option<FileFault>,
-    text: &mut Io<W>,
-) -> Report
-    requires { has_failed text.old ≡ false }
-    ensures told { result.told ≡ told }
-    ensures fault { result.fault ≡ fault }
-    ensures text { Tells (λ w. w ≡ reported result.told result.fault) (used W.contents text.old text.new) result.status.code }
-{
-    let status = write_report(&told, &fault, text);
-    Report {
-        told,
-        fault,
-        status,
     }
 }
 
@@ -199,11 +152,11 @@ fn report_line<R: Read, W: Write, F: Files, T: Threads + Wait + Sync, G: Gate + 
     units: &mut Io<R>,
     text: &mut Io<W>,
     gate: &G,
-) -> Report
+) -> Report<Refusal>
     requires fits { JobFits (job_of line.now) }
     requires units { has_failed units.old ≡ false }
     requires text { has_failed text.old ≡ false }
-    ensures { Tells (λ w. (w ≡ reported result.told result.fault) × DoesLine line.now (used R.remaining units.old units.new) w) (used W.contents text.old text.new) result.status.code }
+    ensures { Tells (λ w. (w ≡ reported refused result.told result.fault) × DoesLine line.now (used R.remaining units.old units.new) w) (used W.contents text.old text.new) result.status.code }
 {
     let Some(path) = line.out() else {
         let told = tell_line(wait, files, alloc, line, units, gate);
@@ -212,7 +165,7 @@ fn report_line<R: Read, W: Write, F: Files, T: Threads + Wait + Sync, G: Gate + 
     match Late::new(files, alloc, path.as_str(), content_of(line)) {
         Ok(late) => {
             let told = tell_line(wait, files, alloc, line, units, gate);
-            let fault = write_late(alloc, line, &told, late);
+            let fault = write_late(alloc, line.cert(), &told, late);
             deliver_report(told, fault, text)
         }
         Err(AllocError) => {
@@ -232,11 +185,11 @@ pub fn do_line<R: Read, W: Write, F: Files, T: Threads + Wait + Sync, G: Gate + 
     units: &mut Io<R>,
     text: &mut Io<W>,
     gate: &G,
-) -> Report
+) -> Report<Refusal>
     requires fits { JobFits (job_of line.now) }
     requires units { has_failed units.old ≡ false }
     requires text { has_failed text.old ≡ false }
-    ensures does { Tells (λ w. (w ≡ reported result.told result.fault) × DoesLine line.now (used R.remaining units.old units.new) w) (used W.contents text.old text.new) result.status.code }
+    ensures does { Tells (λ w. (w ≡ reported refused result.told result.fault) × DoesLine line.now (used R.remaining units.old units.new) w) (used W.contents text.old text.new) result.status.code }
     ensures truth { Tells (LineIsTrue (job_of line.now) (used R.remaining units.old units.new)) (used W.contents text.old text.new) result.status.code }
 {
     law_trees_bound();

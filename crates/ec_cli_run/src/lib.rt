@@ -9,15 +9,17 @@ mod law;
 mod merging;
 mod misfits;
 mod older;
+mod reporting;
 mod running;
 mod usage;
 
-pub use doing::{Report, do_line};
+pub use doing::do_line;
 pub use job::{Status, refuse};
 pub use law::{
     law_a_plan_is_true, law_a_resumed_plan_is_true, law_a_yes_is_true, law_answers_agree,
     law_one_capture_each, law_one_least_each, law_one_output_each,
 };
-pub use merging::{MergeFault, MergeReport, do_merge};
+pub use merging::{MergeFault, do_merge};
+pub use reporting::Report;
 pub use running::{run, run_plain};
 pub use usage::{refuse_memory, refuse_words};

@@ -11,17 +11,18 @@ ghost use Rattle.ec_cli_text.specs.Output.{shown};
 ghost use Rattle.ec_cli_answers.specs.Merged.{IsMergeWritten};
 ghost use Rattle.ec_cert_merge.specs.Certs.{IsProven};
 ghost use Rattle.ec_cli_answers.specs.Told.{HasText, file_bytes};
-ghost use Rattle.ec_cli_run.specs.Merging.{IsTrueMerge, MergeTellsTruth, merge_written, unmerged};
-ghost use Rattle.ec_cli_run.specs.Runs.{Tells};
+ghost use Rattle.ec_cli_run.specs.Merging.{IsTrueMerge, MergeTellsTruth, unmerged};
+ghost use Rattle.ec_cli_run.specs.Runs.{Tells, reported};
 
-use crate::doing::settle_file;
-use crate::job::{Status, refuse, write_status};
+use crate::doing::write_late;
+use crate::job::{Status, refuse};
 use crate::misfits::refuse_misfit;
+use crate::reporting::{Reason, Report, deliver_report};
 use ec_cert::Cert;
 use ec_cert_merge::Misfit;
 use ec_checker::CheckFault;
 use ec_cli_answers::{Told, joined, right_cert, tell_merged};
-use ec_cli_files::{Content, FileFault, Late};
+use ec_cli_files::{Content, Late};
 use ec_cli_inputs::{cert_text, read_alone};
 use ec_cli_refusals::Refusal;
 use ec_loads::Loads;
@@ -51,15 +52,16 @@ impl From<Refusal> for MergeFault {
     }
 }
 
-/// What came of a merge.
-#[derive(Debug, Drop)]
-pub struct MergeReport {
-    /// What was told, or why nothing was.
-    pub told: Result<Told, MergeFault>,
-    /// Why the merged certificate isn't at its path, if it isn't. The text is then the refusal of a failed write.
-    pub fault: Option<FileFault>,
-    /// The exit status of what was written.
-    pub status: Status,
+impl Reason for MergeFault {
+    ghost line = { unmerged };
+
+    fn refuse<W: Write>(self, text: &mut Io<W>) -> Status {
+        match self {
+            MergeFault::Refused(why) => refuse(why, text),
+            MergeFault::Cert { why, .. } => refuse(why, text),
+            MergeFault::Misfit { number, why } => refuse_misfit(why, number, text),
+        }
+    }
 }
 
 /// The certificate at a path, to which the checker says yes.
@@ -172,69 +174,6 @@ fn tell_merge<R: Read, F: Files>(
     merge_for(files, alloc, &inputs.units, paths)
 }
 
-/// Writes why certificates aren't merged.
-fn refuse_merge<W: Write>(why: MergeFault, text: &mut Io<W>) -> Status
-    requires { has_failed text.old ≡ false }
-    ensures { Tells (λ w. w ≡ unmerged why) (used W.contents text.old text.new) result.code }
-{
-    match why {
-        MergeFault::Refused(why) => refuse(why, text),
-        MergeFault::Cert { why, .. } => refuse(why, text),
-        MergeFault::Misfit { number, why } => refuse_misfit(why, number, text),
-    }
-}
-
-/// Writes what is told of merged certificates, or why nothing is, or that their file couldn't be written.
-fn write_merge<W: Write>(
-    told: &Result<Told, MergeFault>,
-    fault: &Option<FileFault>,
-    text: &mut Io<W>,
-) -> Status
-    requires { has_failed text.old ≡ false }
-    ensures { Tells (λ w. w ≡ merge_written told.now fault.now) (used W.contents text.old text.new) result.code }
-{
-    match told {
-        Ok(told) => match fault {
-            Some(_) => refuse(Refusal::Write, text),
-            None => write_status(text, told.answer.text.as_bytes(), told.answer.code),
-        },
-        Err(why) => refuse_merge(*why, text),
-    }
-}
-
-/// Writes what came of a merge, and reports it.
-fn deliver_merge<W: Write>(
-    told: Result<Told, MergeFault>,
-    fault: Option<FileFault>,
-    text: &mut Io<W>,
-) -> MergeReport
-    requires { has_failed text.old ≡ false }
-    ensures told { result.told ≡ told }
-    ensures fault { result.fault ≡ fault }
-    ensures text { Tells (λ w. w ≡ merge_written result.told result.fault) (used W.contents text.old text.new) result.status.code }
-{
-    let status = write_merge(&told, &fault, text);
-    MergeReport {
-        told,
-        fault,
-        status,
-    }
-}
-
-/// Writes the merged certificate, if there is one, and lets it take its place. Why it isn't there.
-fn write_late<F: Files>(
-    alloc: Global,
-    told: &Result<Told, MergeFault>,
-    late: Late<'_, F>,
-) -> Option<FileFault>
-    requires { IfOk told.now (λ t. HasText t.file) }
-{
-    match told {
-        Ok(told) => settle_file(alloc, None, &told.file, late),
-        Err(_) => None,
-    }
-}
-
 /// Merges the certificates at some paths, for the units that the reader has, and tells what they show together, as a search
 /// tells it. The units are read first, then each certificate in turn, and only the units and what was merged so far are
 /// held. The merged certificate is at the path `out`, if there is one, whole, before a byte of the text is written, so it may
@@ -246,24 +185,24 @@ pub fn do_merge<R: Read, W: Write, F: Files>(
     out: Option<&String>,
     units: &mut Io<R>,
     text: &mut Io<W>,
-) -> MergeReport
+) -> Report<MergeFault>
     requires some { 1 ≤ length paths.now }
     requires units { has_failed units.old ≡ false }
     requires text { has_failed text.old ≡ false }
-    ensures does { Tells (λ w. w ≡ merge_written result.told result.fault) (used W.contents text.old text.new) result.status.code }
+    ensures does { Tells (λ w. w ≡ reported unmerged result.told result.fault) (used W.contents text.old text.new) result.status.code }
     ensures truth { Tells (MergeTellsTruth (used R.remaining units.old units.new)) (used W.contents text.old text.new) result.status.code }
 {
     let Some(path) = out else {
         let told = tell_merge(files, alloc, paths, units);
-        return deliver_merge(told, None, text);
+        return deliver_report(told, None, text);
     };
     match Late::new(files, alloc, path.as_str(), Content::Certificate) {
         Ok(late) => {
             let told = tell_merge(files, alloc, paths, units);
-            let fault = write_late(alloc, &told, late);
-            deliver_merge(told, fault, text)
+            let fault = write_late(alloc, None, &told, late);
+            deliver_report(told, fault, text)
         }
-        Err(AllocError) => deliver_merge(
+        Err(AllocError) => deliver_report(
             Err(MergeFault::Refused(Refusal::Unit(UnitFault::OutOfMemory))),
             None,
             text,

@@ -13,7 +13,7 @@ use ec_cli_command::Line;
 use ec_cli_explain::{Asked, quoted_path, shown_text};
 use ec_cli_files::Content;
 use ec_cli_refusals::Refusal;
-use ec_cli_run::{MergeFault, MergeReport, do_merge};
+use ec_cli_run::{MergeFault, Report, do_merge};
 use ec_cli_words::Merging;
 use ec_wire::Io;
 use std::alloc::{AllocError, Global};
@@ -84,7 +84,7 @@ fn tell_report<H: Files + AllocGlobal + Eprint>(
     rt: &H,
     merging: &Merging,
     left: Left<'_>,
-    report: &MergeReport,
+    report: &Report<MergeFault>,
     untold: Option<io::Error>,
 ) {
     tell_untold(rt, untold);

@@ -284,7 +284,7 @@ pub(crate) fn remark<'x, R: Files + AllocGlobal + Eprint>(
     rt: &R,
     line: &'x Line,
     left: Left<'x>,
-    report: &Report,
+    report: &Report<Refusal>,
     untold: Option<io::Error>,
 ) {
     tell_untold(rt, untold);

@@ -7,13 +7,13 @@ use Rattle.ec_cli_run.proofs.merging.do_merge.Goals as goal
 
 pub returns-in_default-clause-truth : goal.returns-in_default-clause-truth
 returns-in_default-clause-truth g c =
-    merge_tells (used g.R.Read.remaining c.args.units.now c.tell_merge-told.new.units) _ _ c.tell_merge-told.result _ _ c.deliver_merge.ensures.told c.tell_merge-told.ensures.truth c.deliver_merge.ensures.text
+    merge_tells (used g.R.Read.remaining c.args.units.now c.tell_merge-told.new.units) _ _ c.tell_merge-told.result _ _ c.deliver_report.ensures.told c.tell_merge-told.ensures.truth c.deliver_report.ensures.text
 
 pub returns-in-Ok-clause-truth : goal.returns-in-Ok-clause-truth
 returns-in-Ok-clause-truth g c =
-    merge_tells (used g.R.Read.remaining c.args.units.now c.tell_merge-told-in-Ok.new.units) _ _ c.tell_merge-told-in-Ok.result _ _ c.deliver_merge-in-Ok.ensures.told c.tell_merge-told-in-Ok.ensures.truth c.deliver_merge-in-Ok.ensures.text
+    merge_tells (used g.R.Read.remaining c.args.units.now c.tell_merge-told-in-Ok.new.units) _ _ c.tell_merge-told-in-Ok.result _ _ c.deliver_report-in-Ok.ensures.told c.tell_merge-told-in-Ok.ensures.truth c.deliver_report-in-Ok.ensures.text
 
 pub returns-in-Err-clause-truth : goal.returns-in-Err-clause-truth
 returns-in-Err-clause-truth g c =
-    merge_tells (used g.R.Read.remaining c.args.units.now c.args.units.now) _ _ (Err (fault.Refused out_of_memory)) _ _ c.deliver_merge-in-Err.ensures.told
-    (λ _. unmerged_truth (before (used g.R.Read.remaining c.args.units.now c.args.units.now)) (fault.Refused out_of_memory) (Err (fault.Refused out_of_memory)) refl) c.deliver_merge-in-Err.ensures.text
+    merge_tells (used g.R.Read.remaining c.args.units.now c.args.units.now) _ _ (Err (fault.Refused out_of_memory)) _ _ c.deliver_report-in-Err.ensures.told
+    (λ _. unmerged_truth (before (used g.R.Read.remaining c.args.units.now c.args.units.now)) (fault.Refused out_of_memory) (Err (fault.Refused out_of_memory)) refl) c.deliver_report-in-Err.ensures.text
