@@ -1,6 +1,6 @@
 //! The line that refuses a certificate which doesn't fit with the first.
 
-ghost use Rattle.std.specs.Prelude.{◌≡◌, ℕ, ◌≤◌, ◌++◌, false, length, codes};
+ghost use Rattle.std.specs.Prelude.{◌≡◌, ◌≤◌, ◌++◌, false, length};
 ghost use Rattle.ec_wire.specs.Stream.{has_failed};
 ghost use Rattle.ec_cli_inputs.specs.Use.{used};
 ghost use Rattle.ec_cli_run.specs.Merging.{misfit_output, misfit_text};

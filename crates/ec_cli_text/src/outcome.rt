@@ -1,6 +1,6 @@
 //! What a plan answers: the best plan that was found, or that there is none.
 
-ghost use Rattle.std.specs.Prelude.{◌≡◌, ◌++◌, length, string_bytes, codes, IfOk, IfSome, OnOk};
+ghost use Rattle.std.specs.Prelude.{◌≡◌, ◌++◌, length, string_bytes, IfOk, IfSome, OnOk};
 ghost use Rattle.ec_cli_text.specs.Lines.{cut_text, level_lines, unit_line, unit_lines};
 ghost use Rattle.ec_cli_text.specs.Outcomes.{HasPlaces, outcome_output, optimal_text as optimal_spec, unproved_text as unproved_spec};
 ghost use Rattle.ec_cli_text.specs.Output.{shown};

@@ -1,4 +1,4 @@
-use Rattle.std.proofs.Common.{rules, ◌∙◌, Option, Some, Err, ap, sym, option_map}
+use Rattle.std.proofs.Common.{rules, ◌∙◌, Option, Err, ap, sym, option_map}
 use Rattle.std.proofs.lemmas.Result.{err_from_is_err_and}
 use Rattle.ec_cli_inputs.specs.declared.input.Given.{Given}
 use Rattle.ec_cli_answers.specs.Told.{IsOfPlan}
