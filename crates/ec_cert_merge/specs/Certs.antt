@@ -54,3 +54,9 @@ abbrev pub IsProved : Outcome → Type 0
 IsProved (outcome.Optimal plan b cert) = Unit {0}
 IsProved (outcome.NoPlan cert) = Unit {0}
 IsProved (outcome.Unproved best order tree by why) = ⊥
+
+-- the outcome has this best plan, if there is one: where it ended without a proof its own, else its certificate's
+abbrev pub HasBest : Option Best → Outcome → Type 0
+HasBest best (outcome.Optimal plan b cert) = cert.best ≡ best
+HasBest best (outcome.NoPlan cert) = cert.best ≡ best
+HasBest best (outcome.Unproved is order tree by why) = is ≡ best

@@ -6,7 +6,7 @@ ghost use Rattle.ec_cert.specs.IsBestPlan.{value_of};
 ghost use Rattle.ec_cert.specs.Shapes.{cert_view, shape_of};
 ghost use Rattle.ec_outcome.specs.declared.search.Cut.TheVariants.{Parts};
 ghost use Rattle.ec_workers.specs.Answers.{Asked, HasCut, HasLevelFrom, HasOrder, HasRules, IsOutcome, is_strong, tree_in, value_in};
-ghost use Rattle.ec_cert_merge.specs.Certs.{IsProved, IsProven};
+ghost use Rattle.ec_cert_merge.specs.Certs.{HasBest, IsProved, IsProven};
 
 use crate::version::version_for;
 use ec_cert::{Cert, is_closed};
@@ -24,6 +24,7 @@ fn unproved(units: &Units, cert: Cert) -> Outcome
     ensures outcome { (asked : Asked) × IsOutcome units.now.units units.now.slots asked result }
     ensures tree { tree_in result ≡ shape_of cert.tree }
     ensures value { value_in result ≡ value_of cert.best }
+    ensures best { HasBest cert.best result }
     ensures order { HasOrder cert.order result }
     ensures rules { HasRules (is_strong (cert_view cert)) result }
     ensures cut { HasCut Parts result }
@@ -68,6 +69,7 @@ fn proved(alloc: Global, units: &Units, cert: Cert) -> Result<Outcome, AllocErro
     ensures outcome { IfOk result (λ o. (asked : Asked) → IsOutcome units.now.units units.now.slots asked o) }
     ensures tree { IfOk result (λ o. tree_in o ≡ shape_of cert.tree) }
     ensures value { IfOk result (λ o. value_in o ≡ value_of cert.best) }
+    ensures best { IfOk result (HasBest cert.best) }
     ensures order { IfOk result (HasOrder cert.order) }
     ensures rules { IfOk result (HasRules (is_strong (cert_view cert))) }
     ensures proof { IfOk result IsProved }
@@ -93,6 +95,7 @@ pub fn outcome_of(alloc: Global, units: &Units, cert: Cert) -> Result<Outcome, A
     ensures outcome { IfOk result (λ o. (asked : Asked) × IsOutcome units.now.units units.now.slots asked o) }
     ensures tree { IfOk result (λ o. tree_in o ≡ shape_of cert.tree) }
     ensures value { IfOk result (λ o. value_in o ≡ value_of cert.best) }
+    ensures best { IfOk result (HasBest cert.best) }
     ensures order { IfOk result (HasOrder cert.order) }
     ensures rules { IfOk result (HasRules (is_strong (cert_view cert))) }
     ensures level { IfOk result (λ o. (l : ℕ) → cert.level ≡ Some l → HasLevelFrom units.now.units units.now.slots l o) }
