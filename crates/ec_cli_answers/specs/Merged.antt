@@ -9,17 +9,17 @@ use Rattle.ec_loads.specs.Search.{open_count}
 use Rattle.ec_outcome.specs.declared.search.Cut.TheVariants as cut
 use Rattle.ec_outcome.specs.declared.search.Outcome.{Outcome}
 use Rattle.ec_workers.specs.Answers.{Asked, HasCut, HasLevelFrom, HasOrder, HasRules, IsOutcome, is_strong, tree_in, value_in}
-use Rattle.ec_cert_merge.specs.Certs.{IsProved, IsProven}
+use Rattle.ec_cert_merge.specs.Certs.{HasBest, IsProved, IsProven}
 use Rattle.ec_cli_text.specs.Output.{Written}
 use Rattle.ec_cli_answers.specs.Planned.{IsOutcomeWritten}
 
 -- what comes of a certificate to which the checker says yes, for the units that the bytes say: it has its tree, its value, its order of the units and its rules, and
--- shows at least its level. Where no leaf of the tree is open it is a proof; else the open leaves are left to other parts
-pub record IsMergeOf (bytes : List ℕ) (us : Units) (o : Outcome) : Type 0 where
+-- shows at least its level; its plan is the certificate's. Where no leaf of the tree is open it is a proof; else the open leaves are left to other parts
+pub record IsMergeOf (bytes : List ℕ) (cert : CertView) (us : Units) (o : Outcome) : Type 0 where
   pub short : length bytes ≤ 1048576
   pub said : reading bytes ≡ Ok (units_view us)
-  pub cert : CertView
   pub right : IsProven us.units us.slots cert
+  pub best : HasBest cert.best o
   pub tree : tree_in o ≡ cert.tree
   pub value : value_in o ≡ value_of cert.best
   pub order : HasOrder cert.order o
@@ -30,6 +30,10 @@ pub record IsMergeOf (bytes : List ℕ) (us : Units) (o : Outcome) : Type 0 wher
   pub asked : Asked
   pub answer : IsOutcome us.units us.slots asked o
 
--- what is written for it, and the certificate that is written before it
+-- what is written for it, and the file that is written before it
+abbrev pub IsWrittenOf : List ℕ → CertView → Written → Option (List ℕ) → Type 0
+IsWrittenOf bytes cert w file = IsOutcomeWritten (IsMergeOf bytes cert) w file
+
+-- so it is for some certificate
 abbrev pub IsMergeWritten : List ℕ → Written → Option (List ℕ) → Type 0
-IsMergeWritten bytes w cert = IsOutcomeWritten (IsMergeOf bytes) w cert
+IsMergeWritten bytes w file = (cert : CertView) × IsWrittenOf bytes cert w file

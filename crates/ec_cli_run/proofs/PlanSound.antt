@@ -106,7 +106,7 @@ resume_true levels workers nodes part bytes text w cert (inl h) =
 resume_true levels workers nodes part bytes text w cert (inr h) = refusal_true bytes w cert h.refusal h.line
 
 pub merge_true : LevelsBound → (bytes : List ℕ) (w : Written) (cert : Option (List ℕ)) → IsMergeWritten bytes w cert → TellsTruth bytes w cert
-merge_true levels bytes w cert h = outcome_true levels h.answer.asked bytes h.units h.found h.level w cert h.answer.said h.answer.answer h.shown h.text h.certificate h.shows
+merge_true levels bytes w cert (_, h) = outcome_true levels h.answer.asked bytes h.units h.found h.level w cert h.answer.said h.answer.answer h.shown h.text h.certificate h.shows
 
 -- the certificate of what was told, and its truth
 pub told_true : LevelsBound → (bytes : List ℕ) (w : Written) → IsSearchTold bytes w → (cert : Option (List ℕ)) × TellsTruth bytes w cert
