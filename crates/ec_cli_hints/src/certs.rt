@@ -114,7 +114,7 @@ pub(crate) fn tell_version(out: &mut Draft, inputs: &Inputs<'_>) {
     let Some(cert) = inputs.cert else {
         return out.add(".\n");
     };
-    if cert.is_empty() {
+    if cert.trim_ascii().is_empty() {
         return out.add(": it is empty.\n");
     }
     out.add(". It begins:\n");

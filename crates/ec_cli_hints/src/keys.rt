@@ -1,4 +1,4 @@
-//! Keys that are missing, of another type, or not known.
+//! Keys that are of another type, or not known.
 
 use crate::inputs::{Doc, value_in};
 use crate::label::{add_in, table_of};
@@ -22,7 +22,7 @@ const SLAVE_KEYS: [Key; 5] = [
 ];
 
 /// The keys of the table at a spot.
-fn keys_at(spot: Spot) -> &'static [Key] {
+pub(crate) fn keys_at(spot: Spot) -> &'static [Key] {
     match (spot.unit, spot.slave) {
         (Some(_), Some(_)) => &SLAVE_KEYS,
         (Some(_), None) => &UNIT_KEYS,
@@ -31,7 +31,7 @@ fn keys_at(spot: Spot) -> &'static [Key] {
 }
 
 /// What a key says, and what it takes.
-fn meaning(key: Key) -> &'static str {
+pub(crate) fn meaning(key: Key) -> &'static str {
     match key {
         Key::TickNs => "tick_ns is the length of a tick in ns, 80 to 1000000000.",
         Key::Slots => "slots is how many slots there are, 1 to 8.",
@@ -51,12 +51,12 @@ fn meaning(key: Key) -> &'static str {
 }
 
 /// Whether a word is one of the keys.
-fn is_key(keys: &[Key], word: &str) -> bool {
+pub(crate) fn is_key(keys: &[Key], word: &str) -> bool {
     keys.iter().any(|key| word == key.as_str())
 }
 
 /// The first key of a table that isn't one of its own.
-fn unknown_in<'a>(table: Option<&'a Table>, keys: &[Key]) -> Option<&'a str> {
+pub(crate) fn unknown_in<'a>(table: Option<&'a Table>, keys: &[Key]) -> Option<&'a str> {
     for word in table?.keys() {
         if !is_key(keys, word.as_str()) {
             return Some(word.as_str());
@@ -109,7 +109,7 @@ fn add_meant(out: &mut Draft, alloc: Global, word: &str, spot: Spot) {
 }
 
 /// Adds the first key at a spot that isn't known there, and which was meant.
-fn add_unknown(out: &mut Draft, alloc: Global, doc: Doc<'_>, spot: Spot) {
+pub(crate) fn add_unknown(out: &mut Draft, alloc: Global, doc: Doc<'_>, spot: Spot) {
     let Some(word) = unknown_in(table_of(doc, spot), keys_at(spot)) else {
         return add_keys(out, spot);
     };
@@ -123,20 +123,6 @@ fn add_unknown(out: &mut Draft, alloc: Global, doc: Doc<'_>, spot: Spot) {
 pub(crate) fn tell_unknown(out: &mut Draft, alloc: Global, doc: Doc<'_>, spot: Spot) {
     add_in(out, doc, spot);
     add_unknown(out, alloc, doc, spot);
-}
-
-/// Tells a key that is missing, and one that isn't known where it should stand.
-pub(crate) fn tell_missing(out: &mut Draft, alloc: Global, doc: Doc<'_>, spot: Spot, key: Key) {
-    add_in(out, doc, spot);
-    out.add("the key ");
-    add_quoted(out, key.as_str().as_bytes());
-    out.add(" is missing.\n");
-    if unknown_in(table_of(doc, spot), keys_at(spot)).is_some() {
-        out.add("Beside it, ");
-        add_unknown(out, alloc, doc, spot);
-    }
-    out.add(meaning(key));
-    out.add('\n');
 }
 
 /// Adds what is wrong with the value of an array of tables.

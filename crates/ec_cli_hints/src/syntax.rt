@@ -2,6 +2,7 @@
 
 use crate::mixed::add_mixed;
 use crate::quoted::add_bytes;
+use crate::slips::{Stop, hint};
 use ec_text_builder::Draft;
 use toml::de::Error;
 
@@ -32,57 +33,33 @@ pub(crate) fn line_at(text: &[u8], line: usize) -> Option<&[u8]> {
     text.split(|byte| *byte == b'\n').nth(line)
 }
 
-/// Whether a line has an odd number of quotes.
-fn lacks_quote(line: &str) -> bool {
-    let mut odd = false;
-    for byte in line.bytes() {
-        if byte == b'"' {
-            odd = !odd;
-        }
-    }
-    odd
-}
-
-/// Whether a line has a comment of another language.
-fn has_slashes(line: &str) -> bool {
-    match line.split_once("//") {
-        Some((before, _)) => !lacks_quote(before),
+/// Whether a text is that of a certificate.
+fn is_cert(text: &str) -> bool {
+    match text.strip_prefix("ecplan ") {
+        Some(rest) => rest.starts_with(|letter: char| letter.is_ascii_digit()),
         None => false,
     }
 }
 
-/// What was likely meant by a line at which the reader stopped.
-fn hint(line: &str, message: &str) -> &'static str {
-    let word = line.trim();
-    if word.starts_with("[unit]") {
-        return "Each unit begins with [[unit]], in double brackets.\n";
+/// The line of a text at which the reader stopped with a message, from 0, and what of it stands behind so many bytes.
+fn stop_at<'a>(text: &'a str, line: usize, count: usize, message: &'a str) -> Stop<'a> {
+    let behind = text.get(count..).unwrap_or("");
+    Stop {
+        line: text.split('\n').nth(line).unwrap_or(""),
+        rest: behind.split('\n').next().unwrap_or(""),
+        message,
     }
-    if word.starts_with("[unit.slave]") || word.starts_with("[slave]") {
-        return "Each slave begins with [[unit.slave]], in double brackets.\n";
-    }
-    if has_slashes(line) || word.starts_with("/*") || word.starts_with(';') {
-        return "A comment begins with #.\n";
-    }
-    if lacks_quote(line) {
-        return "A text has a quote before and behind it, as name = \"press-4\": one is missing.\n";
-    }
-    if message.contains("duplicate") {
-        return "A key stands once in its table: take one of the two lines out.\n";
-    }
-    if !word.is_empty() && !word.starts_with('[') && !word.contains('=') {
-        return "A line is key = value, or a header in brackets.\n";
-    }
-    if message.starts_with("invalid value") {
-        return "A value is a whole number, or a text in quotes, as name = \"press-4\".\n";
-    }
-    ""
 }
 
 /// Adds what was likely meant where the reader stopped at a line, from 0.
-fn add_hint(out: &mut Draft, text: &str, at: usize, message: &str) {
-    let line = text.split('\n').nth(at).unwrap_or("");
-    if !add_mixed(out, text, at, line, message) {
-        out.add(hint(line, message));
+fn add_hint(out: &mut Draft, text: &str, at: usize, stop: Stop<'_>) {
+    if is_cert(text) {
+        return out.add(
+            "It is a certificate: name it behind --cert, and the file of the units by itself.\n",
+        );
+    }
+    if !add_mixed(out, text, at, stop.line, stop.message) {
+        out.add(hint(stop));
     }
 }
 
@@ -105,7 +82,8 @@ fn tell_syntax(out: &mut Draft, text: &[u8], error: Error) {
     let Ok(text) = std::str::from_utf8(text) else {
         return out.add("The file is not UTF-8: save it as plain text in UTF-8.\n");
     };
-    add_hint(out, text, at.line, error.message());
+    let stop = stop_at(text, at.line, span.start, error.message());
+    add_hint(out, text, at.line, stop);
 }
 
 /// Tells that the file isn't TOML, and where and why its reader stopped, if that is known.

@@ -2,7 +2,7 @@
 
 use crate::certs::LineFault;
 use crate::inputs::{Doc, Inputs};
-use crate::{areas, certs, checks, keys, paths, periods, places, ranges, syntax, units};
+use crate::{areas, certs, checks, keys, missing, paths, periods, places, ranges, syntax, units};
 use ec_cert_text::CertFault;
 use ec_checker::CheckFault;
 use ec_cli_refusals::Refusal;
@@ -25,7 +25,7 @@ fn tell_units(
     match fault {
         UnitFault::OutOfMemory => paths::tell_memory(out),
         UnitFault::NotToml => syntax::tell_not_toml(out, inputs.units, error),
-        UnitFault::Missing(spot, key) => keys::tell_missing(out, alloc, doc, spot, key),
+        UnitFault::Missing(spot, key) => missing::tell_missing(out, alloc, doc, spot, key),
         UnitFault::WrongType(spot, key) => keys::tell_type(out, doc, spot, key),
         UnitFault::UnknownKey(spot) => keys::tell_unknown(out, alloc, doc, spot),
         UnitFault::NoUnits => units::tell_none(out),

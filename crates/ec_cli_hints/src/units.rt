@@ -67,14 +67,22 @@ pub(crate) fn tell_same_name(out: &mut Draft, doc: Doc<'_>, spot: Spot) {
     out.add(".\nGive each unit a name of its own.\n");
 }
 
+/// What to do with a unit that has so many slaves, too few or too many.
+fn other_count(count: usize) -> &'static str {
+    match count {
+        0..=8 =>
+            "Each slave begins with a line [[unit.slave]], below the [[unit]] that it belongs to.\n",
+        9..=16 => "Make two units of it.\n",
+        _ => "Make several units of it.\n",
+    }
+}
+
 /// Tells how many slaves a unit has.
 pub(crate) fn tell_slaves(out: &mut Draft, doc: Doc<'_>, spot: Spot) {
     let count = values_in(doc.unit(spot.unit), Key::Slave).len();
     add_in(out, doc, spot);
     out.add(format_args!("there are {count} slaves, but a unit has 1 to 8.\n"));
-    out.add(
-        "Each slave begins with a line [[unit.slave]], below the [[unit]] that it belongs to.\n",
-    );
+    out.add(other_count(count));
 }
 
 /// The most process bytes of a unit.

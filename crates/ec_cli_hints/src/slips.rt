@@ -1,0 +1,139 @@
+//! What was likely meant by a line of a unit text at which the TOML reader stopped.
+
+/// Where the reader stopped.
+#[derive(Clone, Copy)]
+pub(crate) struct Stop<'a> {
+    /// The line.
+    pub line: &'a str,
+    /// What stands in the line from there on.
+    pub rest: &'a str,
+    /// Why, in the reader's words.
+    pub message: &'a str,
+}
+
+/// Whether a line has an odd number of quotes.
+fn lacks_quote(line: &str) -> bool {
+    let mut odd = false;
+    for byte in line.bytes() {
+        if byte == b'"' {
+            odd = !odd;
+        }
+    }
+    odd
+}
+
+/// Whether a line has a comment of another language.
+fn has_slashes(line: &str) -> bool {
+    match line.split_once("//") {
+        Some((before, _)) => !lacks_quote(before),
+        None => false,
+    }
+}
+
+/// What stands in a line before its comment, if it has one.
+fn before_comment(line: &str) -> &str {
+    match line.split_once('#') {
+        Some((before, _)) => before.trim(),
+        None => line.trim(),
+    }
+}
+
+/// Whether a character is a quote that TOML doesn't know.
+fn is_curly(letter: char) -> bool {
+    matches!(
+        letter,
+        '\u{2018}'..='\u{201f}' | '\u{ab}' | '\u{bb}' | '\u{b4}' | '`'
+    )
+}
+
+/// Whether a key or a value begins with a quote that TOML doesn't know, or a text ends with one.
+fn has_curly(stop: Stop<'_>) -> bool {
+    let letter = match stop.message {
+        message if message.starts_with("invalid string") => {
+            before_comment(stop.line).chars().next_back()
+        }
+        message if message.starts_with("invalid") => stop.rest.chars().next(),
+        _ => None,
+    };
+    letter.is_some_and(is_curly)
+}
+
+/// Whether a value has nothing but digits and what is written between them.
+fn is_spaced_number(value: &str) -> bool {
+    for byte in value.bytes() {
+        if !matches!(byte, b'0'..=b'9' | b' ' | b'.' | b'_') {
+            return false;
+        }
+    }
+    !value.is_empty()
+}
+
+/// Whether a value is a number with a 0 in front.
+fn has_zero(value: &str) -> bool {
+    let digits = value.trim_start_matches(['+', '-']);
+    let mut letters = digits.bytes();
+    letters.next() == Some(b'0') && matches!(letters.next(), Some(b'0'..=b'9'))
+}
+
+/// What was likely meant by something that is no value.
+fn hint_of_value(rest: &str) -> &'static str {
+    let value = before_comment(rest);
+    if has_zero(value) {
+        return "A number has no 0 in front.\n";
+    }
+    if is_spaced_number(value) {
+        return "A number is written 1000000 or 1_000_000.\n";
+    }
+    "A value is a whole number, or a text in quotes, as name = \"press-4\".\n"
+}
+
+/// What was likely meant by a word, where the line has the signs of another language.
+fn hint_of_signs(stop: Stop<'_>, word: &str) -> Option<&'static str> {
+    if word.starts_with("[unit]") {
+        return Some("Each unit begins with [[unit]], in double brackets.\n");
+    }
+    if word.starts_with("[unit.slave]") || word.starts_with("[slave]") {
+        return Some("Each slave begins with [[unit.slave]], in double brackets.\n");
+    }
+    if has_slashes(stop.line) || word.starts_with("/*") || word.starts_with(';') {
+        return Some("A comment begins with #.\n");
+    }
+    if has_curly(stop) {
+        return Some("Take the plain quote \".\n");
+    }
+    if lacks_quote(stop.line) {
+        return Some(
+            "A text has a quote before and behind it, as name = \"press-4\": one is missing.\n",
+        );
+    }
+    None
+}
+
+/// What was likely meant by what stands behind the value or the header of a line.
+fn hint_behind(word: &str) -> &'static str {
+    if word.starts_with('[') {
+        return "A header stands alone on its line, without , or ; behind it.\n";
+    }
+    "A line has one key and its value, without , or ; behind it. A number is written 1000000 or 1_000_000.\n"
+}
+
+/// What was likely meant by a line at which the reader stopped; empty where that isn't known.
+pub(crate) fn hint(stop: Stop<'_>) -> &'static str {
+    let word = stop.line.trim();
+    if let Some(meant) = hint_of_signs(stop, word) {
+        return meant;
+    }
+    if stop.message.contains("duplicate") {
+        return "A key stands once in its table: take one of the two lines out.\n";
+    }
+    if stop.message.starts_with("unexpected key or value") {
+        return hint_behind(word);
+    }
+    if !word.is_empty() && !word.starts_with('[') && !word.contains('=') {
+        return "A line is key = value, or a header in brackets.\n";
+    }
+    if stop.message.starts_with("invalid value") {
+        return hint_of_value(stop.rest);
+    }
+    ""
+}
