@@ -11,6 +11,13 @@ pub(crate) struct Stop<'a> {
     pub message: &'a str,
 }
 
+/// How a number is written.
+const NUMBER: &str = "A number is written 1000000 or 1_000_000.\n";
+
+/// What is told of a text whose quotes aren't whole.
+const QUOTES: &str =
+    "A text has a quote before and behind it, as name = \"press-4\": one is missing.\n";
+
 /// Whether a line has an odd number of quotes.
 fn lacks_quote(line: &str) -> bool {
     let mut odd = false;
@@ -82,7 +89,7 @@ fn hint_of_value(rest: &str) -> &'static str {
         return "A number has no 0 in front.\n";
     }
     if is_spaced_number(value) {
-        return "A number is written 1000000 or 1_000_000.\n";
+        return NUMBER;
     }
     "A value is a whole number, or a text in quotes, as name = \"press-4\".\n"
 }
@@ -102,9 +109,7 @@ fn hint_of_signs(stop: Stop<'_>, word: &str) -> Option<&'static str> {
         return Some("Take the plain quote \".\n");
     }
     if lacks_quote(stop.line) {
-        return Some(
-            "A text has a quote before and behind it, as name = \"press-4\": one is missing.\n",
-        );
+        return Some(QUOTES);
     }
     None
 }
@@ -115,6 +120,17 @@ fn hint_behind(word: &str) -> &'static str {
         return "A header stands alone on its line, without , or ; behind it.\n";
     }
     "A line has one key and its value, without , or ; behind it. A number is written 1000000 or 1_000_000.\n"
+}
+
+/// What was likely meant by a number or a text that isn't whole; empty where that isn't known.
+fn hint_of_rest(stop: Stop<'_>) -> &'static str {
+    if stop.message.contains("between digits") {
+        return NUMBER;
+    }
+    if stop.message.starts_with("invalid string") && stop.rest.trim().is_empty() {
+        return QUOTES;
+    }
+    ""
 }
 
 /// What was likely meant by a line at which the reader stopped; empty where that isn't known.
@@ -135,5 +151,5 @@ pub(crate) fn hint(stop: Stop<'_>) -> &'static str {
     if stop.message.starts_with("invalid value") {
         return hint_of_value(stop.rest);
     }
-    ""
+    hint_of_rest(stop)
 }
