@@ -225,7 +225,9 @@ fn minutes_arg<'a>(alloc: Global) -> Arg<'a> {
         .long("minutes")
         .value_name("M")
         .value_parser(value_parser!(u32).range(1..=10_000))
-        .help("After how many minutes the search ends, 1 to 10000, if it hasn't ended before")
+        .help(
+            "After how many minutes the search ends, 1 to 10000, if it hasn't ended before; ten million nodes end most searches in seconds, so minutes end only long ones",
+        )
 }
 
 /// Whether a search goes by the strong rules.
@@ -234,7 +236,7 @@ fn strong_arg<'a>(alloc: Global) -> Arg<'a> {
         .long("strong")
         .action(ArgAction::SetTrue)
         .help(
-            "Search by stronger rules, which prove most lines sooner, and some later: try both; the certificate is of version 4",
+            "Search by stronger rules, which prove most lines sooner, and some not at all: try both; the certificate is of version 4",
         )
 }
 
