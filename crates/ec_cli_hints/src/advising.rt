@@ -1,7 +1,7 @@
 //! What to do after a search: whether its plan fits, what would help one without a proof, and whether its certificate can be read
 //! again.
 
-use crate::cycle::Cycle;
+use crate::cycle::{Cycle, USE};
 use crate::quoted::{add_command, add_path};
 use ec_outcome::{Cut, Ending};
 use ec_text_builder::Draft;
@@ -10,11 +10,8 @@ use std::alloc::{AllocError, Global};
 /// The most bytes of a certificate that are read.
 const MOST_READ: u64 = 67_108_864;
 
-/// The nodes that a search may visit where no number is asked for.
-const NODES: u64 = 1_000_000;
-
-/// A node takes at most so many bytes of a certificate, in most searches.
-const BYTES_OF_NODE: u64 = 8;
+/// A node takes at most so many bytes of a certificate, in most searches: by the strong rules, and else.
+const BYTES_OF_NODE: (u64, u64) = (13, 10);
 
 /// What to try where a search didn't go by the strong rules.
 const STRONGER: &str =
@@ -31,6 +28,8 @@ pub struct Written<'a> {
     pub path: &'a str,
     /// How many bytes it has.
     pub bytes: u64,
+    /// How many nodes a search that goes on with it is asked for, if it is for as many as before.
+    pub nodes: u32,
 }
 
 /// What became of the certificate of a search or of a merge.
@@ -243,23 +242,32 @@ impl Onward {
     }
 }
 
-/// Adds how many nodes one may go on with, where those that are visited if none are asked for may make a certificate that can't
-/// be read.
-fn add_room(out: &mut Draft, bytes: u64) {
-    let nodes = MOST_READ.saturating_sub(bytes) / BYTES_OF_NODE / 1000 * 1000;
-    if nodes >= NODES {
+/// Adds how many nodes one may go on with, where as many as before may make a certificate that can't be read.
+fn add_room(out: &mut Draft, cert: Written<'_>, strong: bool, asked: Asked) {
+    let Written { bytes, nodes, .. } = cert;
+    let each = if strong {
+        BYTES_OF_NODE.0
+    } else {
+        BYTES_OF_NODE.1
+    };
+    let room = MOST_READ.saturating_sub(bytes) / each / 1000 * 1000;
+    if room >= u64::from(nodes) {
         return;
     }
     out.add(format_args!("It has {bytes} bytes, and at most {MOST_READ} are read: "));
-    if nodes == 0 {
-        out.add("what goes on with it will have more.\n");
-    } else {
-        out.add(format_args!("go on with --nodes {nodes} at most.\n"));
+    match asked {
+        _ if room == 0 => out.add("what goes on with it may have more.\n"),
+        Asked::Merged => out.add(format_args!(
+            "go on with {room} nodes or less, in all parts together.\n"
+        )),
+        Asked::Whole | Asked::Most | Asked::Part => {
+            out.add(format_args!("go on with --nodes {room} or less.\n"));
+        }
     }
 }
 
 /// Adds how one goes on from a certificate that can be read.
-fn add_onward(out: &mut Draft, filed: Filed<'_>, asked: Asked) {
+fn add_onward(out: &mut Draft, filed: Filed<'_>, strong: bool, asked: Asked) {
     let onward = Onward::of(asked);
     let (front, behind) = onward.command;
     match filed {
@@ -268,7 +276,7 @@ fn add_onward(out: &mut Draft, filed: Filed<'_>, asked: Asked) {
             add_command(out, front, cert.path, behind);
             out.add(onward.does);
             if !matches!(asked, Asked::Part) {
-                add_room(out, cert.bytes);
+                add_room(out, cert, strong, asked);
             }
         }
         Filed::Missing | Filed::TooLarge => {}
@@ -299,15 +307,7 @@ fn smaller(asked: Asked) -> &'static str {
     }
 }
 
-/// The end with the level that the bytes of the line alone give, where that is greater.
-fn raised(ending: Ending, cycle: Cycle) -> Ending {
-    Ending {
-        level: ending.level.max(cycle.mean.cost),
-        ..ending
-    }
-}
-
-/// Adds what an end without a proof is good for, and what would help.
+/// Adds what is proved of each plan, what would help, and how one goes on.
 fn add_unproved(out: &mut Draft, ending: Ending, filed: Filed<'_>, asked: Asked) {
     add_level(out, ending);
     if is_helped(ending, filed, asked) {
@@ -315,33 +315,51 @@ fn add_unproved(out: &mut Draft, ending: Ending, filed: Filed<'_>, asked: Asked)
     }
     out.add(other_rules(ending, asked));
     if !filed.is_too_large() {
-        add_onward(out, filed, asked);
+        add_onward(out, filed, ending.strong, asked);
     }
 }
 
-/// Adds what an end without a proof is good for, what is known of each plan of this line, and what would help.
-fn add_ending(
-    out: &mut Draft,
-    ending: Ending,
-    cycle: Option<Cycle>,
-    filed: Filed<'_>,
-    asked: Asked,
-) {
-    if ending.best.is_some() {
-        out.add("The plan is legal and can be used as it stands.\n");
-    }
-    let Some(cycle) = cycle else {
+/// Adds that the bytes of the line alone show a plan to be the best.
+fn add_settled(out: &mut Draft, level: u64) {
+    out.add(format_args!(
+        "No plan's busiest tick costs less than {level} bytes, so none is better.\nIt is not told as optimal, since its certificate does not show that. No longer search is needed.\n"
+    ));
+}
+
+/// Adds what is known of each plan of a line, with the level that its bytes alone give where that is greater, what would help, and
+/// how one goes on.
+fn add_known(out: &mut Draft, ending: Ending, cycle: Cycle, filed: Filed<'_>, asked: Asked) {
+    let level = cycle.mean.cost;
+    if level <= ending.level {
         return add_unproved(out, ending, filed, asked);
-    };
-    let known = raised(ending, cycle);
-    cycle.add_fit(out, ending.best, known.level);
+    }
+    cycle.add_mean(out);
+    if ending.best == Some(level) {
+        return add_settled(out, level);
+    }
+    add_unproved(out, Ending { level, ..ending }, filed, asked);
+}
+
+/// Adds what an end without a proof is good for on a line, and what would help.
+fn add_ending(out: &mut Draft, ending: Ending, cycle: Cycle, filed: Filed<'_>, asked: Asked) {
     if cycle.is_overfull() {
-        return cycle.add_overfull(out);
+        return cycle.add_none(out);
     }
-    if ending.level < known.level {
-        cycle.add_mean(out);
+    if let Some(best) = ending.best {
+        cycle.add_use(out, best);
     }
-    add_unproved(out, known, filed, asked);
+    if cycle.is_beyond(ending.level.max(cycle.mean.cost)) {
+        return cycle.add_beyond(out, ending.level.max(cycle.mean.cost));
+    }
+    add_known(out, ending, cycle, filed, asked);
+}
+
+/// Adds what is known of an end without a proof where the line isn't known.
+fn add_alone(out: &mut Draft, ending: Ending, filed: Filed<'_>, asked: Asked) {
+    if ending.best.is_some() {
+        out.add(USE);
+    }
+    add_unproved(out, ending, filed, asked);
 }
 
 /// What to do after a search, or after certificates were merged, in a few sentences, each a line. Of any: whether the plan fits
@@ -357,10 +375,15 @@ pub fn counsel(
 ) -> Result<String, AllocError> {
     let mut out = Draft::new(alloc);
     match (found, cycle) {
-        (Found::Unproved(ending), cycle) => add_ending(&mut out, ending, cycle, filed, asked),
-        (Found::Least(busiest), Some(cycle)) => cycle.add_fit(&mut out, Some(busiest), busiest),
+        (Found::Unproved(ending), Some(cycle)) => {
+            add_ending(&mut out, ending, cycle, filed, asked);
+        }
+        (Found::Unproved(ending), None) => add_alone(&mut out, ending, filed, asked),
+        (Found::Least(busiest), Some(cycle)) if cycle.is_beyond(busiest) => {
+            cycle.add_beyond(&mut out, busiest);
+        }
         (Found::NoPlan, Some(cycle)) => cycle.add_none(&mut out),
-        (Found::Least(_) | Found::NoPlan, None) => {}
+        (Found::Least(_) | Found::NoPlan, _) => {}
     }
     if filed.is_too_large() {
         add_size(&mut out, filed);

@@ -1,14 +1,18 @@
-//! What the units say of each plan, before one is looked for.
+//! What is known of each plan of a line by its units alone.
 
 use ec_bounds::{MeanTick, mean_tick};
 use ec_text_builder::Draft;
 use ec_units::Units;
+use ec_wire::fits;
 
 /// What a byte takes on the wire, in ns (IEEE 802.3, 100 Mbit/s).
 const NS_OF_BYTE: u64 = 80;
 
 /// The most slots of a line.
 const MOST_SLOTS: u8 = 8;
+
+/// What is told of a legal plan.
+pub(crate) const USE: &str = "The plan is legal and can be used as it stands.\n";
 
 /// The length of a tick in ns, the frames that one may have, and what some tick of each plan has at least.
 #[derive(Clone, Copy)]
@@ -28,33 +32,28 @@ impl Cycle {
         }
     }
 
-    /// How many ns these bytes are too many for a tick, if they are: what they take on the wire.
-    fn beyond(self, bytes: u64) -> Option<u64> {
-        let ns = bytes.saturating_mul(NS_OF_BYTE);
-        if ns > u64::from(self.tick_ns) {
-            Some(ns)
-        } else {
-            None
-        }
+    /// Whether so many bytes take longer on the wire than a tick.
+    pub(crate) fn is_beyond(self, bytes: u64) -> bool {
+        !fits(bytes, self.tick_ns)
     }
 
-    /// Adds that a plan does not fit into its ticks, where it doesn't, by what its busiest tick costs, if there is one, and by what
-    /// that of each plan costs at least.
-    pub(crate) fn add_fit(self, out: &mut Draft, busiest: Option<u64>, least: u64) {
-        let tick = self.tick_ns;
-        if let Some(ns) = self.beyond(least) {
-            return out.add(format_args!(
-                "Some tick of each plan takes at least {ns} ns on the wire, and tick_ns = {tick}: no plan of this line fits.\n"
-            ));
+    /// Adds what a plan is good for whose busiest tick costs so many bytes.
+    pub(crate) fn add_use(self, out: &mut Draft, busiest: u64) {
+        if !self.is_beyond(busiest) {
+            return out.add(USE);
         }
-        let Some(busiest) = busiest else {
-            return;
-        };
-        if let Some(ns) = self.beyond(busiest) {
-            out.add(format_args!(
-                "Its busiest tick takes {ns} ns on the wire, and tick_ns = {tick}: this plan does not fit.\n"
-            ));
-        }
+        let (ns, tick) = (busiest.saturating_mul(NS_OF_BYTE), self.tick_ns);
+        out.add(format_args!(
+            "The plan is legal, but does not fit: its busiest tick takes {ns} ns on the wire, and tick_ns = {tick}.\n"
+        ));
+    }
+
+    /// Adds that no plan fits, where some tick of each costs so many bytes, and what would help.
+    pub(crate) fn add_beyond(self, out: &mut Draft, least: u64) {
+        let (ns, tick) = (least.saturating_mul(NS_OF_BYTE), self.tick_ns);
+        out.add(format_args!(
+            "Some tick of each plan takes at least {ns} ns on the wire, and tick_ns = {tick}: no plan of this line fits.\nA longer tick, longer periods or fewer bytes would help.\n"
+        ));
     }
 
     /// Adds what some tick of each plan carries at least.
@@ -75,24 +74,34 @@ impl Cycle {
         self.mean.frames > u64::from(self.slots)
     }
 
-    /// Adds that there is no plan, where some tick of each has more frames than there are slots.
-    pub(crate) fn add_overfull(self, out: &mut Draft) {
+    /// Adds why there is no plan.
+    fn add_reason(self, out: &mut Draft) {
+        if !self.is_overfull() {
+            return out.add("Each plan has a frame that is too full.\n");
+        }
         let MeanTick { bytes, frames, .. } = self.mean;
         let slots = self.slots;
         out.add(format_args!(
-            "Some tick of each plan carries at least {bytes} bytes of units: at least {frames} frames, and slots = {slots}. So there is no plan.\nA longer search may show that with a certificate.\n"
+            "Some tick of each plan carries at least {bytes} bytes of units: at least {frames} frames, and slots = {slots}. So there is no plan.\n"
         ));
     }
 
     /// Adds why there is no plan, and what would help.
     pub(crate) fn add_none(self, out: &mut Draft) {
-        let slots = self.slots;
-        if slots < MOST_SLOTS {
+        self.add_reason(out);
+        let (frames, slots) = (self.mean.frames, self.slots);
+        if frames > u64::from(MOST_SLOTS) {
+            out.add("No number of slots is enough: fewer bytes or longer periods would help.\n");
+        } else if self.is_overfull() {
             out.add(format_args!(
-                "Each plan has a frame that is too full: raise slots = {slots}, to {MOST_SLOTS} at most, or make units smaller.\n"
+                "Raise slots = {slots}, to {frames} at least, or have fewer bytes or longer periods.\n"
+            ));
+        } else if slots < MOST_SLOTS {
+            out.add(format_args!(
+                "Raise slots = {slots}, to {MOST_SLOTS} at most, or have fewer bytes or longer periods.\n"
             ));
         } else {
-            out.add("Each plan has a frame that is too full: make units smaller.\n");
+            out.add("Fewer bytes or longer periods would help.\n");
         }
     }
 }

@@ -121,6 +121,21 @@ fn tell_after<R: AllocGlobal + Eprint>(rt: &R, target: Target<'_>, fault: &After
     }
 }
 
+/// Writes the units with the places of a plan, if one was found; tells where none was. None where nothing is missing then.
+fn fill_found<R: Files + AllocGlobal + Eprint>(
+    rt: &R,
+    units: &[u8],
+    plan: Option<&Plan>,
+    path: &str,
+    is_own: bool,
+) -> Option<Result<(), AfterFault>> {
+    let Some(plan) = plan else {
+        tell_path(rt, "The places are not written to", path, NO_PLAN);
+        return None;
+    };
+    Some(fill(rt, units, plan, path, is_own))
+}
+
 /// Writes what a line wants after the text of its job: the picture of costs, the units with the places of a plan that was
 /// found, and what is handed over with frames. Whether nothing is missing; tells what is, and where `is_told` says so where each
 /// whole file lies.
@@ -132,12 +147,14 @@ pub(crate) fn write_after<R: Files + AllocGlobal + Eprint>(
     is_own: bool,
     is_told: bool,
 ) -> bool {
-    let plan = told.plan();
     let (path, content, written) = match line {
         Line::Cost {
             svg: Some(path),
             ..
-        } => (path, Content::Picture, draw(rt, units, plan, path.as_str())),
+        } => {
+            let drawn = draw(rt, units, told.plan(), path.as_str());
+            (path.as_str(), Content::Picture, Some(drawn))
+        }
         Line::Plan {
             places: Some(path),
             ..
@@ -145,28 +162,17 @@ pub(crate) fn write_after<R: Files + AllocGlobal + Eprint>(
         | Line::Resume {
             places: Some(path),
             ..
-        } => match plan {
-            Some(plan) => (
-                path,
-                Content::Units,
-                fill(rt, units, plan, path.as_str(), is_own),
-            ),
-            None => {
-                tell_path(rt, "The places are not written to", path.as_str(), NO_PLAN);
-                return true;
-            }
-        },
+        } => {
+            let filled = fill_found(rt, units, told.plan(), path.as_str(), is_own);
+            (path.as_str(), Content::Units, filled)
+        }
         Line::Frames { .. } => return hand_over(rt, line, units, told, is_told),
         _ => return true,
     };
-    let target = Target {
-        path: path.as_str(),
-        content,
-    };
     match &written {
-        Ok(()) if is_told => tell_whole(rt, target),
-        Ok(()) => {}
-        Err(fault) => tell_after(rt, target, fault),
+        Some(Ok(())) if is_told => tell_whole(rt, Target { path, content }),
+        Some(Ok(())) | None => {}
+        Some(Err(fault)) => tell_after(rt, Target { path, content }, fault),
     }
-    written.is_ok()
+    !matches!(written, Some(Err(_)))
 }

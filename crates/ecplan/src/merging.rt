@@ -6,7 +6,7 @@ ghost use Rattle.ec_cli_words.specs.Merges.{MergingFits};
 use crate::kept::Kept;
 use crate::opening::open_units;
 use crate::output::{Output, refuse_line, tell_untold};
-use crate::remark::{Delivered, Left, tell_end, tell_refusal};
+use crate::remark::{Delivered, Left, Wanted, tell_end, tell_refusal};
 use crate::targets::{Target, is_kept, target_at};
 use ec_cert_merge::Misfit;
 use ec_cli_command::Line;
@@ -24,6 +24,9 @@ use std::rt::Files;
 /// What to do with certificates that don't fit together.
 const ONE_LINE_OF_DESCENT: &str =
     "Merge only certificates that come from one certificate: go on from one, with resume --cert PATH --part I/N.\n";
+
+/// The nodes that a search visits where no number is asked for.
+const USUAL_NODES: u32 = 1_000_000;
 
 /// The path of the merged certificate, and what is written there.
 fn target_of(merging: &Merging) -> Option<Target<'_>> {
@@ -96,7 +99,11 @@ fn tell_report<H: Files + AllocGlobal + Eprint>(
                 code: report.status.code,
                 untold,
             };
-            tell_end(rt, told, left.units, delivered, Some(Asked::Merged));
+            let wanted = Wanted {
+                asked: Asked::Merged,
+                nodes: USUAL_NODES,
+            };
+            tell_end(rt, told, left.units, delivered, Some(wanted));
         }
         Err(MergeFault::Refused(why)) => {
             let line = Line::Cost {

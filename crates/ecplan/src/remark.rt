@@ -168,11 +168,13 @@ pub(crate) fn tell_refusal<'x, R: Files + AllocGlobal + Eprint>(
     }
 }
 
-/// What became of a certificate that was to be written, if it was, and isn't at its path for this reason.
+/// What became of a certificate that was to be written, if it was, and isn't at its path for this reason; `nodes` are those that a
+/// search is asked for that goes on with it as before.
 fn filed_at<'x, R: Files>(
     files: &R,
     target: Option<Target<'x>>,
     fault: Option<&FileFault>,
+    nodes: u32,
 ) -> Filed<'x> {
     let Some(Target { path, .. }) = target else {
         return Filed::Unasked;
@@ -186,7 +188,7 @@ fn filed_at<'x, R: Files>(
         Ok(found) => found.len(),
         Err(_) => 0,
     };
-    Filed::There(Written { path, bytes })
+    Filed::There(Written { path, bytes, nodes })
 }
 
 /// Whether a search that was cut short took as many nodes or minutes as may be asked for.
@@ -198,15 +200,26 @@ fn is_most(effort: &Effort, cut: Cut) -> bool {
     }
 }
 
+/// What was asked of a search or a merge, and how many nodes a search is asked for that goes on as before.
+#[derive(Clone, Copy)]
+pub(crate) struct Wanted {
+    pub asked: Asked,
+    pub nodes: u32,
+}
+
 /// What a search was asked for; none of a line that searches for nothing.
-fn asked_of(line: &Line, told: &Told) -> Option<Asked> {
+fn wanted_of(line: &Line, told: &Told) -> Option<Wanted> {
     let (Line::Plan { effort, .. } | Line::Resume { effort, .. }) = line else {
         return None;
     };
-    Some(match (line, &told.ending) {
+    let asked = match (line, &told.ending) {
         (Line::Resume { part, .. }, _) if part.count > 1 => Asked::Part,
         (_, Some(ending)) if is_most(effort, ending.cut) => Asked::Most,
         _ => Asked::Whole,
+    };
+    Some(Wanted {
+        asked,
+        nodes: effort.nodes,
     })
 }
 
@@ -261,16 +274,16 @@ pub(crate) fn tell_end<R: Files + AllocGlobal + Eprint>(
     told: &Told,
     units: &[u8],
     delivered: Delivered<'_>,
-    asked: Option<Asked>,
+    wanted: Option<Wanted>,
 ) {
     tell_file(rt, delivered);
-    let Some(asked) = asked else {
+    let Some(Wanted { asked, nodes }) = wanted else {
         return;
     };
     if delivered.code == 4 {
         tell_text(rt, UNTOLD, told.answer.text.as_str());
     }
-    let filed = filed_at(rt, delivered.target, delivered.fault);
+    let filed = filed_at(rt, delivered.target, delivered.fault, nodes);
     let (alloc, found) = (rt.alloc(), found_of(told));
     if let Ok(text) = advice(alloc, found, cycle_of(alloc, units), filed, asked) {
         let _ = rt.eprint(text.as_str());
@@ -299,5 +312,5 @@ pub(crate) fn remark<'x, R: Files + AllocGlobal + Eprint>(
         code: report.status.code,
         untold,
     };
-    tell_end(rt, told, left.units, delivered, asked_of(line, told));
+    tell_end(rt, told, left.units, delivered, wanted_of(line, told));
 }

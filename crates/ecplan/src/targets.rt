@@ -4,7 +4,7 @@ use crate::faults::unwritten;
 use crate::telling::{tell_path, tell_reason};
 use ec_cli_command::Line;
 use ec_cli_explain::quoted_path;
-use ec_cli_files::{Content, Late, are_one, reason_to_keep};
+use ec_cli_files::{Content, KeepReason, Late, are_one, reason_to_keep};
 use std::alloc::{AllocError, Global};
 use std::rt::Files;
 
@@ -76,18 +76,29 @@ pub(crate) fn targets_of(line: &Line) -> [Option<Target<'_>>; 4] {
     }
 }
 
-/// Whether what stands at a path is left as it is; tells why.
-pub(crate) fn is_kept<H: Files + AllocGlobal + Eprint>(rt: &H, target: Option<Target<'_>>) -> bool {
+/// Whether what stands at a path is left as it is; tells why. The units' own file is judged as the units are, and kept only where
+/// standard output goes to it.
+fn is_left<H: Files + AllocGlobal + Eprint>(
+    rt: &H,
+    target: Option<Target<'_>>,
+    is_own: bool,
+) -> bool {
     let Some(Target { path, content }) = target else {
         return false;
     };
     match reason_to_keep(rt, rt.alloc(), path, content) {
+        Some(why) if is_own && why != KeepReason::IsOutput => false,
         Some(why) => {
             tell_path(rt, kept(content), path, why.as_str());
             true
         }
         None => false,
     }
+}
+
+/// Whether what stands at a path that isn't the units' own is left as it is; tells why.
+pub(crate) fn is_kept<H: Files + AllocGlobal + Eprint>(rt: &H, target: Option<Target<'_>>) -> bool {
+    is_left(rt, target, false)
 }
 
 /// What is told of a path that leads to the same file as another one.
@@ -127,10 +138,22 @@ fn are_same<H: Files + AllocGlobal + Eprint>(
     is_one
 }
 
+/// Whether a unit text is written to a path.
+fn holds_units(target: Option<Target<'_>>) -> bool {
+    match target {
+        Some(Target { content, .. }) => content == Content::Units,
+        None => false,
+    }
+}
+
 /// Whether what stands at one of some paths is left as it is; tells why.
-fn is_any_kept<H: Files + AllocGlobal + Eprint>(rt: &H, targets: &[Option<Target<'_>>]) -> bool {
+fn is_any_kept<H: Files + AllocGlobal + Eprint>(
+    rt: &H,
+    targets: &[Option<Target<'_>>],
+    is_own: bool,
+) -> bool {
     for target in targets {
-        if is_kept(rt, *target) {
+        if is_left(rt, *target, is_own && holds_units(*target)) {
             return true;
         }
     }
@@ -152,7 +175,7 @@ fn is_among<H: Files + AllocGlobal + Eprint>(
 }
 
 /// Whether a line may write what it says: none of its paths is one whose file is left as it is, and no two are one. Tells
-/// what is wrong. The units' own file is judged as the units are.
+/// what is wrong. The file of `--places` may be the units' own.
 pub(crate) fn may_write<H: Files + AllocGlobal + Eprint>(
     rt: &H,
     line: &Line,
@@ -160,12 +183,7 @@ pub(crate) fn may_write<H: Files + AllocGlobal + Eprint>(
 ) -> bool {
     let targets = targets_of(line);
     let [one, second, third, _] = targets;
-    let is_kept = if is_own {
-        is_kept(rt, one)
-    } else {
-        is_any_kept(rt, &targets)
-    };
-    !is_kept
+    !is_any_kept(rt, &targets, is_own)
         && !is_among(rt, one, &targets[1..])
         && !is_among(rt, second, &targets[2..])
         && !is_among(rt, third, &targets[3..])

@@ -3,7 +3,7 @@
 //! Its head is the line of a refusal, and below it `cert PATH`, `out PATH` and `reason WORDS` where the job had them. Or it is
 //! the first line of a search's text: `optimal V`, `no plan`, or of one without a proof `unproved V`, below it `cut WHY` and
 //! `at least L`, and `strong` of a search by the strong rules, `most` of one that took as much as may be asked for, `merged` of
-//! merged certificates; and where a certificate was wanted, `out PATH` and `bytes N`, and `missing` where it isn't there, or
+//! merged certificates; and where a certificate was wanted, `out PATH`, `bytes N` and `nodes N`, and `missing` where it isn't there, or
 //! `beside` where it is too large to be there. Its units are those of the search; where they can't be read, they aren't known.
 
 use crate::refusals::refusal_of;
@@ -31,7 +31,14 @@ fn filed_of(head: &str) -> Filed<'_> {
     match part(head, "out ") {
         Some(_) if part(head, "missing").is_some() => Filed::Missing,
         Some(_) if part(head, "beside").is_some() => Filed::TooLarge,
-        Some(path) => Filed::There(Written { path, bytes }),
+        Some(path) => Filed::There(Written {
+            path,
+            bytes,
+            nodes: part(head, "nodes ")
+                .unwrap_or("1000000")
+                .parse::<u32>()
+                .unwrap_or(0),
+        }),
         None => Filed::Unasked,
     }
 }
