@@ -226,7 +226,7 @@ fn minutes_arg<'a>(alloc: Global) -> Arg<'a> {
         .value_name("M")
         .value_parser(value_parser!(u32).range(1..=10_000))
         .help(
-            "After how many minutes the search ends, 1 to 10000, if it hasn't ended before; ten million nodes end most searches in seconds, so minutes end only long ones",
+            "After how many minutes the search ends, 1 to 10000; ten million nodes end most searches sooner",
         )
 }
 
