@@ -1,5 +1,6 @@
 //! Keys that are missing: where they stand, or what stands in their place.
 
+use crate::headers::{slave_line, unit_line};
 use crate::inputs::{Doc, value_in, values_in};
 use crate::keys::{add_unknown, is_key, keys_at, meaning, unknown_in};
 use crate::label::{add_in, add_slave, add_unit, table_of};
@@ -85,18 +86,38 @@ fn other_with(doc: Doc<'_>, spot: Spot, owner: Owner, key: Key) -> Option<Spot> 
     }
 }
 
-/// Where a key is to be written that stands in a table which isn't its own.
-fn right_place(owner: Owner, other: Spot) -> &'static str {
+/// Whether the table at a spot begins with a header of its own. One that stands inline, in braces, doesn't.
+fn has_header(doc: Doc<'_>, spot: Spot) -> bool {
+    let unit = spot.unit.unwrap_or(0);
+    match spot.slave {
+        Some(slave) => slave_line(doc, unit, slave).is_some(),
+        None => unit_line(doc, unit).is_some(),
+    }
+}
+
+/// Where a key is to be written that is missing at a spot, and stands in another table.
+fn right_place(doc: Doc<'_>, spot: Spot, owner: Owner, other: Spot) -> &'static str {
     match (owner, other.unit) {
+        (Owner::Top, Some(unit)) if unit_line(doc, unit).is_none() =>
+            ": write it above the units.\n",
         (Owner::Top, _) => ": write it above the first [[unit]].\n",
+        (Owner::Unit, Some(_)) if !has_header(doc, other) => {
+            ": write it outside the { } of the unit's slaves.\n"
+        }
         (Owner::Unit, Some(_)) => ": write it above the unit's first [[unit.slave]].\n",
+        (Owner::Unit, None) if !has_header(doc, spot) => {
+            ": write it within the { } of the unit that it belongs to.\n"
+        }
         (Owner::Unit, None) => ": write it below the [[unit]] that it belongs to.\n",
+        (Owner::Slave, _) if !has_header(doc, spot) => {
+            ": write it within the { } of the slave that it belongs to.\n"
+        }
         (Owner::Slave, _) => ": write it below the [[unit.slave]] that it belongs to.\n",
     }
 }
 
-/// Adds in which other table a missing key stands, and where to write it.
-fn add_other(out: &mut Draft, doc: Doc<'_>, owner: Owner, other: Spot) {
+/// Adds in which other table a key stands that is missing at a spot, and where to write it.
+fn add_other(out: &mut Draft, doc: Doc<'_>, spot: Spot, owner: Owner, other: Spot) {
     out.add("It stands ");
     match (other.unit, other.slave) {
         (Some(unit), Some(slave)) => {
@@ -109,7 +130,7 @@ fn add_other(out: &mut Draft, doc: Doc<'_>, owner: Owner, other: Spot) {
         }
         (None, _) => out.add("at the top of the file"),
     }
-    out.add(right_place(owner, other));
+    out.add(right_place(doc, spot, owner, other));
 }
 
 /// The first key of a table that isn't one of its own, and was meant for a missing one.
@@ -173,7 +194,7 @@ pub(crate) fn tell_missing(out: &mut Draft, alloc: Global, doc: Doc<'_>, spot: S
     add_quoted(out, key.as_str().as_bytes());
     out.add(" is missing.\n");
     if let Some((owner, other)) = astray(doc, spot, key) {
-        return add_other(out, doc, owner, other);
+        return add_other(out, doc, spot, owner, other);
     }
     add_beside(out, alloc, doc, spot, key);
     out.add(meaning(key));

@@ -18,10 +18,30 @@ const NUMBER: &str = "A number is written 1000000 or 1_000_000.\n";
 const QUOTES: &str =
     "A text has a quote before and behind it, as name = \"press-4\": one is missing.\n";
 
-/// Whether a line has an odd number of quotes.
+/// What is told of a line that has more than a key and its value.
+const ONE_KEY: &str = "A line has one key and its value, without , or ; behind it.\n";
+
+/// The same, where the value may be a number that isn't written as TOML has it.
+const ONE_KEY_AND_NUMBER: &str =
+    "A line has one key and its value, without , or ; behind it. A number is written 1000000 or 1_000_000.\n";
+
+/// What stands in a line before the first # that is outside quotes.
+fn uncommented(line: &str) -> &str {
+    let mut quoted = false;
+    for (index, byte) in line.bytes().enumerate() {
+        match byte {
+            b'"' => quoted = !quoted,
+            b'#' if !quoted => return line.get(..index).unwrap_or(line),
+            _ => {}
+        }
+    }
+    line
+}
+
+/// Whether a line has an odd number of quotes before its comment.
 fn lacks_quote(line: &str) -> bool {
     let mut odd = false;
-    for byte in line.bytes() {
+    for byte in uncommented(line).bytes() {
         if byte == b'"' {
             odd = !odd;
         }
@@ -31,7 +51,7 @@ fn lacks_quote(line: &str) -> bool {
 
 /// Whether a line has a comment of another language.
 fn has_slashes(line: &str) -> bool {
-    match line.split_once("//") {
+    match uncommented(line).split_once("//") {
         Some((before, _)) => !lacks_quote(before),
         None => false,
     }
@@ -65,14 +85,14 @@ fn has_curly(stop: Stop<'_>) -> bool {
     letter.is_some_and(is_curly)
 }
 
-/// Whether a value has nothing but digits and what is written between them.
+/// Whether a value has digits, and nothing else but what is written between them.
 fn is_spaced_number(value: &str) -> bool {
     for byte in value.bytes() {
         if !matches!(byte, b'0'..=b'9' | b' ' | b'.' | b'_') {
             return false;
         }
     }
-    !value.is_empty()
+    value.as_bytes().iter().any(|byte| byte.is_ascii_digit())
 }
 
 /// Whether a value is a number with a 0 in front.
@@ -94,14 +114,19 @@ fn hint_of_value(rest: &str) -> &'static str {
     "A value is a whole number, or a text in quotes, as name = \"press-4\".\n"
 }
 
-/// What was likely meant by a word, where the line has the signs of another language.
-fn hint_of_signs(stop: Stop<'_>, word: &str) -> Option<&'static str> {
+/// What was likely meant by a header in single brackets.
+fn hint_of_header(word: &str) -> Option<&'static str> {
     if word.starts_with("[unit]") {
         return Some("Each unit begins with [[unit]], in double brackets.\n");
     }
     if word.starts_with("[unit.slave]") || word.starts_with("[slave]") {
         return Some("Each slave begins with [[unit.slave]], in double brackets.\n");
     }
+    None
+}
+
+/// What was likely meant by a word, where the line has the signs of another language.
+fn hint_of_signs(stop: Stop<'_>, word: &str) -> Option<&'static str> {
     if has_slashes(stop.line) || word.starts_with("/*") || word.starts_with(';') {
         return Some("A comment begins with #.\n");
     }
@@ -114,12 +139,22 @@ fn hint_of_signs(stop: Stop<'_>, word: &str) -> Option<&'static str> {
     None
 }
 
+/// Whether a digit stands before the place where the reader stopped, or before the blanks in front of it.
+fn is_behind_digit(stop: Stop<'_>) -> bool {
+    let before = stop.line.strip_suffix(stop.rest).unwrap_or("");
+    matches!(before.trim_end().chars().next_back(), Some('0'..='9'))
+}
+
 /// What was likely meant by what stands behind the value or the header of a line.
-fn hint_behind(word: &str) -> &'static str {
+fn hint_behind(stop: Stop<'_>, word: &str) -> &'static str {
     if word.starts_with('[') {
         return "A header stands alone on its line, without , or ; behind it.\n";
     }
-    "A line has one key and its value, without , or ; behind it. A number is written 1000000 or 1_000_000.\n"
+    if is_behind_digit(stop) {
+        ONE_KEY_AND_NUMBER
+    } else {
+        ONE_KEY
+    }
 }
 
 /// What was likely meant by a number or a text that isn't whole; empty where that isn't known.
@@ -136,14 +171,17 @@ fn hint_of_rest(stop: Stop<'_>) -> &'static str {
 /// What was likely meant by a line at which the reader stopped; empty where that isn't known.
 pub(crate) fn hint(stop: Stop<'_>) -> &'static str {
     let word = stop.line.trim();
-    if let Some(meant) = hint_of_signs(stop, word) {
+    if let Some(meant) = hint_of_header(word) {
         return meant;
     }
     if stop.message.contains("duplicate") {
         return "A key stands once in its table: take one of the two lines out.\n";
     }
+    if let Some(meant) = hint_of_signs(stop, word) {
+        return meant;
+    }
     if stop.message.starts_with("unexpected key or value") {
-        return hint_behind(word);
+        return hint_behind(stop, word);
     }
     if !word.is_empty() && !word.starts_with('[') && !word.contains('=') {
         return "A line is key = value, or a header in brackets.\n";

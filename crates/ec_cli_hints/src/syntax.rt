@@ -55,7 +55,7 @@ fn stop_at<'a>(text: &'a str, line: usize, count: usize, message: &'a str) -> St
 fn add_hint(out: &mut Draft, text: &str, at: usize, stop: Stop<'_>) {
     if is_cert(text) {
         return out.add(
-            "It is a certificate: name it behind --cert, and the file of the units by itself.\n",
+            "It is a certificate, and the file of the units is wanted here. A command that reads a certificate takes it behind --cert.\n",
         );
     }
     if !add_mixed(out, text, at, stop.line, stop.message) {

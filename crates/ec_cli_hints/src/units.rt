@@ -111,11 +111,27 @@ fn large_slave(unit: Option<&Table>) -> Option<usize> {
         .position(|slave| slave_bytes(slave.as_table()) > MOST_BYTES)
 }
 
+/// Whether each slave of a unit has room in one of two units, taken in their order.
+fn fits_two(unit: Option<&Table>) -> bool {
+    let mut first = 0i128;
+    let mut second = 0i128;
+    for slave in values_in(unit, Key::Slave) {
+        let bytes = slave_bytes(slave.as_table());
+        if first.saturating_add(bytes) <= MOST_BYTES {
+            first = first.saturating_add(bytes);
+        } else {
+            second = second.saturating_add(bytes);
+        }
+    }
+    second <= MOST_BYTES
+}
+
 /// Adds what to do with a unit that has too many bytes.
 fn add_smaller(out: &mut Draft, doc: Doc<'_>, spot: Spot) {
     let unit = doc.unit(spot.unit);
     let Some(slave) = large_slave(unit) else {
-        return out.add("Make two units of it.\n");
+        let count = if fits_two(unit) { "two" } else { "several" };
+        return out.add(format_args!("Make {count} units of it.\n"));
     };
     add_slave(out, doc, spot.unit.unwrap_or(0), slave);
     out.add(" alone has more, and a slave cannot be split: have fewer of its bytes mapped.\n");
