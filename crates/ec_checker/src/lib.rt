@@ -6,6 +6,7 @@ mod checking;
 mod fault;
 mod law;
 mod leaf;
+mod look;
 mod order;
 mod same;
 mod shown;

@@ -14,8 +14,9 @@ ghost use Rattle.ec_symmetry.specs.Ruled.{line_rules};
 ghost use Rattle.ec_checker.specs.Judged.{IsReady};
 ghost use Rattle.ec_checker.specs.Levels.{IsGreatestLevel, IsLowered, AreAtMost, AreIn};
 
+use crate::look::looks_closed;
 use ec_bounds::{Rest, average_level};
-use ec_cert::{Best, Tree, is_closed};
+use ec_cert::{Best, Tree};
 use ec_loads::Loads;
 use ec_symmetry::{Rules, children_by};
 use ec_units::Units;
@@ -55,12 +56,12 @@ fn is_passed(level: u64, here: u64, tree: &Tree) -> bool
     }
 }
 
-/// Whether no leaf of a tree lowers a level, where this level holds at the places that lead to the tree: the level isn't above
-/// it, or no leaf is open.
+/// Whether it is soon seen that no leaf of a tree lowers a level, where this level holds at the places that lead to the tree: the
+/// level isn't above it, or no leaf is open.
 fn is_kept(level: u64, here: u64, tree: &Tree) -> bool
     ensures { IsTrue result → (level ≤ here) ⊎ (open_count (shape_of tree.now) ≡ 0) }
 {
-    level <= here || is_closed(tree)
+    level <= here || looks_closed(tree)
 }
 
 /// Whether a tree is an open leaf.
