@@ -33,6 +33,9 @@ pub(crate) fn filled(tree: Tree, floor: usize, built: &mut Vec<Tree>) -> Tree
     ensures left { built.new.items ≡ take (length built.old.items - open_count (shape_of tree)) built.old.items }
     ensures tree { shape_of result ≡ draw (shape_at built.old.items) (numbered (length built.old.items - open_count (shape_of tree)) (shape_of tree)) }
 {
+    if built.len() <= floor {
+        return tree;
+    }
     match tree {
         Tree::Split(mut room) => {
             let empty = Vec::new(*room.allocator());

@@ -7,7 +7,7 @@ use Rattle.ec_book.specs.Numbered.{numbered, draw}
 use Rattle.ec_book.specs.Grown.{shape_at}
 use Rattle.ec_book.proofs.DrawLemmas.{shape_at-last, shape_of-OpenLeaf, shape_of-Weights, draw-closed}
 use Rattle.ec_book.proofs.PartLemmas.{opens_all, IsPart, child_at, child_get, child_above, part-step, part-skip, part-start, part-rest, part-left, part-tree, none_taken}
-use Rattle.ec_book.proofs.tree.+filled.Goals.{then-loop-i-test+else-len-floor, else-loop-i-test}
+use Rattle.ec_book.proofs.tree.+filled.Goals.{then-loop-i-test+else-len-floor-2, else-loop-i-test}
 use Rattle.ec_book.proofs.tree.+filled.Goals as goal
 
 pub filled-requires : goal.filled-requires
@@ -83,12 +83,15 @@ returns-after-loop-i-clause-tree t c =
     let whole = shape_of-trees c.args.tree c.in-Split.room c.replace-trees.result c.in-Split.is c.replace-trees.ensures.value in
     let opens = opens_all c.args.tree c.replace-trees.result whole in
     let end : IsPart ts ls built0 built 0 = elim c.loop-i-test.branch [
-      | then-loop-i-test+else-len-floor w ↦
-          let none : open_counts (shapes_of (take c.loop-i.i ts)) ≡ 0 = omega (arith, w.if-len-floor.false, w.len.ensures, c.requires, opens, c.loop-i.invariant.left) in
+      | then-loop-i-test+else-len-floor-2 w ↦
+          let none : open_counts (shapes_of (take c.loop-i.i ts)) ≡ 0 = omega (arith, w.if-len-floor-2.false, w.len-in-loop-i.ensures, c.requires, opens, c.loop-i.invariant.left) in
           part-rest ts ls built0 built c.loop-i.i c.loop-i.invariant none (omega (arith, c.requires, opens))
       | else-loop-i-test w ↦ let zero_is : c.loop-i.i ≡ 0 = omega (arith, w.loop-i-test.false) in subst (IsPart ts ls built0 built) zero_is c.loop-i.invariant
     ] in
     part-tree ts ls built0 built end c.args.tree c.replace-trees.result c.replace.new.b whole refl (ap (λ v. v.items) c.replace.ensures.after) (omega (arith, c.requires))
+
+pub returns-then-len-floor-clause-tree : goal.returns-then-len-floor-clause-tree
+returns-then-len-floor-clause-tree t c = sym (draw-closed (shape_at c.args.built.now.items) (shape_of c.args.tree) _ (omega (arith, c.requires, c.if-len-floor.true, c.len.ensures)))
 
 pub returns-in-Weights-clause-left : goal.returns-in-Weights-clause-left
 returns-in-Weights-clause-left t c = none_taken c.args.tree c.args.built.now.items (search (rules, the_lemmas))
@@ -130,8 +133,8 @@ returns-after-loop-i-clause-left t c =
     let whole = shape_of-trees c.args.tree c.in-Split.room c.replace-trees.result c.in-Split.is c.replace-trees.ensures.value in
     let opens = opens_all c.args.tree c.replace-trees.result whole in
     let end : IsPart ts ls built0 built 0 = elim c.loop-i-test.branch [
-      | then-loop-i-test+else-len-floor w ↦
-          let none : open_counts (shapes_of (take c.loop-i.i ts)) ≡ 0 = omega (arith, w.if-len-floor.false, w.len.ensures, c.requires, opens, c.loop-i.invariant.left) in
+      | then-loop-i-test+else-len-floor-2 w ↦
+          let none : open_counts (shapes_of (take c.loop-i.i ts)) ≡ 0 = omega (arith, w.if-len-floor-2.false, w.len-in-loop-i.ensures, c.requires, opens, c.loop-i.invariant.left) in
           part-rest ts ls built0 built c.loop-i.i c.loop-i.invariant none (omega (arith, c.requires, opens))
       | else-loop-i-test w ↦ let zero_is : c.loop-i.i ≡ 0 = omega (arith, w.loop-i-test.false) in subst (IsPart ts ls built0 built) zero_is c.loop-i.invariant
     ] in
