@@ -70,10 +70,6 @@ abbrev pub DoesWith : {R C O : Type 0} → Job → Use R → Lent C → Lent O �
 DoesWith j units cert out w =
     Does j units (where_used (reads_cert j) cert) (where_used (writes_file j) out) w × (reads_cert j ≡ false → IsLeft cert) × (writes_file j ≡ false → IsLeft out)
 
--- a run does its job, and tells what is to be written for it
-abbrev pub IsRun : {R C W O : Type 0} → Job → Use R → Lent C → Use W → Lent O → ℕ → Type 0
-IsRun j units cert text out code = Tells (DoesWith j units cert out) text code
-
 -- ---- a command line, of whose files nothing is known
 
 -- an answer is what is told where the path of a certificate to read is this: of one whose file isn't known, what is told for some text, unless it couldn't be read

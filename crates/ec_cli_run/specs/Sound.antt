@@ -138,8 +138,8 @@ RunIsTrue job.Check units out w = IsSound units → IfSome (before units) (λ by
 RunIsTrue _ units out w = Unit {0}
 
 -- a run does its job, and what it tells is true
-abbrev pub IsTrueRun : {R C W O : Type 0} → Job → Use R → Lent C → Use W → Lent O → ℕ → Type 0
-IsTrueRun j units cert text out code = Tells (λ w. DoesWith j units cert out w × RunIsTrue j units out w) text code
+abbrev pub IsRun : {R C W O : Type 0} → Job → Use R → Lent C → Use W → Lent O → ℕ → Type 0
+IsRun j units cert text out code = Tells (λ w. DoesWith j units cert out w × RunIsTrue j units out w) text code
 
 -- the same of a command line, of whose file nothing is known
 abbrev pub LineIsTrue : {R : Type 0} → Job → Use R → Written → Type 0

@@ -4,8 +4,8 @@ ghost use Rattle.std.specs.Prelude.{◌≡◌, false, option_map};
 ghost use Rattle.ec_wire.specs.Stream.{has_failed};
 ghost use Rattle.ec_cli_command.specs.Words.{IsPlain, JobFits};
 ghost use Rattle.ec_cli_inputs.specs.Use.{used, lent};
-ghost use Rattle.ec_cli_run.specs.Runs.{HasCert, HasOut, IsRun, NoneFailed};
-ghost use Rattle.ec_cli_run.specs.Sound.{IsTrueRun};
+ghost use Rattle.ec_cli_run.specs.Runs.{HasCert, HasOut, NoneFailed};
+ghost use Rattle.ec_cli_run.specs.Sound.{IsRun};
 
 use crate::answering::{tell, tell_plain};
 use crate::delivering::{deliver_text, deliver_to};
@@ -40,7 +40,7 @@ pub fn run<R: Read, C: Read, W: Write, O: Write, T: Threads + Wait + Sync, G: Ga
     requires cert { HasCert job.now (option_map (λ r. r.now) cert) }
     requires text { has_failed text.old ≡ false }
     requires out { NoneFailed (option_map (λ r. r.now) out) }
-    ensures { IsTrueRun job.now (used R.remaining units.old units.new) (lent C.remaining cert.entry cert.exit) (used W.contents text.old text.new) (lent O.contents out.entry out.exit) result.code }
+    ensures { IsRun job.now (used R.remaining units.old units.new) (lent C.remaining cert.entry cert.exit) (used W.contents text.old text.new) (lent O.contents out.entry out.exit) result.code }
 {
     law_trees_bound();
     law_levels_bound();
@@ -86,6 +86,8 @@ pub fn run_plain<R: Read, C: Read, W: Write, O: Write>(
     requires out { HasOut job.now (option_map (λ r. r.now) out) }
     ensures { IsRun job.now (used R.remaining units.old units.new) (lent C.remaining cert.entry cert.exit) (used W.contents text.old text.new) (lent O.contents out.entry out.exit) result.code }
 {
+    law_trees_bound();
+    law_levels_bound();
     let read = match cert {
         Some(cert) => {
             if job.reads_cert() {
