@@ -8,7 +8,7 @@ ghost use Rattle.ec_bounds.specs.Laws.{IsFirstFullLeaf};
 use crate::rest::Rest;
 use ec_loads::Loads;
 
-/// The least tick that costs at least the value, in bytes; none where there is no value.
+/// The least tick that costs at least the value, in wire bytes; none where no tick does, or there is no value.
 pub fn tick_bound(loads: &Loads, value: Option<u64>) -> Option<u32>
     ensures { MatchOption result ((t : ℕ) → ¬ (TickHolds loads.now.loads loads.now.slots value loads.now.places t))
         (λ t. TickHolds loads.now.loads loads.now.slots value loads.now.places t
@@ -17,7 +17,7 @@ pub fn tick_bound(loads: &Loads, value: Option<u64>) -> Option<u32>
     loads.first_at_least(value?)
 }
 
-/// The least tick, and in it the least slot, whose payload is above 1498 bytes.
+/// The least tick, and in it the least slot, whose payload is above 1498 bytes; none where there is no such slot.
 pub fn full_bound(loads: &Loads) -> Option<(u32, u8)>
     ensures { MatchOption result ((t s : ℕ) → ¬ (FullHolds loads.now.loads loads.now.slots loads.now.places t s))
         (λ f. IsFirstFullLeaf loads.now f.0 f.1) }

@@ -112,13 +112,13 @@ pub fn explore_in<G: Guide>(
     })
 }
 
-/// Explores below a prefix: the places of the first units of the order, which the children by these rules reach. Splits
-/// and closes at most `grant` nodes, each before its children and the first child first; where these are used up, or
-/// the guide stops, the rest stays open. By the strong rules a node is closed also where two slots can be one, where
-/// units don't find room, or where new groups cost too much, and not by the average.
+/// Explores below a prefix: the places of the first units of the order, which the children by these rules reach. Splits and closes at most
+/// `grant` nodes, each before its children and the first child first; where these are used up, or the guide stops, the rest stays open. By
+/// the strong rules a node is closed also where two slots can be one, where units don't find room, or where new groups cost too much, and
+/// not by the average.
 ///
-/// The closed leaves hold at the threshold, the least of all values (costs of a busiest tick, in wire bytes) that
-/// the guide answered: what it knows in the end, which is at most what it knew. Of each whole plan below it that is cheaper than the value in use the guide is told.
+/// The closed leaves hold at the threshold, the least of all values (costs of a busiest tick, in wire bytes) that the guide answered: what
+/// it knows in the end, which is at most what it knew. Of each whole plan below it that is cheaper than the value in use the guide is told.
 /// `AllocError` where memory was refused; the guide may then have been asked and told.
 pub fn explore<G: Guide>(
     alloc: Global,

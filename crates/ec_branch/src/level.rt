@@ -57,9 +57,9 @@ fn left_open(level: Level) -> Box<Vec<Tree>>
     room
 }
 
-/// Closes the next children of a split, as long as each would have too large a payload or a tick that costs at least
-/// the value, or by the strong rules two slots that can be one, without giving them their places. Gives the place of the next child, for which the guide was asked; none
-/// where no child is left, or no node, or where the guide stops.
+/// Closes the next children of a split, as long as each would have too large a payload or a tick that costs at least the value, or by the
+/// strong rules two slots that can be one, without giving them their places. Gives the place of the next child, for which the guide was
+/// asked; none where no child is left, or no node, or where the guide stops.
 fn close_next<G: Guide>(
     loads: &Loads,
     rules: Rules,

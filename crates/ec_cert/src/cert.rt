@@ -27,7 +27,7 @@ pub struct Cert {
     pub tree: Tree,
 }
 
-/// A tree whose leaves hold at the threshold; no threshold is above every number.
+/// A tree whose leaves hold at the threshold, in wire bytes; none is above every number.
 #[derive(Debug, Drop)]
 pub struct Subtree {
     pub threshold: Option<u64>,

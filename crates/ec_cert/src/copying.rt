@@ -9,7 +9,7 @@ use crate::tree::Tree;
 use crate::weights::Weights;
 use std::alloc::{AllocError, Global};
 
-/// The same tree once more, in time and memory in proportion to it.
+/// The same tree once more, in time and memory in proportion to it. `AllocError` where memory ran out.
 pub fn copy_of(alloc: Global, tree: &Tree) -> Result<Tree, AllocError>
     ensures { IfOk result (λ copy. shape_of copy ≡ shape_of tree.now) }
 {

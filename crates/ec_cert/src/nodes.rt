@@ -6,7 +6,7 @@ ghost use Rattle.ec_cert.specs.Shapes.{shape_of};
 
 use crate::tree::Tree;
 
-/// The number of splits and closed leaves, or the greatest number where it is smaller. No recursion is deeper than the tree.
+/// The number of splits and closed leaves, or 2^64 - 1 where there are more. No recursion is deeper than the tree.
 pub fn node_count(tree: &Tree) -> u64
     ensures { result ≡ min (node_count_of (shape_of tree.now)) 18446744073709551615 }
 {

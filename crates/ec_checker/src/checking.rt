@@ -105,7 +105,8 @@ pub fn check_in(loads: &mut Loads, units: &Units, cert: &Cert) -> Result<Verdict
     Ok(verdict_at(cert.level, value))
 }
 
-/// What `check_in` answers, over loads that are made for it. It takes memory once, for the places of the units.
+/// What `check_in` answers, over loads that are made for it. It takes memory once, for the places of the units; `OutOfMemory` where that
+/// ran out.
 pub fn check(alloc: Global, units: &Units, cert: &Cert) -> Result<Verdict, CheckFault>
     ensures sound { IfOk result (IsClaim (loads_of units.now.units) units.now.slots cert.now.best) }
     ensures exact { IsAnswer units.now.units units.now.slots (cert_view cert.now) result }

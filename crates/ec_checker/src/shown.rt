@@ -190,7 +190,8 @@ pub fn level_in(
     lowered(loads, &mut rest, rules, most_level(best), order, tree)
 }
 
-/// What `level_in` gives, over loads that are made for it. It takes memory once, for the places of the units.
+/// What `level_in` gives, over loads that are made for it. It takes memory once, for the places of the units; `AllocError` where that ran
+/// out.
 pub fn level(
     alloc: Global,
     units: &Units,

@@ -17,8 +17,9 @@ use ec_cert::Tree;
 use ec_loads::Loads;
 use ec_symmetry::{Rules, children_by};
 
-/// Whether a tree holds at the places so far, its children by these rules, its open leaves at the level, which none do
-/// where there is no level: the number of the node after it, or its first fault. The places are as before afterwards. Each node is visited once, and no recursion is deeper than the order is long.
+/// Whether a tree holds at the places so far, its children by these rules, its open leaves at the level, which none do where there is no
+/// level: the number of the node after it, or its first fault. The places are as before afterwards. Each node is visited once, and no
+/// recursion is deeper than the order is long.
 pub(crate) fn walk(
     loads: &mut Loads,
     rest: &mut Rest,

@@ -20,7 +20,9 @@ use std::alloc::Global;
 /// A certificate to which the checker says yes, and what it says.
 #[derive(Debug, Drop)]
 pub struct Right {
+    /// The certificate.
     pub cert: Cert,
+    /// What the checker said of it.
     pub verdict: Verdict,
 }
 

@@ -27,8 +27,7 @@ pub enum File {
 pub struct Told {
     pub answer: Answer,
     pub file: File,
-    /// The plan of which a job tells that searches for nothing; none of the plan that the units' own costs are of, and of a
-    /// check.
+    /// The plan whose frames, play or costs are told; none of a check, of a search, and of the costs of the units' own places.
     pub plan: Option<Plan>,
     /// How a search ended without a proof; none of a proof, and of other jobs.
     pub ending: Option<Ending>,

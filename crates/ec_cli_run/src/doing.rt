@@ -176,7 +176,7 @@ fn report_line<R: Read, W: Write, F: Files, T: Threads + Wait + Sync, G: Gate + 
 
 /// Does what a command line says, on these units and to this text. The certificate or the capture file is at its path,
 /// whole, before a byte of the text is written; where it can't be, the text is the refusal of a failed write. `gate` is told
-/// before each node of a search.
+/// before each node of a search, but for those of seeding, and asked before each piece whether the time is over.
 pub fn do_line<R: Read, W: Write, F: Files, T: Threads + Wait + Sync, G: Gate + Sync>(
     files: &F,
     wait: &T,

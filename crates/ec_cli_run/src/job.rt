@@ -11,8 +11,8 @@ use ec_cli_refusals::{Refusal, refusal_line};
 use ec_wire::{Io, WriteFault};
 use std::io::Write;
 
-/// The exit status of a run: 0 optimal, least or done, 1 no plan, 2 unproved, 3 refused input, 4 reading, writing or
-/// memory failed.
+/// The exit status of a run: 0 optimal, least or done, 1 no plan, 2 unproved or at least, 3 refused input, 4 reading, writing, memory, a
+/// ring or a thread failed, 5 words that are no command line.
 #[derive(Clone, Copy, Debug, PartialEq, Eq)]
 pub struct Status {
     pub code: u8,

@@ -4,8 +4,8 @@ ghost use Rattle.ec_cli_run.specs.Sound.{AnswersAgree, CaptureTellsFrames, OneCa
 
 use ec_tree::{law_levels_bound, law_trees_bound};
 
-/// What is written is a function of the bytes that are read: those of the units, and for a check those of the
-/// certificate, have one text and one status.
+/// What is written is a function of the bytes that are read: those of the units, and where a job reads a
+/// certificate those of the certificate, have one text and one status.
 pub fn law_one_output_each()
     ensures { OneOutputEach }
 {}
@@ -45,7 +45,7 @@ pub fn law_a_resumed_plan_is_true()
     law_levels_bound();
 }
 
-/// Two searches over the same units, begun or resumed, that end with status 0 name the same cost, whatever was asked for;
+/// Two searches over the same units, begun, resumed or merged, that end with status 0 name the same cost, whatever was asked for;
 /// and where one ends with status 0, none ends with status 1.
 pub fn law_one_least_each()
     ensures { OneLeastEach }
@@ -53,10 +53,9 @@ pub fn law_one_least_each()
     law_levels_bound();
 }
 
-/// What searches and checks tell of the same units agrees, whatever was asked for and whatever certificates there were:
-/// what one tells every legal plan costs at least (`optimal L`, `least L`, `at least L`) is at most what the plan costs of
-/// which another tells (`optimal B`, `least B`, `unproved B`). So all of `optimal B` and `least B` name one number. Where one
-/// is `no plan`, none tells of a plan.
+/// What searches, merges and checks tell of the same units agrees, whatever was asked for and whatever certificates there were. A bound
+/// that one tells (`optimal L`, `least L`, `at least L`) is at most the cost of a plan of which another tells (`optimal B`, `least B`,
+/// `unproved B`). So all of `optimal B` and `least B` name one number. Where one is `no plan`, none tells of a plan.
 pub fn law_answers_agree()
     ensures { AnswersAgree }
 {

@@ -174,10 +174,10 @@ fn tell_merge<R: Read, F: Files>(
     merge_for(files, alloc, &inputs.units, paths)
 }
 
-/// Merges the certificates at some paths, for the units that the reader has, and tells what they show together, as a search
-/// tells it. The units are read first, then each certificate in turn, and only the units and what was merged so far are
-/// held. The merged certificate is at the path `out`, if there is one, whole, before a byte of the text is written, so it may
-/// take the place of one of the others; where it can't be there, the text is the refusal of a failed write.
+/// Merges the certificates at some paths, of which there is at least one, for the units that the reader has, and tells what they show
+/// together, as a search tells it. The units are read first, then each certificate in turn, and only the units and what was merged so far
+/// are held. The merged certificate is at the path `out`, if there is one, whole, before a byte of the text is written, so it may take the
+/// place of one of the others; where it can't be there, the text is the refusal of a failed write.
 pub fn do_merge<R: Read, W: Write, F: Files>(
     files: &F,
     alloc: Global,

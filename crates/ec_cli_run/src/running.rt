@@ -20,11 +20,11 @@ use std::io::{Read, Write};
 use std::sync::Wait;
 use std::thread::Threads;
 
-/// Does a job: reads the units, and then the certificate where the job has one, makes its whole answer, and then writes
-/// it to `text`; what there is for jobs that search for nothing is as in `run_plain`. A plan and a resumed search work with
-/// one worker in the calling thread or with 2 to 16 in threads of their own, and the certificate of what they found is
-/// written to `out`, if `out` is there, before the text; `gate` is told before each node. It reads at most 1,048,577 bytes
-/// of units and 67,108,865 of a certificate. A cost and a plan leave `cert` unread, a cost and a check leave `out`.
+/// Does a job: reads the units, and then the certificate where the job has one, makes its whole answer, and then writes it to `text`; what
+/// there is for jobs that search for nothing is as in `run_plain`. A plan and a resumed search work with one worker in the calling thread
+/// or with 2 to 16 in threads of their own, and the certificate of what they found is written to `out`, if `out` is there, before the text;
+/// `gate` is told before each node, but for those of seeding. It reads at most 1,048,577 bytes of units and 67,108,865 of a certificate. A
+/// cost and a plan leave `cert` unread. Only a plan, a resumed search and a capture write to `out`.
 pub fn run<R: Read, C: Read, W: Write, O: Write, T: Threads + Wait + Sync, G: Gate + Sync>(
     rt: &T,
     alloc: Global,

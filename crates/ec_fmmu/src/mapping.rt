@@ -17,7 +17,7 @@ use ec_units::Units;
 use std::alloc::{AllocError, Global};
 
 /// Where the process bytes of a plan lie in logical memory: its groups in order, the records of each slave in file order,
-/// and the number of bytes in all.
+/// and `total`, the number of bytes in all.
 #[derive(Debug, Drop)]
 pub struct Mapping {
     pub groups: Groups,

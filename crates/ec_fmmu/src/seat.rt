@@ -194,7 +194,7 @@ pub(crate) fn counter_within(seats: &[Seat], key: &Key) -> u16
 }
 
 /// The working counter that slaves add to a logical read-write datagram that holds all their bytes: 2 for each with
-/// outputs and 1 for each with inputs (ETG.1000.4, clause 5.4); takes no memory.
+/// outputs and 1 for each with inputs (ETG.1000.4, clause 5.4), of at most 384 slaves; takes no memory.
 pub fn expected(slaves: &[Slave]) -> u16
     requires { length slaves.now ≤ 384 }
     ensures { result ≡ sum_by counter_of (map slave_view slaves.now) }

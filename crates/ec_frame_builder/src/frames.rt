@@ -175,7 +175,8 @@ pub fn busy_slots(
 /// The frames of a tick (ETG.1000.4, clauses 5.3 and 5.4), by slot: one for each slot that carries something, with a
 /// logical read-write datagram for each group that travels, by period and phase. Outputs are those of the image, whose
 /// first byte is at the logical address 0x00010000; inputs are sent as 0. On the wire the frames take 24 bytes more each
-/// (IEEE 802.3), and together what the tick costs.
+/// (IEEE 802.3), and together what the tick costs. The mapping is the layout of a legal plan of these units, and the image has its
+/// `total` bytes; a tick may be beyond the hyperperiod.
 ///
 /// # Errors
 ///

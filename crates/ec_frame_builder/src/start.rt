@@ -156,6 +156,7 @@ fn push_mappings(
 /// The frames that are sent before the first tick (own profile, after ETG.1000.4, clauses 5.4, 6.1 and 6.6), one datagram
 /// each: a broadcast read of 1 byte, which each slave counts; for each slave, in file order, its station, written to 0x0010
 /// of the slave at its position; then for each slave its two FMMU records, 32 bytes, written to 0x0600 of its station.
+/// For N slaves these are 1 + 2N frames, at most 769.
 ///
 /// # Errors
 ///

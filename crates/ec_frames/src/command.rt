@@ -132,42 +132,42 @@ pub enum AddressKind {
     Logical,
 }
 
-/// The code of a command, 0 to 14.
+/// The code of a command, 0 to 14 (ETG.1000.4, clause 5.4).
 pub fn code_of(command: Command) -> u8
     ensures { column_of (λ row. row.code) command ≡ Some result }
 {
     with_commands!(code_arms, command)
 }
 
-/// The command of a code; `None` for a code above 14.
+/// The command of a code (ETG.1000.4, clause 5.4); none for a code above 14.
 pub fn command_of(code: u8) -> Option<Command>
     ensures { result ≡ command_with code }
 {
     with_commands!(command_arms, code)
 }
 
-/// The name of a command in the standard, in capitals.
+/// The name of a command in the standard, in capitals (ETG.1000.4, clause 5.4).
 pub fn name_of(command: Command) -> &'static str
     ensures { column_of (λ row. row.name) command ≡ Some result.now }
 {
     with_commands!(name_arms, command)
 }
 
-/// What the address of a datagram with this command names.
+/// What the address of a datagram with this command names (ETG.1000.4, clause 5.4).
 pub fn address_kind(command: Command) -> AddressKind
     ensures { column_of (λ row. row.kind) command ≡ Some result }
 {
     with_commands!(kind_arms, command)
 }
 
-/// Whether a command moves bytes from a slave into the datagram.
+/// Whether a command moves bytes from a slave into the datagram (ETG.1000.4, clause 5.4).
 pub fn reads(command: Command) -> bool
     ensures { column_of (λ row. row.reads) command ≡ Some result }
 {
     with_commands!(reads_arms, command)
 }
 
-/// Whether a command moves bytes from the datagram into a slave.
+/// Whether a command moves bytes from the datagram into a slave (ETG.1000.4, clause 5.4).
 pub fn writes(command: Command) -> bool
     ensures { column_of (λ row. row.writes) command ≡ Some result }
 {

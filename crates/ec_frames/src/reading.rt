@@ -54,7 +54,8 @@ impl fmt::Display for FrameFault {
 
 impl Error for FrameFault {}
 
-/// A datagram of a frame (ETG.1000.4, clause 5.4): `address` is one 32 bit number, `event` the
+/// A datagram of a frame (ETG.1000.4, clause 5.4): `index` is the number that its sender gave
+/// it, `circulating` the bit that a slave sets, `address` is one 32 bit number, `event` the
 /// 16 event bits, `counter` the working counter, `bytes` the data, a slice of the frame itself.
 #[derive(Clone, Copy, Debug)]
 pub struct View<'a> {

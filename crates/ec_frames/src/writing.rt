@@ -15,7 +15,8 @@ use std::fmt;
 /// An Ethernet frame without preamble and frame check sequence, at most 1514 bytes (IEEE 802.3, clause 3.2).
 pub type Frame = ArrayVec<u8, 1514>;
 
-/// A datagram to be written: its command, its address as one 32 bit number, and the bytes of its data.
+/// A datagram to be written: its command, its address as one 32 bit number, and how many bytes of data it has
+/// (ETG.1000.4, clause 5.4).
 #[derive(Clone, Copy, Debug, PartialEq, Eq)]
 pub struct Datagram {
     pub command: Command,

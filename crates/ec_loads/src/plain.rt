@@ -52,7 +52,8 @@ pub fn plain_top(loads: &Loads) -> (u64, u32)
     busiest_below(&table[..count], loads.slots(), loads.ticks())
 }
 
-/// The least tick, and in it the least slot, with a payload above 1498 bytes, as `Loads::full` gives them.
+/// The least tick, and in it the least slot, with a payload above 1498 bytes, as `Loads::full` gives them; none where there is
+/// no such slot.
 pub fn plain_full(loads: &Loads) -> Option<(u32, u8)>
     ensures { MatchOption result (Fits (items_of loads.now) loads.now.slots) (λ f. (b : ℕ) × IsFirstFull (items_of loads.now) loads.now.slots f.0 f.1 b) }
 {

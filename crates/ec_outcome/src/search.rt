@@ -4,7 +4,8 @@ use ec_cert::{Best, Cert, Order, Tree};
 use ec_loads::Plan;
 use std::alloc::AllocError;
 
-/// Why a search ended without a proof; the first of these that applies.
+/// Why a search ended without a proof. Refusals by the book come first, then a spent budget, then a part that is done. Of memory and time
+/// one worker tells which ended it; of several workers memory comes first. The rest is `Journal`.
 #[derive(Clone, Copy, Debug, PartialEq, Eq)]
 pub enum Cut {
     /// What the workers wrote down doesn't agree.

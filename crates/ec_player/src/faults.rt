@@ -1,6 +1,6 @@
 //! When a frame is sent, and which datagram of it came back wrong.
 
-/// When a frame is sent: before the first tick, or in a slot of a tick.
+/// When a frame is sent: before the first tick, or in a slot of a tick; both are counted from 0.
 #[derive(Clone, Copy, Debug, PartialEq, Eq)]
 pub enum Stage {
     Start,

@@ -103,7 +103,7 @@ fn copy_pair(image: &mut [u8], came: &[u8], pair: &[Fmmu])
     }
 }
 
-/// The image with the inputs that came, of which `came` has the bytes at their places.
+/// The image, in which each byte of an input is the one that `came` has at its place; `came` is as long as the image.
 ///
 /// # Errors
 ///

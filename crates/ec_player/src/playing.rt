@@ -245,7 +245,7 @@ fn play_line<X: Pass>(
 
 /// Plays a plan, one frame after the other (own profile, after ETG.1000.4, clause 5.4): the start frames and then the frames of the
 /// ticks below `ticks` go through the slaves, of which there is one for each slave of the units, in file order. Outputs are those of
-/// the image, whose first byte is at the logical address 0x00010000.
+/// the image, whose first byte is at the logical address 0x00010000; it has the `total` bytes of the mapping. `ticks` is at most 65,536.
 ///
 /// # Errors
 ///

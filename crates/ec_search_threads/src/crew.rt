@@ -191,12 +191,11 @@ fn search_on<S: Search + Send + Sync, R: Threads + Wait + Sync, G: Gate + Sync>(
     Ok(closed(shared, out_of_slots(slots, back), ended))
 }
 
-/// Searches on a book on which nothing has happened, with 1 to 16 workers, each in a thread of its own. They begin at the
-/// value of the book, if it has one. Worker 0 first offers the plan that a search by the book's rules opens with, where
-/// `first` says so, and splits and closes
-/// single nodes until as many pieces of the book's part are free as there are workers; the free pieces of that part are then dealt to the workers in
-/// turn. `gate` is told before each later node, and asked whether the time is over before each later piece. What the workers did comes back in the finished book, in whatever order
-/// they did it; a book that goes on with a tree was given that tree.
+/// Searches on a book on which nothing has happened, with 1 to 16 workers, each in a thread of its own. They begin at the value of the
+/// book, if it has one. Worker 0 first offers the plan that a search by the book's rules opens with, where `first` says so, and splits and
+/// closes single nodes until as many pieces of the book's part are free as there are workers; the free pieces of that part are then dealt
+/// to the workers in turn. `gate` is told before each later node, and asked whether the time is over before each later piece. What the
+/// workers did comes back in the finished book, in whatever order they did it; a book that goes on with a tree was given that tree.
 pub fn search_by_crew<R: Threads + Wait + Sync, G: Gate + Sync>(
     rt: &R,
     alloc: Global,

@@ -188,8 +188,8 @@ impl<'u, 'o, 'b, S: Search> Post<'u, 'o, 'b, S> {
         }
     }
 
-    /// Offers a legal plan with what its busiest tick costs, which is published where the plan is better; gives the value from then on, which is that cost where the
-    /// book took the plan, else the book's.
+    /// Offers a legal plan with what its busiest tick costs, which is published where the plan is better; gives the value from then on,
+    /// which is that cost where the book took the plan, else the book's.
     pub(crate) fn improve<R: Wait>(
         &mut self,
         rt: &R,

@@ -8,7 +8,7 @@ use crate::request::Request;
 use byteorder::{ByteOrder, LittleEndian};
 use ec_frames::AddressKind;
 
-/// Where in the memory the number of the slave's station stands (ETG.1000.4, configured station address).
+/// Where in the memory the number of the slave's station stands (ETG.1000.4, clause 6.1).
 const STATION: usize = 0x0010;
 
 /// The number of the slave's station, in the memory as it is now.

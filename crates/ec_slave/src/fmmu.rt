@@ -5,7 +5,7 @@ ghost use Rattle.ec_slave.specs.Fmmus.{fmmu_at, fmmus_in, has};
 
 use byteorder::{ByteOrder, LittleEndian};
 
-/// An FMMU as a slave's memory holds it (ETG.1000.4, fieldbus memory management unit): it maps `len` bytes of logical memory from
+/// An FMMU as a slave's memory holds it (ETG.1000.4, clause 6.6): it maps `len` bytes of logical memory from
 /// `logical` on to the slave's memory from `physical` on. `reads` and `writes` are false where it isn't active. The bit numbers
 /// are ignored (own profile).
 #[derive(Clone, Copy, Debug, PartialEq, Eq)]

@@ -20,7 +20,7 @@ pub trait Pass {
 
     ghost next: { Self → List ℕ → Self };
 
-    /// Lets a frame pass.
+    /// Lets a frame pass; none is refused.
     fn pass(&mut self, frame: &mut Frame)
         ensures frame { frame.new.items ≡ out self.old frame.old.items }
         ensures state { self.new ≡ next self.old frame.old.items };
@@ -71,14 +71,14 @@ impl SlaveBox {
         Ok(SlaveBox { memory })
     }
 
-    /// The byte of its memory at a place.
+    /// The byte at this address of its memory.
     pub fn peek(&self, at: u16) -> u8
         ensures { result ≡ get_or self.now at 0 }
     {
         self.memory[at as usize]
     }
 
-    /// Changes the byte of its memory at a place, and no other.
+    /// Changes the byte at this address of its memory, and no other.
     pub fn poke(&mut self, at: u16, byte: u8)
         ensures { self.new ≡ slice_set self.old at byte }
     {

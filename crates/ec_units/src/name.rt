@@ -21,7 +21,7 @@ impl Model for Name {
 }
 
 impl Name {
-    /// This text as a name; takes no memory.
+    /// This text as a name, which `is_name` says it is; takes no memory.
     pub fn new(text: String) -> Name
         ensures { result ≡ string_bytes text }
     {

@@ -13,7 +13,7 @@ use ec_symmetry::Rules;
 use ec_units::Units;
 use std::alloc::{AllocError, Global};
 
-/// The rules by which a search makes its tree.
+/// The rules by which a search makes its tree: the strong ones, or turned time.
 pub fn rules_by(strong: bool) -> Rules
     ensures { line_rules result ≡ searched_by strong }
 {

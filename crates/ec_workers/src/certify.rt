@@ -21,7 +21,7 @@ fn line_of(alloc: Global, unit: &Unit) -> Result<UnitLine, AllocError>
     })
 }
 
-/// What a certificate says of the units, in file order.
+/// What a certificate says of the units, in file order. `AllocError` where memory ran out.
 pub fn lines_of(alloc: Global, units: &Units) -> Result<UnitLines, AllocError>
     ensures { IfOk result (λ lines. lines ≡ lines_spec units.now.units) }
 {

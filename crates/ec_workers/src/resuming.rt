@@ -18,21 +18,20 @@ use std::alloc::Global;
 use std::sync::Wait;
 use std::thread::Threads;
 
-/// Goes on with a search that ended without a proof, from its certificate and by the rules of its version, with 1 to 16
-/// workers, which split and close at most `nodes` nodes more (1 to 10,000,000). The order of the units is the certificate's, and so are the tree and
-/// the plan from which it goes on, which it never loses: what it finds is as if it had found all of the tree. `gate` is told
-/// and asked as `solve` does it. Nothing of the certificate is copied but its order, and once the search has begun its end
-/// takes no memory.
+/// Goes on with a search that ended without a proof, from its certificate and by the rules of its version, with 1 to 16 workers, which
+/// split and close at most `nodes` nodes more (1 to 10,000,000). The order of the units is the certificate's, and so are the tree and the
+/// plan from which it goes on, which it never loses: what it finds is as if it had found all of the tree. `gate` is told and asked as
+/// `solve` does it. Nothing of the certificate is copied but its order, and once the search has begun its end takes no memory.
 ///
-/// It works only on the open leaves of the tree that `part` has, and on what comes of them; the others stay open leaves.
-/// Where all of the part are closed, and others are open, it ends without a proof, by `Cut::Parts`.
+/// It works only on the open leaves of the tree that `part` has, and on what comes of them; the others stay open leaves. Where all of the
+/// part are closed, and others are open, it ends without a proof, by `Cut::Parts`.
 ///
-/// Where no leaf of the tree is open it ends at once. One worker runs in the calling thread; its answer is always the same for
-/// the same units, certificate, part and budget, as long as memory is given. Several run as `solve` says, but no first plan
-/// is made, and all begin at the value of the certificate's plan if it has one.
+/// Where no leaf of the tree is open it ends at once. One worker runs in the calling thread; its answer is always the same for the same
+/// units, certificate, part and budget, as long as memory is given. Several run as `solve` says, but no first plan is made, and all begin
+/// at the value of the certificate's plan if it has one.
 ///
-/// `OutOfMemory` where memory was refused before the search began, `Spawn` where more than one worker was asked for and
-/// none could be started.
+/// `OutOfMemory` where memory was refused before the search began, `Spawn` where more than one worker was asked for and none could be
+/// started.
 pub fn solve_from<R: Threads + Wait + Sync, G: Gate + Sync>(
     rt: &R,
     alloc: Global,

@@ -14,20 +14,19 @@ use std::alloc::Global;
 use std::sync::Wait;
 use std::thread::Threads;
 
-/// Searches for a plan whose busiest tick costs least, with 1 to 16 workers, which split and close at most `nodes`
-/// nodes of the tree (1 to 10,000,000); the plan that is offered first counts none. By the `strong` rules, those of
-/// certificates of version 4, they place the units in the order that `strong_order` gives, and `first_plan` is offered; else
-/// in that of `search_order`, and the greedy plan is. `gate` is told before each node, and asked before each piece whether the time is over; then the search ends, with
-/// all that it found. Once it has begun its end takes no memory.
+/// Searches for a plan whose busiest tick costs least, with 1 to 16 workers, which split and close at most `nodes` nodes of the tree (1 to
+/// 10,000,000); the plan that is offered first counts none. By the `strong` rules, those of certificates of version 4, they place the units
+/// in the order that `strong_order` gives, and `first_plan` is offered; else in that of `search_order`, and the greedy plan is. `gate` is
+/// told before each node, and asked before each piece whether the time is over; then the search ends, with all that it found. Once it has
+/// begun its end takes no memory.
 ///
-/// One worker runs in the calling thread, and its answer is always the same for the same units and budget, as long as
-/// memory is given. Several run each in a thread of its own; one that can't be started is left out. Before they start,
-/// worker 0 splits and closes single nodes, of which `gate` isn't told, until as many pieces are free as there are
-/// workers. Which of several optimal plans they give, and with which certificate, hangs on the order in which their
-/// pieces end; what an outcome says is so whatever that order is.
+/// One worker runs in the calling thread, and its answer is always the same for the same units and budget, as long as memory is given.
+/// Several run each in a thread of its own; one that can't be started is left out. Before they start, worker 0 splits and closes single
+/// nodes, of which `gate` isn't told, until as many pieces are free as there are workers. Which of several optimal plans they give, and
+/// with which certificate, hangs on the order in which their pieces end; what an outcome says is so whatever that order is.
 ///
-/// `OutOfMemory` where memory was refused before the search began, `Spawn` where more than one worker was asked for and
-/// none could be started.
+/// `OutOfMemory` where memory was refused before the search began, `Spawn` where more than one worker was asked for and none could be
+/// started.
 pub fn solve<R: Threads + Wait + Sync, G: Gate + Sync>(
     rt: &R,
     alloc: Global,

@@ -288,8 +288,8 @@ fn sixteen_right<R: Threads + Wait + Sync>(
     }
 }
 
-/// Whether a play of the sixteen slaves is as it should be: 33 start frames; a frame in tick 0 with both groups and one in each
-/// other tick that 4 or 5 divides, of 144 and 92 wire bytes, each group counted 24 times; each slave's outputs 7 and its inputs in the image.
+/// Whether a play of the sixteen slaves is as it should be: 33 start frames; a frame in tick 0 with both groups and one in each other tick
+/// that 4 or 5 divides, of 144 and 92 wire bytes, each group counted 24 times; each slave's outputs 7 and its inputs in the image.
 fn is_right(played: &Played<SlaveBox>) -> bool {
     let rows = played.ticks.as_slice();
     for tick in 0..rows.len() {
