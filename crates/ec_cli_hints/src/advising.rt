@@ -2,24 +2,14 @@
 //! again.
 
 use crate::cycle::{Cycle, USE};
-use crate::quoted::{add_command, add_path};
+use crate::help::{help, other_rules};
+use crate::quoted::{Command, PathPiece};
 use ec_outcome::{Cut, Ending};
 use ec_text_builder::Draft;
 use std::alloc::{AllocError, Global};
 
 /// The most bytes of a certificate that are read.
 const MOST_READ: u64 = 67_108_864;
-
-/// A node takes at most so many bytes of a certificate, in most searches: by the strong rules, and else.
-const BYTES_OF_NODE: (u64, u64) = (13, 10);
-
-/// What to try where a search didn't go by the strong rules.
-const STRONGER: &str =
-    "The command plan --strong searches by stronger rules, and may end with a proof.\n";
-
-/// What to try where a search went by the strong rules.
-const PLAINER: &str =
-    "The command plan without --strong searches in another order, and may end with a proof.\n";
 
 /// A certificate that was written.
 #[derive(Clone, Copy)]
@@ -45,7 +35,7 @@ pub enum Filed<'a> {
     There(Written<'a>),
 }
 
-impl<'a> Filed<'a> {
+impl Filed<'_> {
     /// Whether it is there, or beside its path, with so many bytes that no command reads it.
     fn is_too_large(self) -> bool {
         match self {
@@ -68,7 +58,7 @@ pub enum Found {
 }
 
 /// What was asked for, where what would help hangs on that.
-#[derive(Clone, Copy)]
+#[derive(Clone, Copy, PartialEq, Eq)]
 pub enum Asked {
     /// All of a tree, with fewer nodes and minutes than may be asked for.
     Whole,
@@ -80,286 +70,158 @@ pub enum Asked {
     Merged,
 }
 
-/// Whether no plan is better than the one that was found.
-fn is_best(ending: Ending) -> bool {
-    ending.best == Some(ending.level)
-}
-
-/// Adds what the level says of each plan.
-fn add_level(out: &mut Draft, ending: Ending) {
-    let level = ending.level;
-    if ending.best.is_none() {
-        return out.add(format_args!(
-            "If there is a plan, its busiest tick costs at least {level} bytes.\n"
-        ));
-    }
-    out.add(format_args!("No plan's busiest tick costs less than {level} bytes"));
-    if is_best(ending) {
-        return out.add(
-            ", so none is better.\nIt is not told as optimal, since its search is not closed.\n",
-        );
-    }
-    out.add(".\n");
-}
-
-/// What would help where a search was cut short before it found a plan.
-fn help_without_plan(cut: Cut) -> &'static str {
-    match cut {
-        Cut::Budget =>
-            "No plan was found before all nodes were spent, and there may be one: a greater --nodes searches longer.\n",
-        Cut::Time =>
-            "No plan was found before the time was over, and there may be one: a greater --minutes searches longer.\n",
-        Cut::Memory =>
-            "Memory ran out before a plan was found, and there may be one: run it with more memory.\n",
-        Cut::Journal =>
-            "What the workers noted does not agree, and there may be a plan: run it with --workers 1.\n",
-        Cut::Parts =>
-            "The leaves of this part are closed, and there may be a plan: merge it with the certificates of the other parts.\n",
-    }
-}
-
-/// What would help where a search was cut short before its plan was shown to be the best.
-fn help_with_plan(cut: Cut) -> &'static str {
-    match cut {
-        Cut::Budget =>
-            "All nodes were spent before it was shown to be the best: a greater --nodes may show it, or find a better one.\n",
-        Cut::Time =>
-            "The time was over before it was shown to be the best: a greater --minutes may show it, or find a better one.\n",
-        Cut::Memory =>
-            "Memory ran out before it was shown to be the best: more memory may show it, or find a better one.\n",
-        Cut::Journal =>
-            "What the workers noted does not agree, so it is not shown to be the best: run it with --workers 1.\n",
-        Cut::Parts =>
-            "The leaves of this part are closed. What is open is left to others: merge it with the certificates of the other parts.\n",
-    }
-}
-
-/// What would help where a search was cut short whose plan is the best.
-fn help_to_close(cut: Cut) -> &'static str {
-    match cut {
-        Cut::Budget =>
-            "All nodes were spent before the search was closed: a greater --nodes may close it.\n",
-        Cut::Time =>
-            "The time was over before the search was closed: a greater --minutes may close it.\n",
-        Cut::Memory => "Memory ran out before the search was closed: more memory may close it.\n",
-        Cut::Journal => "What the workers noted does not agree: run it with --workers 1.\n",
-        Cut::Parts =>
-            "The leaves of this part are closed: merge it with the certificates of the other parts.\n",
-    }
-}
-
-/// What would help, by what was found.
-fn help_for(ending: Ending) -> &'static str {
-    if ending.best.is_none() {
-        help_without_plan(ending.cut)
-    } else if is_best(ending) {
-        help_to_close(ending.cut)
-    } else {
-        help_with_plan(ending.cut)
-    }
-}
-
-/// What would help where a search took as many nodes or minutes as may be asked for, by what was found.
-fn help_beyond(ending: Ending) -> &'static str {
-    match ending.cut {
-        Cut::Budget =>
-            "All nodes were spent, as many as one search may visit: resume goes on from its certificate.\n",
-        Cut::Time =>
-            "The time was over, as much as one search may take: resume goes on from its certificate.\n",
-        Cut::Memory | Cut::Journal | Cut::Parts => help_for(ending),
-    }
-}
-
-/// What would help where a part wasn't done, or was, by what was found.
-fn help_part(ending: Ending) -> &'static str {
-    match ending.cut {
-        Cut::Budget =>
-            "All nodes were spent before the leaves of this part were closed: what it closed stays closed when it is merged.\n",
-        Cut::Time =>
-            "The time was over before the leaves of this part were closed: what it closed stays closed when it is merged.\n",
-        Cut::Memory =>
-            "Memory ran out before the leaves of this part were closed: what it closed stays closed when it is merged.\n",
-        Cut::Journal | Cut::Parts => help_for(ending),
-    }
-}
-
-/// What would help, by what was found and what was asked for.
-fn help(ending: Ending, asked: Asked) -> &'static str {
-    match asked {
-        Asked::Whole => help_for(ending),
-        Asked::Most => help_beyond(ending),
-        Asked::Part => help_part(ending),
-        Asked::Merged => "Some leaves are still open: none of these certificates closes them.\n",
-    }
-}
-
-/// Whether what would help is told: not where it makes a certificate larger that is too large.
-fn is_helped(ending: Ending, filed: Filed<'_>, asked: Asked) -> bool {
-    ending.cut == Cut::Journal || matches!(asked, Asked::Merged) || !filed.is_too_large()
-}
-
-/// Which other rules may end with a proof where a search didn't.
-fn other_rules(ending: Ending, asked: Asked) -> &'static str {
-    match asked {
-        Asked::Part | Asked::Merged => "",
-        Asked::Whole | Asked::Most if ending.cut == Cut::Journal => "",
-        Asked::Whole | Asked::Most if ending.strong => PLAINER,
-        Asked::Whole | Asked::Most => STRONGER,
-    }
-}
-
-/// How one goes on from a certificate.
+/// A search, or a merge, that ended without a proof.
 #[derive(Clone, Copy)]
-struct Onward {
-    /// The words of the command before the path of the certificate and behind it.
-    command: (&'static str, &'static str),
-    /// What the command does.
-    does: &'static str,
-    /// What is told where no certificate was asked for.
-    unasked: &'static str,
+struct Search<'a> {
+    ending: Ending,
+    filed: Filed<'a>,
+    asked: Asked,
 }
 
-impl Onward {
-    /// How one goes on, by what was asked for.
-    fn of(asked: Asked) -> Onward {
-        match asked {
-            Asked::Whole | Asked::Most => Onward {
-                command: ("resume --cert ", ""),
-                does: " goes on with this search, and counts new nodes alone.\n",
-                unasked: "With --out PATH its certificate is written, and the command resume --cert PATH goes on with that.\n",
-            },
-            Asked::Part => Onward {
-                command: ("merge --cert ", " --cert PATH .."),
-                does: " merges it with the others, and tells what they show together.\n",
-                unasked: "With --out PATH its certificate is written, and the command merge merges it with the others.\n",
-            },
-            Asked::Merged => Onward {
-                command: ("resume --cert ", ""),
-                does: " goes on with these leaves, and with --part I/N on many machines.\n",
-                unasked: "With --out PATH the merged certificate is written, and the command resume --cert PATH goes on with it.\n",
-            },
+impl Search<'_> {
+    /// Adds what the level says of each plan.
+    fn add_level(self, out: &mut Draft) {
+        let level = self.ending.level;
+        match self.ending.best {
+            None => out.add(format_args!(
+                "If there is a plan, its busiest tick costs at least {level} bytes.\n"
+            )),
+            Some(best) if best == level => out.add(format_args!(
+                "No plan's busiest tick costs less than {level} bytes, so none is better.\nIt is not told as optimal, since its search is not closed.\n"
+            )),
+            Some(_) => out.add(format_args!(
+                "No plan's busiest tick costs less than {level} bytes.\n"
+            )),
         }
     }
-}
 
-/// Adds how many nodes one may go on with, where as many as before may make a certificate that can't be read.
-fn add_room(out: &mut Draft, cert: Written<'_>, strong: bool, asked: Asked) {
-    let Written { bytes, nodes, .. } = cert;
-    let each = if strong {
-        BYTES_OF_NODE.0
-    } else {
-        BYTES_OF_NODE.1
-    };
-    let room = MOST_READ.saturating_sub(bytes) / each / 1000 * 1000;
-    if room >= u64::from(nodes) {
-        return;
-    }
-    out.add(format_args!("It has {bytes} bytes, and at most {MOST_READ} are read: "));
-    match asked {
-        _ if room == 0 => out.add("what goes on with it may have more.\n"),
-        Asked::Merged => out.add(format_args!(
-            "go on with {room} nodes or less, in all parts together.\n"
-        )),
-        Asked::Whole | Asked::Most | Asked::Part => {
+    /// Adds how many nodes one may go on with, where as many as before may make a certificate that can't be read. In most searches
+    /// a node takes at most 13 bytes of a certificate by the strong rules, and else 10.
+    fn add_room(self, out: &mut Draft, bytes: u64, nodes: u32) {
+        let each = if self.ending.strong { 13 } else { 10 };
+        let room = MOST_READ.saturating_sub(bytes) / each / 1000 * 1000;
+        if room >= u64::from(nodes) || self.asked == Asked::Part {
+            return;
+        }
+        out.add(format_args!("It has {bytes} bytes, and at most {MOST_READ} are read: "));
+        if room == 0 {
+            out.add("what goes on with it may have more.\n");
+        } else if self.asked == Asked::Merged {
+            out.add(format_args!("go on with {room} nodes or less, in all parts together.\n"));
+        } else {
             out.add(format_args!("go on with --nodes {room} or less.\n"));
         }
     }
-}
 
-/// Adds how one goes on from a certificate that can be read.
-fn add_onward(out: &mut Draft, filed: Filed<'_>, strong: bool, asked: Asked) {
-    let onward = Onward::of(asked);
-    let (front, behind) = onward.command;
-    match filed {
-        Filed::There(cert) => {
-            out.add("The command ");
-            add_command(out, front, cert.path, behind);
-            out.add(onward.does);
-            if !matches!(asked, Asked::Part) {
-                add_room(out, cert, strong, asked);
-            }
+    /// Adds how one goes on from a certificate that was written.
+    fn add_onward(self, out: &mut Draft, path: &str) {
+        let resume = Command("resume --cert ", path, "");
+        let merge = Command("merge --cert ", path, " --cert PATH ..");
+        match self.asked {
+            Asked::Whole | Asked::Most => out.add(format_args!(
+                "The command {resume} goes on with this search, and counts new nodes alone.\n"
+            )),
+            Asked::Part => out.add(format_args!(
+                "The command {merge} merges it with the others, and tells what they show together.\n"
+            )),
+            Asked::Merged => out.add(format_args!(
+                "The command {resume} goes on with these leaves, and with --part I/N on many machines.\n"
+            )),
         }
-        Filed::Missing | Filed::TooLarge => {}
-        Filed::Unasked => out.add(onward.unasked),
+    }
+
+    /// Adds how one could go on if a certificate were asked for.
+    fn add_unasked(self, out: &mut Draft) {
+        out.add(match self.asked {
+            Asked::Whole | Asked::Most =>
+                "With --out PATH its certificate is written, and the command resume --cert PATH goes on with that.\n",
+            Asked::Part =>
+                "With --out PATH its certificate is written, and the command merge merges it with the others.\n",
+            Asked::Merged =>
+                "With --out PATH the merged certificate is written, and the command resume --cert PATH goes on with it.\n",
+        });
+    }
+
+    /// Adds what is proved of each plan, what would help, if that doesn't make a certificate larger that is too large, and how one
+    /// goes on.
+    fn add_unproved(self, out: &mut Draft) {
+        let Search {
+            ending,
+            filed,
+            asked,
+        } = self;
+        let is_too_large = filed.is_too_large();
+        self.add_level(out);
+        if !is_too_large || asked == Asked::Merged || ending.cut == Cut::Journal {
+            out.add(help(ending, asked));
+        }
+        out.add(other_rules(ending, asked));
+        match filed {
+            Filed::There(cert) if !is_too_large => {
+                self.add_onward(out, cert.path);
+                self.add_room(out, cert.bytes, cert.nodes);
+            }
+            Filed::Unasked => self.add_unasked(out),
+            Filed::There(_) | Filed::Missing | Filed::TooLarge => {}
+        }
+    }
+
+    /// Adds what is known of each plan of a line, with the level that its bytes alone give where that is greater, what would help,
+    /// and how one goes on.
+    fn add_known(self, out: &mut Draft, cycle: Cycle) {
+        let level = cycle.mean.cost;
+        if level <= self.ending.level {
+            return self.add_unproved(out);
+        }
+        cycle.add_mean(out);
+        if self.ending.best == Some(level) {
+            return out.add(format_args!(
+                "No plan's busiest tick costs less than {level} bytes, so none is better.\nIt is not told as optimal, since its certificate does not show that. No longer search is needed.\n"
+            ));
+        }
+        let ending = Ending {
+            level,
+            ..self.ending
+        };
+        Search { ending, ..self }.add_unproved(out);
+    }
+
+    /// Adds what its end is good for, and what would help; less where the line isn't known.
+    fn add_ending(self, out: &mut Draft, cycle: Option<Cycle>) {
+        let Some(cycle) = cycle else {
+            if self.ending.best.is_some() {
+                out.add(USE);
+            }
+            return self.add_unproved(out);
+        };
+        if cycle.is_overfull() {
+            return cycle.add_none(out);
+        }
+        if let Some(best) = self.ending.best {
+            cycle.add_use(out, best);
+        }
+        let least = self.ending.level.max(cycle.mean.cost);
+        if cycle.is_beyond(least) {
+            cycle.add_beyond(out, least);
+        } else {
+            self.add_known(out, cycle);
+        }
     }
 }
 
-/// Adds that a certificate can't be read again, where that wasn't told.
-fn add_size(out: &mut Draft, filed: Filed<'_>) {
-    let Filed::There(cert) = filed else {
-        return;
-    };
-    let bytes = cert.bytes;
-    out.add("The certificate in ");
-    add_path(out, cert.path);
-    out.add(format_args!(
-        " has {bytes} bytes. At most {MOST_READ} are read: check and resume refuse it.\n"
-    ));
-}
-
-/// What gives a certificate that can be read.
-fn smaller(asked: Asked) -> &'static str {
-    match asked {
-        Asked::Merged =>
-            "Merge fewer parts, or parts of fewer nodes: that gives a smaller certificate.\n",
-        Asked::Whole | Asked::Most | Asked::Part =>
-            "A smaller --nodes gives a smaller certificate.\n",
+/// Adds that a certificate can't be read again, where that wasn't told, and what gives one that can.
+fn add_too_large(out: &mut Draft, filed: Filed<'_>, asked: Asked) {
+    if let Filed::There(Written { path, bytes, .. }) = filed {
+        out.add(format_args!(
+            "The certificate in {} has {bytes} bytes. At most {MOST_READ} are read: check and resume refuse it.\n",
+            PathPiece(path)
+        ));
     }
-}
-
-/// Adds what is proved of each plan, what would help, and how one goes on.
-fn add_unproved(out: &mut Draft, ending: Ending, filed: Filed<'_>, asked: Asked) {
-    add_level(out, ending);
-    if is_helped(ending, filed, asked) {
-        out.add(help(ending, asked));
-    }
-    out.add(other_rules(ending, asked));
-    if !filed.is_too_large() {
-        add_onward(out, filed, ending.strong, asked);
-    }
-}
-
-/// Adds that the bytes of the line alone show a plan to be the best.
-fn add_settled(out: &mut Draft, level: u64) {
-    out.add(format_args!(
-        "No plan's busiest tick costs less than {level} bytes, so none is better.\nIt is not told as optimal, since its certificate does not show that. No longer search is needed.\n"
-    ));
-}
-
-/// Adds what is known of each plan of a line, with the level that its bytes alone give where that is greater, what would help, and
-/// how one goes on.
-fn add_known(out: &mut Draft, ending: Ending, cycle: Cycle, filed: Filed<'_>, asked: Asked) {
-    let level = cycle.mean.cost;
-    if level <= ending.level {
-        return add_unproved(out, ending, filed, asked);
-    }
-    cycle.add_mean(out);
-    if ending.best == Some(level) {
-        return add_settled(out, level);
-    }
-    add_unproved(out, Ending { level, ..ending }, filed, asked);
-}
-
-/// Adds what an end without a proof is good for on a line, and what would help.
-fn add_ending(out: &mut Draft, ending: Ending, cycle: Cycle, filed: Filed<'_>, asked: Asked) {
-    if cycle.is_overfull() {
-        return cycle.add_none(out);
-    }
-    if let Some(best) = ending.best {
-        cycle.add_use(out, best);
-    }
-    if cycle.is_beyond(ending.level.max(cycle.mean.cost)) {
-        return cycle.add_beyond(out, ending.level.max(cycle.mean.cost));
-    }
-    add_known(out, ending, cycle, filed, asked);
-}
-
-/// Adds what is known of an end without a proof where the line isn't known.
-fn add_alone(out: &mut Draft, ending: Ending, filed: Filed<'_>, asked: Asked) {
-    if ending.best.is_some() {
-        out.add(USE);
-    }
-    add_unproved(out, ending, filed, asked);
+    out.add(if asked == Asked::Merged {
+        "Merge fewer parts, or parts of fewer nodes: that gives a smaller certificate.\n"
+    } else {
+        "A smaller --nodes gives a smaller certificate.\n"
+    });
 }
 
 /// What to do after a search, or after certificates were merged, in a few sentences, each a line. Of any: whether the plan fits
@@ -375,10 +237,14 @@ pub fn counsel(
 ) -> Result<String, AllocError> {
     let mut out = Draft::new(alloc);
     match (found, cycle) {
-        (Found::Unproved(ending), Some(cycle)) => {
-            add_ending(&mut out, ending, cycle, filed, asked);
+        (Found::Unproved(ending), _) => {
+            let search = Search {
+                ending,
+                filed,
+                asked,
+            };
+            search.add_ending(&mut out, cycle);
         }
-        (Found::Unproved(ending), None) => add_alone(&mut out, ending, filed, asked),
         (Found::Least(busiest), Some(cycle)) if cycle.is_beyond(busiest) => {
             cycle.add_beyond(&mut out, busiest);
         }
@@ -386,8 +252,7 @@ pub fn counsel(
         (Found::Least(_) | Found::NoPlan, _) => {}
     }
     if filed.is_too_large() {
-        add_size(&mut out, filed);
-        out.add(smaller(asked));
+        add_too_large(&mut out, filed, asked);
     }
     out.finish()
 }

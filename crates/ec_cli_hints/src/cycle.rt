@@ -3,10 +3,7 @@
 use ec_bounds::{MeanTick, mean_tick};
 use ec_text_builder::Draft;
 use ec_units::Units;
-use ec_wire::fits;
-
-/// What a byte takes on the wire, in ns (IEEE 802.3, 100 Mbit/s).
-const NS_OF_BYTE: u64 = 80;
+use ec_wire::{BYTE_NS, fits};
 
 /// The most slots of a line.
 const MOST_SLOTS: u8 = 8;
@@ -42,7 +39,7 @@ impl Cycle {
         if !self.is_beyond(busiest) {
             return out.add(USE);
         }
-        let (ns, tick) = (busiest.saturating_mul(NS_OF_BYTE), self.tick_ns);
+        let (ns, tick) = (busiest.saturating_mul(BYTE_NS), self.tick_ns);
         out.add(format_args!(
             "The plan is legal, but does not fit: its busiest tick takes {ns} ns on the wire, and tick_ns = {tick}.\n"
         ));
@@ -50,7 +47,7 @@ impl Cycle {
 
     /// Adds that no plan fits, where some tick of each costs so many bytes, and what would help.
     pub(crate) fn add_beyond(self, out: &mut Draft, least: u64) {
-        let (ns, tick) = (least.saturating_mul(NS_OF_BYTE), self.tick_ns);
+        let (ns, tick) = (least.saturating_mul(BYTE_NS), self.tick_ns);
         out.add(format_args!(
             "Some tick of each plan takes at least {ns} ns on the wire, and tick_ns = {tick}: no plan of this line fits.\nA longer tick, longer periods or fewer bytes would help.\n"
         ));
@@ -74,22 +71,17 @@ impl Cycle {
         self.mean.frames > u64::from(self.slots)
     }
 
-    /// Adds why there is no plan.
-    fn add_reason(self, out: &mut Draft) {
-        if !self.is_overfull() {
-            return out.add("Each plan has a frame that is too full.\n");
-        }
-        let MeanTick { bytes, frames, .. } = self.mean;
-        let slots = self.slots;
-        out.add(format_args!(
-            "Some tick of each plan carries at least {bytes} bytes of units: at least {frames} frames, and slots = {slots}. So there is no plan.\n"
-        ));
-    }
-
     /// Adds why there is no plan, and what would help.
     pub(crate) fn add_none(self, out: &mut Draft) {
-        self.add_reason(out);
-        let (frames, slots) = (self.mean.frames, self.slots);
+        let MeanTick { bytes, frames, .. } = self.mean;
+        let slots = self.slots;
+        if self.is_overfull() {
+            out.add(format_args!(
+                "Some tick of each plan carries at least {bytes} bytes of units: at least {frames} frames, and slots = {slots}. So there is no plan.\n"
+            ));
+        } else {
+            out.add("Each plan has a frame that is too full.\n");
+        }
         if frames > u64::from(MOST_SLOTS) {
             out.add("No number of slots is enough: fewer bytes or longer periods would help.\n");
         } else if self.is_overfull() {

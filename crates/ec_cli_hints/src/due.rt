@@ -1,90 +1,25 @@
-//! Which line is due where in a certificate.
+//! The text of a certificate: where its parts stand, and what is due at a line. All lines are counted from 0.
+
+use crate::inputs::Inputs;
+
+/// The text of a certificate.
+#[derive(Clone, Copy)]
+pub(crate) struct CertText<'a> {
+    text: &'a str,
+    /// The version that it begins with, 1 to 4, or 0 where it begins otherwise.
+    version: u8,
+    /// How many lines in turn, from the third on, are those of units.
+    pub units: usize,
+}
 
 /// What a line of a certificate has to be.
 #[derive(Clone, Copy)]
-pub(crate) enum Due {
-    Version,
-    Slots,
-    FirstUnit,
-    UnitOrOrder,
-    Value,
-    Place,
+enum Due {
+    /// What has the same form in each version.
+    Form(&'static str),
     Level,
-    LevelOrNone,
     Tree,
     Node,
-    LaterNode,
-    PartialNode,
-    StrongNode,
-    StrongPartialNode,
-    End,
-}
-
-impl Due {
-    /// The form of such a line, and its ranges.
-    pub(crate) fn as_str(self) -> &'static str {
-        match self {
-            Due::Version => "ecplan 1, ecplan 2, ecplan 3 or ecplan 4",
-            Due::Slots => "slots S, S 1 to 8",
-            Due::FirstUnit => "unit NAME BYTES PERIOD, BYTES 1 to 1486, PERIOD 1 to 60",
-            Due::UnitOrOrder =>
-                "unit NAME BYTES PERIOD (1 to 1486, 1 to 60), or order I I .. (each unit once, from 0)",
-            Due::Value => "value V, V 84 to 12304, or value none",
-            Due::Place => "place PHASE SLOT, PHASE 0 to 59, SLOT 0 to 7",
-            Due::Level => "level L, L 0 to 12304",
-            Due::LevelOrNone => "level L, L 0 to 12304, or level none",
-            Due::Tree => "tree",
-            Due::Node =>
-                "a node: S N (1 to 480), T TICK (0 to 1023), F TICK SLOT (SLOT 0 to 7), or A",
-            Due::LaterNode =>
-                "a node: S N (1 to 480), T TICK (0 to 1023), F TICK SLOT (SLOT 0 to 7), A, or W and 1 to 1024 weights (0 to 65535)",
-            Due::PartialNode =>
-                "a node: S N (1 to 480), T TICK (0 to 1023), F TICK SLOT (SLOT 0 to 7), A, O, or W and 1 to 1024 weights (0 to 65535)",
-            Due::StrongNode =>
-                "a node: S N, T TICK, F TICK SLOT, A, W and weights, M, N PERIOD BYTES (1 to 60, 1 to 1486), or G and 1 to 48 pairs COUNT ROOM (0 to 12304)",
-            Due::StrongPartialNode =>
-                "a node: S N, T TICK, F TICK SLOT, A, O, W and weights, M, N PERIOD BYTES (1 to 60, 1 to 1486), or G and 1 to 48 pairs COUNT ROOM (0 to 12304)",
-            Due::End => "end",
-        }
-    }
-}
-
-/// A line of a certificate, from 0.
-pub(crate) fn cert_line(cert: &str, line: usize) -> Option<&str> {
-    cert.split('\n').nth(line)
-}
-
-/// How many lines in turn, from the third on, are those of units.
-pub(crate) fn unit_lines(cert: &str) -> usize {
-    let mut count = 0usize;
-    for line in cert.split('\n').skip(2) {
-        if !line.starts_with("unit ") {
-            return count;
-        }
-        count = count.saturating_add(1);
-    }
-    count
-}
-
-/// Whether a certificate says that there is no value.
-pub(crate) fn has_no_value(cert: &str) -> bool {
-    cert_line(cert, unit_lines(cert).saturating_add(3)) == Some("value none")
-}
-
-/// How many lines of places are due after a line of a value.
-fn places_due(value: Option<&str>, units: usize) -> usize {
-    match value {
-        Some("value none") => 0,
-        _ => units,
-    }
-}
-
-/// The line, from 0, behind the value and the places: of versions 3 and 4 that of the level, else that before the nodes.
-pub(crate) fn line_after_plan(cert: &str) -> usize {
-    let units = unit_lines(cert);
-    let value = units.saturating_add(3);
-    let places = places_due(cert_line(cert, value), units);
-    value.saturating_add(1).saturating_add(places)
 }
 
 /// How many children a line of a node says that it has.
@@ -95,92 +30,146 @@ fn children(node: &str) -> usize {
     }
 }
 
-/// Whether the tree that begins behind a line is whole before another line, both from 0.
-fn is_whole(cert: &str, tree: usize, line: usize) -> bool {
-    let mut missing = 1usize;
-    for node in cert.split('\n').take(line).skip(tree.saturating_add(1)) {
-        missing = missing.saturating_sub(1).saturating_add(children(node));
+impl<'a> CertText<'a> {
+    /// That of these inputs, if they have a certificate that is a text.
+    pub(crate) fn of(inputs: &Inputs<'a>) -> Option<CertText<'a>> {
+        let text = std::str::from_utf8(inputs.cert?).ok()?;
+        let version = match text.split('\n').next() {
+            Some("ecplan 1") => 1,
+            Some("ecplan 2") => 2,
+            Some("ecplan 3") => 3,
+            Some("ecplan 4") => 4,
+            _ => 0,
+        };
+        let lines = text.split('\n').skip(2);
+        let units = lines.take_while(|line| line.starts_with("unit ")).count();
+        Some(CertText {
+            text,
+            version,
+            units,
+        })
     }
-    missing == 0
-}
 
-/// Whether a certificate is of version 4, by the strong rules.
-fn is_strong(cert: &str) -> bool {
-    cert_line(cert, 0) == Some("ecplan 4")
-}
-
-/// Whether a certificate has a line of a level: in versions 3 and 4.
-pub(crate) fn has_level_line(cert: &str) -> bool {
-    cert_line(cert, 0) == Some("ecplan 3") || is_strong(cert)
-}
-
-/// Whether a certificate has a level, as that of a search without a proof.
-pub(crate) fn is_partial(cert: &str) -> bool {
-    has_level_line(cert) && cert_line(cert, line_after_plan(cert)) != Some("level none")
-}
-
-/// How many lines of a level are due: one in versions 3 and 4.
-fn levels_due(cert: &str) -> usize {
-    if has_level_line(cert) { 1 } else { 0 }
-}
-
-/// What is due where a level is.
-fn level_due(cert: &str) -> Due {
-    if is_strong(cert) {
-        Due::LevelOrNone
-    } else {
-        Due::Level
+    /// One of its lines.
+    pub(crate) fn line(self, line: usize) -> Option<&'a str> {
+        self.text.split('\n').nth(line)
     }
-}
 
-/// What is due where a node of the strong rules is: a leaf may be open where there is a level.
-fn strong_node_due(cert: &str) -> Due {
-    if is_partial(cert) {
-        Due::StrongPartialNode
-    } else {
-        Due::StrongNode
+    /// The line of its order.
+    pub(crate) fn order_line(self) -> usize {
+        self.units.saturating_add(2)
     }
-}
 
-/// What is due where a node is: in version 1 no leaf has weights, and before version 4 only in version 3 a leaf may be
-/// open.
-fn node_due(cert: &str) -> Due {
-    match cert_line(cert, 0) {
-        Some("ecplan 1") => Due::Node,
-        Some("ecplan 3") => Due::PartialNode,
-        Some("ecplan 4") => strong_node_due(cert),
-        _ => Due::LaterNode,
+    /// The line of its value.
+    fn value_line(self) -> usize {
+        self.units.saturating_add(3)
     }
-}
 
-/// What is due at a line, from 0, after the lines before it.
-pub(crate) fn due_at(cert: &str, line: usize) -> Due {
-    let order = unit_lines(cert).saturating_add(2);
-    let value = order.saturating_add(1);
-    let level = line_after_plan(cert);
-    let tree = level.saturating_add(levels_due(cert));
-    match line {
-        0 => Due::Version,
-        1 => Due::Slots,
-        2 => Due::FirstUnit,
-        _ if line <= order => Due::UnitOrOrder,
-        _ if line == value => Due::Value,
-        _ if line < level => Due::Place,
-        _ if line < tree => level_due(cert),
-        _ if line == tree => Due::Tree,
-        _ if is_whole(cert, tree, line) => Due::End,
-        _ => node_due(cert),
+    /// Whether it says that there is no value.
+    pub(crate) fn has_no_value(self) -> bool {
+        self.line(self.value_line()) == Some("value none")
     }
-}
 
-/// The line, from 0, that is the node of a certificate with this number.
-pub(crate) fn node_line(cert: &str, node: usize) -> usize {
-    let mut number = 0usize;
-    for line in cert.split('\n') {
-        number = number.saturating_add(1);
-        if line == "tree" {
-            return number.saturating_add(node);
+    /// The line behind the value and the places: of versions 3 and 4 that of the level, else that before the nodes.
+    pub(crate) fn level_line(self) -> usize {
+        let places = if self.has_no_value() { 0 } else { self.units };
+        self.value_line().saturating_add(1).saturating_add(places)
+    }
+
+    /// The line before the nodes.
+    fn tree_line(self) -> usize {
+        self.level_line()
+            .saturating_add(usize::from(self.version >= 3))
+    }
+
+    /// The line that is the node with this number.
+    pub(crate) fn node_line(self, node: usize) -> usize {
+        let mut lines = self.text.split('\n');
+        match lines.position(|line| line == "tree") {
+            Some(tree) => tree.saturating_add(1).saturating_add(node),
+            None => self.text.split('\n').count(),
         }
     }
-    number
+
+    /// Whether it has a level, as that of a search without a proof.
+    pub(crate) fn is_partial(self) -> bool {
+        self.version >= 3 && self.line(self.level_line()) != Some("level none")
+    }
+
+    /// Whether its tree is whole before a line.
+    fn is_whole(self, line: usize) -> bool {
+        let mut missing = 1usize;
+        let front = self.text.split('\n').take(line);
+        for node in front.skip(self.tree_line().saturating_add(1)) {
+            missing = missing.saturating_sub(1).saturating_add(children(node));
+        }
+        missing == 0
+    }
+
+    /// What is due at a line, after the lines before it.
+    fn due_at(self, line: usize) -> Due {
+        match line {
+            0 => Due::Form("ecplan 1, ecplan 2, ecplan 3 or ecplan 4"),
+            1 => Due::Form("slots S, S 1 to 8"),
+            2 => Due::Form("unit NAME BYTES PERIOD, BYTES 1 to 1486, PERIOD 1 to 60"),
+            _ if line <= self.order_line() => Due::Form(
+                "unit NAME BYTES PERIOD (1 to 1486, 1 to 60), or order I I .. (each unit once, from 0)",
+            ),
+            _ if line == self.value_line() => Due::Form("value V, V 84 to 12304, or value none"),
+            _ if line < self.level_line() => Due::Form(
+                "place PHASE SLOT, PHASE 0 to 59, SLOT 0 to 7",
+            ),
+            _ if line < self.tree_line() => Due::Level,
+            _ if line == self.tree_line() => Due::Tree,
+            _ if self.is_whole(line) => Due::Form("end"),
+            _ => Due::Node,
+        }
+    }
+
+    /// The form of what is due, and its ranges. In version 1 no leaf has weights, and before version 4 only in version 3 a leaf may
+    /// be open; in version 4 where there is a level.
+    fn form_of(self, due: Due) -> &'static str {
+        match (due, self.version) {
+            (Due::Form(form), _) => form,
+            (Due::Level, 4) => "level L, L 0 to 12304, or level none",
+            (Due::Level, _) => "level L, L 0 to 12304",
+            (Due::Tree, _) => "tree",
+            (Due::Node, 1) =>
+                "a node: S N (1 to 480), T TICK (0 to 1023), F TICK SLOT (SLOT 0 to 7), or A",
+            (Due::Node, 3) =>
+                "a node: S N (1 to 480), T TICK (0 to 1023), F TICK SLOT (SLOT 0 to 7), A, O, or W and 1 to 1024 weights (0 to 65535)",
+            (Due::Node, 4) if self.is_partial() =>
+                "a node: S N, T TICK, F TICK SLOT, A, O, W and weights, M, N PERIOD BYTES (1 to 60, 1 to 1486), or G and 1 to 48 pairs COUNT ROOM (0 to 12304)",
+            (Due::Node, 4) =>
+                "a node: S N, T TICK, F TICK SLOT, A, W and weights, M, N PERIOD BYTES (1 to 60, 1 to 1486), or G and 1 to 48 pairs COUNT ROOM (0 to 12304)",
+            (Due::Node, _) =>
+                "a node: S N (1 to 480), T TICK (0 to 1023), F TICK SLOT (SLOT 0 to 7), A, or W and 1 to 1024 weights (0 to 65535)",
+        }
+    }
+
+    /// What is told of a line that stands only in certificates of other versions, or that has to stand in this one.
+    fn note_of(self, due: Due, line: &str) -> &'static str {
+        match (due, line.split(' ').next().unwrap_or(""), self.version) {
+            (Due::Node, "W", 1) =>
+                "A leaf W stands only in a certificate that begins with ecplan 2, ecplan 3 or ecplan 4.\n",
+            (Due::Node, "M" | "N" | "G", 0..=3) =>
+                "Leaves M, N and G stand only in a certificate that begins with ecplan 4.\n",
+            (Due::Node, "O", version) if version != 3 && !self.is_partial() =>
+                "A leaf O stands only in a certificate that has a level: it begins with ecplan 3 or ecplan 4.\n",
+            (Due::Tree, "level", 0..=2) =>
+                "A line level stands only in a certificate that begins with ecplan 3 or ecplan 4.\n",
+            (Due::Level, _, 3) =>
+                "A certificate that begins with ecplan 3 has this line before its tree.\n",
+            (Due::Level, _, _) =>
+                "A certificate that begins with ecplan 4 has this line before its tree.\n",
+            _ => "",
+        }
+    }
+
+    /// What is due at a line, and what is told of what stands there.
+    pub(crate) fn wanted_at(self, line: usize) -> (&'static str, &'static str) {
+        let due = self.due_at(line);
+        let found = self.line(line).unwrap_or("");
+        (self.form_of(due), self.note_of(due, found))
+    }
 }

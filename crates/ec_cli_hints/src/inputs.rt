@@ -1,6 +1,8 @@
 //! What a refused job had read, and the unit text as a table.
 
-use ec_unit_text::Key;
+use ec_unit_text::{Key, Spot};
+use std::alloc::Global;
+use toml::de::Error;
 use toml::{Table, Value};
 
 /// What a refused job had before it. Any part may be missing or cut short: then less is told.
@@ -18,57 +20,93 @@ pub struct Inputs<'a> {
     pub reason: Option<&'a str>,
 }
 
-/// The unit text, and the table that it is, where it is TOML.
+/// The keys and values of a table, if it is there.
 #[derive(Clone, Copy)]
-pub(crate) struct Doc<'a> {
-    pub text: &'a str,
-    pub top: Option<&'a Table>,
-}
+pub(crate) struct Fields<'a>(pub Option<&'a Table>);
 
-/// The value at a key of a table, if both are there.
-pub(crate) fn value_in<'a>(table: Option<&'a Table>, key: Key) -> Option<&'a Value> {
-    table?.get(key.as_str())
-}
+impl<'a> Fields<'a> {
+    /// Those of a value that is a table.
+    pub(crate) fn of(value: &'a Value) -> Fields<'a> {
+        Fields(value.as_table())
+    }
 
-/// The whole number at a key, if there is one.
-pub(crate) fn number_in(table: Option<&Table>, key: Key) -> Option<i64> {
-    value_in(table, key)?.as_integer()
-}
+    /// The value at a key, if both are there.
+    pub(crate) fn value(self, key: Key) -> Option<&'a Value> {
+        self.0?.get(key.as_str())
+    }
 
-/// The text at a key, if there is one.
-pub(crate) fn text_in<'a>(table: Option<&'a Table>, key: Key) -> Option<&'a str> {
-    value_in(table, key)?.as_str()
-}
+    /// Whether there is a value at a key.
+    pub(crate) fn has(self, key: Key) -> bool {
+        self.value(key).is_some()
+    }
 
-/// The values of the array at a key; none where there is no array.
-pub(crate) fn values_in<'a>(table: Option<&'a Table>, key: Key) -> &'a [Value] {
-    match value_in(table, key) {
-        Some(value) => match value.as_array() {
-            Some(values) => values.as_slice(),
-            None => &[],
-        },
-        None => &[],
+    /// The whole number at a key, if there is one.
+    pub(crate) fn number(self, key: Key) -> Option<i64> {
+        self.value(key)?.as_integer()
+    }
+
+    /// The text at a key, if there is one.
+    pub(crate) fn text(self, key: Key) -> Option<&'a str> {
+        self.value(key)?.as_str()
+    }
+
+    /// The values of the array at a key; none where there is no array.
+    pub(crate) fn array(self, key: Key) -> &'a [Value] {
+        match self.value(key) {
+            Some(Value::Array(values)) => values.as_slice(),
+            _ => &[],
+        }
     }
 }
 
 /// The table that is this item of an array.
-fn table_at<'a>(values: &'a [Value], index: Option<usize>) -> Option<&'a Table> {
-    values.get(index?)?.as_table()
+fn item(values: &[Value], index: Option<usize>) -> Fields<'_> {
+    match index {
+        Some(index) => Fields(values.get(index).and_then(Value::as_table)),
+        None => Fields(None),
+    }
+}
+
+/// The unit text, the table that it is or why it isn't TOML, and what gives memory for more.
+#[derive(Clone, Copy)]
+pub(crate) struct Doc<'a> {
+    pub alloc: Global,
+    pub text: &'a str,
+    pub top: Result<&'a Table, Error>,
 }
 
 impl<'a> Doc<'a> {
+    /// The table of the whole text.
+    pub(crate) fn top(self) -> Fields<'a> {
+        Fields(self.top.ok())
+    }
+
     /// The items of the array `unit`.
     pub(crate) fn units(self) -> &'a [Value] {
-        values_in(self.top, Key::Unit)
+        self.top().array(Key::Unit)
     }
 
     /// The table of a unit, numbered from 0.
-    pub(crate) fn unit(self, unit: Option<usize>) -> Option<&'a Table> {
-        table_at(self.units(), unit)
+    pub(crate) fn unit(self, unit: Option<usize>) -> Fields<'a> {
+        item(self.units(), unit)
+    }
+
+    /// The items of the array `slave` of a unit, numbered from 0.
+    pub(crate) fn slaves(self, unit: Option<usize>) -> &'a [Value] {
+        self.unit(unit).array(Key::Slave)
     }
 
     /// The table of a slave of a unit, both numbered from 0.
-    pub(crate) fn slave(self, unit: Option<usize>, slave: Option<usize>) -> Option<&'a Table> {
-        table_at(values_in(self.unit(unit), Key::Slave), slave)
+    pub(crate) fn slave(self, unit: Option<usize>, slave: Option<usize>) -> Fields<'a> {
+        item(self.slaves(unit), slave)
+    }
+
+    /// The table at a spot.
+    pub(crate) fn table(self, spot: Spot) -> Fields<'a> {
+        match (spot.unit, spot.slave) {
+            (Some(_), Some(_)) => self.slave(spot.unit, spot.slave),
+            (Some(_), None) => self.unit(spot.unit),
+            (None, _) => self.top(),
+        }
     }
 }

@@ -1,32 +1,58 @@
 //! Keys that are of another type, or not known.
 
-use crate::inputs::{Doc, value_in};
-use crate::label::{add_in, table_of};
+use crate::inputs::{Doc, Fields};
+use crate::label::In;
 use crate::nearest::nearest;
-use crate::quoted::{add_quoted, add_value};
+use crate::quoted::{Quoted, Shown};
 use ec_text_builder::Draft;
 use ec_unit_text::{Key, Spot};
-use std::alloc::Global;
-use toml::{Table, Value};
+use toml::Value;
 
-const TOP_KEYS: [Key; 3] = [Key::TickNs, Key::Slots, Key::Unit];
+/// A kind of table: its keys, how they are told, and what is told of one of them that stands in another table.
+#[derive(Clone, Copy)]
+pub(crate) struct Kind {
+    pub keys: &'static [Key],
+    told: &'static str,
+    astray: &'static str,
+}
 
-const UNIT_KEYS: [Key; 5] = [Key::Name, Key::Period, Key::Slave, Key::Phase, Key::Slot];
+const TOP: Kind = Kind {
+    keys: &[Key::TickNs, Key::Slots, Key::Unit],
+    told: "The keys at the top of the file are tick_ns, slots and unit.\n",
+    astray: "It stands at the top of the file, above the first [[unit]].\n",
+};
 
-const SLAVE_KEYS: [Key; 5] = [
-    Key::Station,
-    Key::OutBytes,
-    Key::InBytes,
-    Key::Area(false),
-    Key::Area(true),
-];
+const UNIT: Kind = Kind {
+    keys: &[Key::Name, Key::Period, Key::Slave, Key::Phase, Key::Slot],
+    told: "The keys of a unit are name, period, slave, phase and slot.\n",
+    astray: "It is a key of a unit, between its line [[unit]] and its first [[unit.slave]].\n",
+};
 
-/// The keys of the table at a spot.
-pub(crate) fn keys_at(spot: Spot) -> &'static [Key] {
-    match (spot.unit, spot.slave) {
-        (Some(_), Some(_)) => &SLAVE_KEYS,
-        (Some(_), None) => &UNIT_KEYS,
-        (None, _) => &TOP_KEYS,
+const SLAVE: Kind = Kind {
+    keys: &[
+        Key::Station,
+        Key::OutBytes,
+        Key::InBytes,
+        Key::Area(false),
+        Key::Area(true),
+    ],
+    told: "The keys of a slave are station, out_bytes, in_bytes, out_at and in_at.\n",
+    astray: "It is a key of a slave, below a line [[unit.slave]].\n",
+};
+
+impl Kind {
+    /// That of the table at a spot.
+    pub(crate) fn at(spot: Spot) -> Kind {
+        match (spot.unit, spot.slave) {
+            (Some(_), Some(_)) => SLAVE,
+            (Some(_), None) => UNIT,
+            (None, _) => TOP,
+        }
+    }
+
+    /// Whether a word is a key of such a table.
+    pub(crate) fn has(self, word: &str) -> bool {
+        self.keys.iter().any(|key| word == key.as_str())
     }
 }
 
@@ -50,119 +76,70 @@ pub(crate) fn meaning(key: Key) -> &'static str {
     }
 }
 
-/// Whether a word is one of the keys.
-pub(crate) fn is_key(keys: &[Key], word: &str) -> bool {
-    keys.iter().any(|key| word == key.as_str())
-}
-
-/// The first key of a table that isn't one of its own.
-pub(crate) fn unknown_in<'a>(table: Option<&'a Table>, keys: &[Key]) -> Option<&'a str> {
-    for word in table?.keys() {
-        if !is_key(keys, word.as_str()) {
+/// The first key of a table that isn't one of its kind.
+pub(crate) fn unknown_in<'a>(table: Fields<'a>, kind: Kind) -> Option<&'a str> {
+    for word in table.0?.keys() {
+        if !kind.has(word.as_str()) {
             return Some(word.as_str());
         }
     }
     None
 }
 
-/// Adds which keys there are.
-fn add_keys(out: &mut Draft, spot: Spot) {
-    match (spot.unit, spot.slave) {
-        (Some(_), Some(_)) => {
-            out.add("The keys of a slave are station, out_bytes, in_bytes, out_at and in_at.\n");
-        }
-        (Some(_), None) => {
-            out.add("The keys of a unit are name, period, slave, phase and slot.\n");
-        }
-        (None, _) => out.add("The keys at the top of the file are tick_ns, slots and unit.\n"),
-    }
-}
-
-/// Adds where a key stands that is one of another table; else which key was meant.
-fn add_meant(out: &mut Draft, alloc: Global, word: &str, spot: Spot) {
-    if is_key(&SLAVE_KEYS, word) {
-        return out.add("It is a key of a slave, below a line [[unit.slave]].\n");
-    }
+/// What is told of a key that belongs to a table of another kind.
+fn place_of(word: &str) -> Option<&'static str> {
     if word == "slave" {
-        return out.add(
-            "A slave begins with [[unit.slave]], below the [[unit]] that it belongs to.\n",
-        );
+        return Some("A slave begins with [[unit.slave]], below the [[unit]] that it belongs to.\n");
     }
-    if is_key(&UNIT_KEYS, word) {
-        return out.add(
-            "It is a key of a unit, between its line [[unit]] and its first [[unit.slave]].\n",
-        );
-    }
-    if is_key(&TOP_KEYS, word) {
-        return out.add("It stands at the top of the file, above the first [[unit]].\n");
-    }
-    let Ok(meant) = nearest(alloc, word, keys_at(spot)) else {
-        return out.give_up();
-    };
-    match meant {
-        Some(key) => {
-            let key = key.as_str();
-            out.add(format_args!("Was {key} meant?\n"));
+    for kind in [SLAVE, UNIT, TOP] {
+        if kind.has(word) {
+            return Some(kind.astray);
         }
-        None => add_keys(out, spot),
     }
+    None
 }
 
-/// Adds the first key at a spot that isn't known there, and which was meant.
-pub(crate) fn add_unknown(out: &mut Draft, alloc: Global, doc: Doc<'_>, spot: Spot) {
-    let Some(word) = unknown_in(table_of(doc, spot), keys_at(spot)) else {
-        return add_keys(out, spot);
-    };
-    out.add("the key ");
-    add_quoted(out, word.as_bytes());
-    out.add(" is not known there.\n");
-    add_meant(out, alloc, word, spot);
+/// Adds a key that isn't known at a spot, and where it stands if it is one of another table; else which key was meant.
+pub(crate) fn add_unknown(out: &mut Draft, doc: Doc<'_>, word: &str, spot: Spot) {
+    let kind = Kind::at(spot);
+    out.add(format_args!("the key {} is not known there.\n", Quoted(word)));
+    if let Some(place) = place_of(word) {
+        return out.add(place);
+    }
+    match nearest(doc.alloc, word, kind.keys) {
+        Ok(Some(key)) => out.add(format_args!("Was {key} meant?\n")),
+        Ok(None) => out.add(kind.told),
+        Err(_) => out.give_up(),
+    }
 }
 
 /// Tells a key that isn't known.
-pub(crate) fn tell_unknown(out: &mut Draft, alloc: Global, doc: Doc<'_>, spot: Spot) {
-    add_in(out, doc, spot);
-    add_unknown(out, alloc, doc, spot);
-}
-
-/// Adds what is wrong with the value of an array of tables.
-fn add_not_tables(out: &mut Draft, value: &Value, header: &str) {
-    if value.is_table() {
-        out.add(format_args!("Write [[{header}]] in double brackets, once for each.\n"));
-    } else {
-        out.add(format_args!("It has to be tables, each begun by a line [[{header}]].\n"));
+pub(crate) fn tell_unknown(out: &mut Draft, doc: Doc<'_>, spot: Spot) {
+    let kind = Kind::at(spot);
+    out.add(In(doc, spot));
+    match unknown_in(doc.table(spot), kind) {
+        Some(word) => add_unknown(out, doc, word, spot),
+        None => out.add(kind.told),
     }
 }
 
-/// Adds which type the value of a key has to have.
-fn add_type(out: &mut Draft, key: Key, value: &Value) {
-    match key {
-        Key::Unit => add_not_tables(out, value, "unit"),
-        Key::Slave => add_not_tables(out, value, "unit.slave"),
-        Key::Name => out.add("A name is a text in quotes, as name = \"press-4\".\n"),
-        Key::TickNs
-        | Key::Slots
-        | Key::Period
-        | Key::Phase
-        | Key::Slot
-        | Key::Station
-        | Key::OutBytes
-        | Key::InBytes
-        | Key::Area(_) => {
-            out.add("A whole number is needed, without quotes and without a point.\n");
-        }
+/// Which type a key takes, where it has a value of another one.
+fn type_of(key: Key, value: &Value) -> &'static str {
+    match (key, value.is_table()) {
+        (Key::Unit, true) => "Write [[unit]] in double brackets, once for each.\n",
+        (Key::Unit, false) => "It has to be tables, each begun by a line [[unit]].\n",
+        (Key::Slave, true) => "Write [[unit.slave]] in double brackets, once for each.\n",
+        (Key::Slave, false) => "It has to be tables, each begun by a line [[unit.slave]].\n",
+        (Key::Name, _) => "A name is a text in quotes, as name = \"press-4\".\n",
+        _ => "A whole number is needed, without quotes and without a point.\n",
     }
 }
 
 /// Tells a value of another type.
 pub(crate) fn tell_type(out: &mut Draft, doc: Doc<'_>, spot: Spot, key: Key) {
-    add_in(out, doc, spot);
-    let Some(value) = value_in(table_of(doc, spot), key) else {
-        return out.add("a value has the wrong type.\n");
-    };
-    out.add(key.as_str());
-    out.add(" is ");
-    add_value(out, value);
-    out.add(".\n");
-    add_type(out, key, value);
+    out.add(In(doc, spot));
+    match doc.table(spot).value(key) {
+        Some(value) => out.add(format_args!("{key} is {}.\n{}", Shown(value), type_of(key, value))),
+        None => out.add("a value has the wrong type.\n"),
+    }
 }

@@ -1,92 +1,93 @@
-//! The names of units and slaves in a sentence.
+//! The names of units, slaves and values in a sentence.
 
-use crate::headers::{slave_line, unit_line};
-use crate::inputs::{Doc, number_in, text_in, value_in, values_in};
-use crate::quoted::{add_quoted, add_value};
-use ec_text_builder::Draft;
+use crate::headers::header_line;
+use crate::inputs::{Doc, Fields};
+use crate::quoted::{Quoted, Shown};
 use ec_unit_text::{Key, Spot};
-use toml::{Table, Value};
+use std::fmt;
+use toml::Value;
 
-/// Adds a line of the file in brackets, if it is known.
-pub(crate) fn add_line(out: &mut Draft, line: Option<usize>) {
-    if let Some(line) = line {
-        out.add(format_args!(" (line {line})"));
-    }
-}
+/// A line of the file in brackets behind a space, if it is known.
+#[derive(Clone, Copy)]
+pub(crate) struct AtLine(pub Option<usize>);
 
-/// Adds the name of a unit, without its line: `unit "a"`, or its number where it has no name.
-fn add_unit_name(out: &mut Draft, doc: Doc<'_>, unit: usize) {
-    match text_in(doc.unit(Some(unit)), Key::Name) {
-        Some(name) => {
-            out.add("unit ");
-            add_quoted(out, name.as_bytes());
-        }
-        None => {
-            let number = unit.saturating_add(1);
-            out.add(format_args!("unit number {number}"));
+impl fmt::Display for AtLine {
+    fn fmt<W: fmt::Write>(&self, f: &mut fmt::Formatter<W>) -> fmt::Result {
+        match self.0 {
+            Some(line) => write!(f, " (line {line})"),
+            None => Ok(()),
         }
     }
 }
 
-/// Adds a unit with its line: `unit "a" (line 3)`.
-pub(crate) fn add_unit(out: &mut Draft, doc: Doc<'_>, unit: usize) {
-    add_unit_name(out, doc, unit);
-    add_line(out, unit_line(doc, unit));
+/// A unit without its line: `unit "a"`, or its number where it has no name.
+#[derive(Clone, Copy)]
+struct UnitName<'a>(Doc<'a>, usize);
+
+impl fmt::Display for UnitName<'_> {
+    fn fmt<W: fmt::Write>(&self, f: &mut fmt::Formatter<W>) -> fmt::Result {
+        let UnitName(doc, unit) = *self;
+        match doc.unit(Some(unit)).text(Key::Name) {
+            Some(name) => write!(f, "unit {}", Quoted(name)),
+            None => write!(f, "unit number {}", unit.saturating_add(1)),
+        }
+    }
 }
 
 /// Whether several slaves of a unit have a station.
 fn is_shared(doc: Doc<'_>, unit: usize, station: i64) -> bool {
-    let slaves = values_in(doc.unit(Some(unit)), Key::Slave);
-    let has_it = |slave: &&Value| number_in(slave.as_table(), Key::Station) == Some(station);
-    slaves.iter().filter(has_it).count() > 1
+    let has_it = |slave: &&Value| Fields::of(slave).number(Key::Station) == Some(station);
+    doc.slaves(Some(unit)).iter().filter(has_it).count() > 1
 }
 
-/// Adds a slave with its line: `slave 1001 of unit "a" (line 7)`. One that no line begins is told with that of its unit, and
-/// with its number where its station isn't its own.
-pub(crate) fn add_slave(out: &mut Draft, doc: Doc<'_>, unit: usize, slave: usize) {
-    let number = slave.saturating_add(1);
-    let line = slave_line(doc, unit, slave);
-    match number_in(doc.slave(Some(unit), Some(slave)), Key::Station) {
-        Some(station) if line.is_none() && is_shared(doc, unit, station) => {
-            out.add(format_args!("slave {station}, number {number} of "));
+/// A unit, or a slave of it, with its line: `unit "a" (line 3)`, `slave 1001 of unit "a" (line 7)`. A slave that no line begins is
+/// told with that of its unit, and with its number where its station isn't its own.
+#[derive(Clone, Copy)]
+pub(crate) struct Named<'a>(pub Doc<'a>, pub usize, pub Option<usize>);
+
+impl fmt::Display for Named<'_> {
+    fn fmt<W: fmt::Write>(&self, f: &mut fmt::Formatter<W>) -> fmt::Result {
+        let Named(doc, unit, slave) = *self;
+        let line = header_line(doc, unit, slave);
+        if let Some(slave) = slave {
+            let number = slave.saturating_add(1);
+            match doc.slave(Some(unit), Some(slave)).number(Key::Station) {
+                Some(station) if line.is_none() && is_shared(doc, unit, station) => {
+                    write!(f, "slave {station}, number {number} of ")?;
+                }
+                Some(station) => write!(f, "slave {station} of ")?,
+                None => write!(f, "slave number {number} of ")?,
+            }
         }
-        Some(station) => out.add(format_args!("slave {station} of ")),
-        None => out.add(format_args!("slave number {number} of ")),
-    }
-    add_unit_name(out, doc, unit);
-    add_line(out, line.or_else(|| unit_line(doc, unit)));
-}
-
-/// Adds in which table something is: `In unit "a" (line 3): `.
-pub(crate) fn add_in(out: &mut Draft, doc: Doc<'_>, spot: Spot) {
-    let Some(unit) = spot.unit else {
-        return out.add("At the top of the file: ");
-    };
-    out.add("In ");
-    match spot.slave {
-        Some(slave) => add_slave(out, doc, unit, slave),
-        None => add_unit(out, doc, unit),
-    }
-    out.add(": ");
-}
-
-/// The table at a spot.
-pub(crate) fn table_of<'a>(doc: Doc<'a>, spot: Spot) -> Option<&'a Table> {
-    match (spot.unit, spot.slave) {
-        (Some(_), Some(_)) => doc.slave(spot.unit, spot.slave),
-        (Some(_), None) => doc.unit(spot.unit),
-        (None, _) => doc.top,
+        let line = line.or_else(|| header_line(doc, unit, None));
+        write!(f, "{}{}", UnitName(doc, unit), AtLine(line))
     }
 }
 
-/// Adds a key with its value: `period = 90`, or that it isn't there.
-pub(crate) fn add_pair(out: &mut Draft, table: Option<&Table>, key: Key) {
-    let word = key.as_str();
-    match value_in(table, key) {
-        Some(value) => {
-            out.add(format_args!("{word} = "));
-            add_value(out, value);
+/// In which table something is: `In unit "a" (line 3): `.
+#[derive(Clone, Copy)]
+pub(crate) struct In<'a>(pub Doc<'a>, pub Spot);
+
+impl fmt::Display for In<'_> {
+    fn fmt<W: fmt::Write>(&self, f: &mut fmt::Formatter<W>) -> fmt::Result {
+        let In(doc, spot) = *self;
+        match spot.unit {
+            Some(unit) => write!(f, "In {}: ", Named(doc, unit, spot.slave)),
+            None => write!(f, "At the top of the file: "),
         }
-        None => out.add(format_args!("no {word}")),
+    }
+}
+
+/// A key with its value: `period = 90`, or that it isn't there.
+#[derive(Clone, Copy)]
+pub(crate) struct Pair<'a>(pub Fields<'a>, pub Key);
+
+impl fmt::Display for Pair<'_> {
+    fn fmt<W: fmt::Write>(&self, f: &mut fmt::Formatter<W>) -> fmt::Result {
+        let Pair(table, key) = *self;
+        match table.value(key) {
+            Some(value) => write!(f, "{key} = {}", Shown(value)),
+            None => write!(f, "no {key}"),
+        }
     }
 }

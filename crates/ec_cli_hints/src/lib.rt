@@ -4,12 +4,12 @@
 #![tactic(auto)]
 
 mod advising;
-mod areas;
 mod certs;
 mod checks;
 mod cycle;
 mod due;
 mod headers;
+mod help;
 mod inputs;
 mod keys;
 mod label;

@@ -1,7 +1,8 @@
 //! A unit text that begins `unit`, or the `slave` of one unit, in two ways.
 
 use crate::headers::{Header, header_of};
-use crate::label::add_line;
+use crate::label::AtLine;
+use crate::slips::Stop;
 use ec_text_builder::Draft;
 
 /// An array of tables: the table that has it, its name in a header, its key, and how each of its tables begins.
@@ -27,14 +28,14 @@ const SLAVE: Array = Array {
     rule: "each slave of a unit begins with [[unit.slave]], also the first.\n",
 };
 
-/// The array that was begun otherwise before a line at which the reader stopped with a message, if it is for that.
-fn array_at(line: &str, message: &str) -> Option<Array> {
-    let header = header_of(line)?;
-    if message.starts_with("cannot extend") {
+/// The array that was begun otherwise before the line at which the reader stopped, if its message is for that.
+fn array_at(stop: Stop<'_>) -> Option<Array> {
+    let header = header_of(stop.line)?;
+    if stop.message.starts_with("cannot extend") {
         return Some(UNIT);
     }
     match header {
-        _ if !message.contains("duplicate") => None,
+        _ if !stop.message.contains("duplicate") => None,
         Header::Unit => Some(UNIT),
         Header::Slave => Some(SLAVE),
     }
@@ -71,29 +72,21 @@ fn line_begun(text: &str, end: usize, array: Array) -> Option<usize> {
                 found = None;
             }
         }
-        let is_begun = if is_header {
-            is_within(name, array.name)
-        } else {
-            has_keys && is_within(name, array.key)
-        };
-        if is_begun && found.is_none() {
+        let outer = if is_header { array.name } else { array.key };
+        if found.is_none() && (is_header || has_keys) && is_within(name, outer) {
             found = Some(index.saturating_add(1));
         }
     }
     found
 }
 
-/// Adds that `unit` or `slave` was begun otherwise before a line, from 0, at which the reader stopped with a message, and says
-/// whether it was.
-pub(crate) fn add_mixed(out: &mut Draft, text: &str, at: usize, line: &str, message: &str) -> bool {
-    let Some(array) = array_at(line, message) else {
+/// Adds that `unit` or `slave` was begun otherwise before the line, from 0, at which the reader stopped, and says whether it was.
+pub(crate) fn add_mixed(out: &mut Draft, text: &str, at: usize, stop: Stop<'_>) -> bool {
+    let Some(array) = array_at(stop) else {
         return false;
     };
-    out.add("Before this line ");
-    out.add(array.key);
-    out.add(" was begun otherwise");
-    add_line(out, line_begun(text, at, array));
-    out.add(": ");
-    out.add(array.rule);
+    let Array { key, rule, .. } = array;
+    let line = AtLine(line_begun(text, at, array));
+    out.add(format_args!("Before this line {key} was begun otherwise{line}: {rule}"));
     true
 }

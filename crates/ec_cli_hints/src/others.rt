@@ -1,10 +1,10 @@
 //! A certificate of other units: which unit differs, and how.
 
-use crate::due::{cert_line, unit_lines};
-use crate::inputs::{Doc, number_in, text_in};
-use crate::label::add_unit;
-use crate::quoted::{add_bytes, add_quoted};
-use crate::units::unit_bytes;
+use crate::due::CertText;
+use crate::inputs::Doc;
+use crate::label::Named;
+use crate::quoted::{Bytes, Quoted};
+use crate::units::bytes_of;
 use ec_text_builder::Draft;
 use ec_unit_text::Key;
 
@@ -21,12 +21,10 @@ fn number_of(word: Option<&str>) -> Option<i64> {
     word?.parse::<i64>().ok()
 }
 
-/// The unit that a line of a certificate is.
-fn cert_unit(line: &str) -> Option<CertUnit<'_>> {
-    let mut words = line.split(' ');
-    if words.next() != Some("unit") {
-        return None;
-    }
+/// The unit of a certificate with this number, from 0.
+fn cert_unit(cert: CertText<'_>, unit: usize) -> Option<CertUnit<'_>> {
+    let line = cert.line(unit.saturating_add(2))?;
+    let mut words = line.strip_prefix("unit ")?.split(' ');
     Some(CertUnit {
         name: words.next()?,
         bytes: number_of(words.next())?,
@@ -34,94 +32,64 @@ fn cert_unit(line: &str) -> Option<CertUnit<'_>> {
     })
 }
 
-/// The unit of a certificate with this number, from 0.
-fn cert_unit_at(cert: &str, unit: usize) -> Option<CertUnit<'_>> {
-    cert_unit(cert_line(cert, unit.saturating_add(2))?)
-}
-
-/// Whether a unit of the file has another name than the certificate says.
-fn has_other_name(doc: Doc<'_>, unit: usize, theirs: CertUnit<'_>) -> bool {
-    match text_in(doc.unit(Some(unit)), Key::Name) {
-        Some(name) => name != theirs.name,
-        None => true,
-    }
-}
-
 /// Adds how a unit of the file differs from that of the certificate, and says whether it does.
 fn add_difference(out: &mut Draft, doc: Doc<'_>, unit: usize, theirs: CertUnit<'_>) -> bool {
     let table = doc.unit(Some(unit));
-    let bytes = unit_bytes(table);
-    let period = number_in(table, Key::Period).unwrap_or(0);
-    if has_other_name(doc, unit, theirs) {
-        add_unit(out, doc, unit);
-        out.add(" stands where the certificate has unit ");
-        add_quoted(out, theirs.name.as_bytes());
-        out.add(".\n");
-        return true;
-    }
-    if bytes != i128::from(theirs.bytes) {
+    let ours = Named(doc, unit, None);
+    let bytes = bytes_of(doc.slaves(Some(unit)));
+    let period = table.number(Key::Period).unwrap_or(0);
+    if table.text(Key::Name) != Some(theirs.name) {
+        let name = Quoted(theirs.name);
+        out.add(format_args!("{ours} stands where the certificate has unit {name}.\n"));
+    } else if bytes != i128::from(theirs.bytes) {
         let other = theirs.bytes;
-        add_unit(out, doc, unit);
-        out.add(format_args!(" has {bytes} bytes, in the certificate {other}.\n"));
-        return true;
-    }
-    if period != theirs.period {
+        out.add(format_args!("{ours} has {bytes} bytes, in the certificate {other}.\n"));
+    } else if period != theirs.period {
         let other = theirs.period;
-        add_unit(out, doc, unit);
-        out.add(format_args!(" has period {period}, in the certificate {other}.\n"));
-        return true;
+        out.add(format_args!("{ours} has period {period}, in the certificate {other}.\n"));
+    } else {
+        return false;
     }
-    false
+    true
 }
 
 /// Adds the first unit that differs, if one does, or that only one of the two has.
-fn add_first(out: &mut Draft, doc: Doc<'_>, cert: &str) {
-    for unit in 0..doc.units().len() {
-        let Some(theirs) = cert_unit_at(cert, unit) else {
-            add_unit(out, doc, unit);
-            return out.add(" is not in the certificate.\n");
+fn add_first(out: &mut Draft, doc: Doc<'_>, cert: CertText<'_>) {
+    let count = doc.units().len();
+    for unit in 0..count {
+        let Some(theirs) = cert_unit(cert, unit) else {
+            return out.add(format_args!("{} is not in the certificate.\n", Named(doc, unit, None)));
         };
         if add_difference(out, doc, unit, theirs) {
             return;
         }
     }
-    if let Some(theirs) = cert_unit_at(cert, doc.units().len()) {
-        out.add("The certificate has another unit ");
-        add_quoted(out, theirs.name.as_bytes());
-        out.add(", which the file has not.\n");
+    if let Some(theirs) = cert_unit(cert, count) {
+        let name = Quoted(theirs.name);
+        out.add(format_args!("The certificate has another unit {name}, which the file has not.\n"));
     }
 }
 
 /// Adds that the slots differ, if they do.
-fn add_slots(out: &mut Draft, doc: Doc<'_>, cert: &str) {
-    let Some(line) = cert_line(cert, 1) else {
+fn add_slots(out: &mut Draft, doc: Doc<'_>, cert: CertText<'_>) {
+    let Some(line) = cert.line(1) else {
         return;
     };
-    let slots = number_in(doc.top, Key::Slots).unwrap_or(0);
-    if number_of(line.strip_prefix("slots ")) == Some(slots) {
-        return;
+    let slots = doc.top().number(Key::Slots).unwrap_or(0);
+    if number_of(line.strip_prefix("slots ")) != Some(slots) {
+        out.add(format_args!(
+            "The file says slots = {slots}, the certificate {}.\n",
+            Bytes(line.as_bytes(), 40)
+        ));
     }
-    out.add(format_args!("The file says slots = {slots}, the certificate "));
-    add_bytes(out, line.as_bytes(), 40);
-    out.add(".\n");
-}
-
-/// Adds how many units each has, if they differ.
-fn add_counts(out: &mut Draft, doc: Doc<'_>, cert: &str) {
-    let ours = doc.units().len();
-    let theirs = unit_lines(cert);
-    if ours == theirs {
-        return;
-    }
-    out.add(format_args!("The file has {ours} units, the certificate {theirs}.\n"));
 }
 
 /// Adds what differs between the file's units and those of a certificate.
-pub(crate) fn add_differences(out: &mut Draft, doc: Doc<'_>, cert: &[u8]) {
-    let Ok(text) = std::str::from_utf8(cert) else {
-        return;
-    };
-    add_slots(out, doc, text);
-    add_counts(out, doc, text);
-    add_first(out, doc, text);
+pub(crate) fn add_differences(out: &mut Draft, doc: Doc<'_>, cert: CertText<'_>) {
+    let (ours, theirs) = (doc.units().len(), cert.units);
+    add_slots(out, doc, cert);
+    if ours != theirs {
+        out.add(format_args!("The file has {ours} units, the certificate {theirs}.\n"));
+    }
+    add_first(out, doc, cert);
 }

@@ -1,23 +1,20 @@
 //! A hyperperiod that is too long, and the periods that make it.
 
-use crate::inputs::{Doc, number_in};
+use crate::inputs::{Doc, Fields};
 use ec_text_builder::Draft;
 use ec_unit_text::Key;
 use toml::Value;
 
-/// The periods from 1 to 60 that some unit has.
+/// Whether some unit has a period.
 fn has_period(units: &[Value], period: i64) -> bool {
-    units.iter().any(|unit| number_in(unit.as_table(), Key::Period) == Some(period))
+    units.iter().any(|unit| Fields::of(unit).number(Key::Period) == Some(period))
 }
 
-/// How many times a count of ticks has to be taken to be a multiple of a period.
+/// How many times a count of ticks has to be taken to be a multiple of a period of at most 60.
 fn times(ticks: u64, period: u64) -> u64 {
-    if period == 0 {
-        return 1;
-    }
-    let rest = ticks % period;
+    let rest = ticks.checked_rem(period).unwrap_or(0);
     for count in 1..61u64 {
-        if rest.saturating_mul(count) % period == 0 {
+        if rest.saturating_mul(count).checked_rem(period) == Some(0) {
             return count;
         }
     }

@@ -1,66 +1,70 @@
 //! Places of units: out of range, half given, missing, or too many units in one slot.
 
-use crate::inputs::{Doc, number_in, text_in, value_in};
-use crate::label::{add_in, add_pair, add_unit};
-use crate::quoted::add_quoted;
+use crate::inputs::{Doc, Fields};
+use crate::label::{In, Named, Pair};
+use crate::quoted::Quoted;
+use ec_loads::Illegal;
 use ec_text_builder::Draft;
 use ec_unit_text::{Key, Spot};
-use toml::Table;
+use toml::Value;
 
 /// Adds that there can be more slots than the file has, if there can.
 fn add_more_slots(out: &mut Draft, doc: Doc<'_>) {
-    match number_in(doc.top, Key::Slots) {
-        Some(slots @ 1..=7) => out.add(format_args!(
+    if let Some(slots @ 1..=7) = doc.top().number(Key::Slots) {
+        out.add(format_args!(
             "slots = {slots} at the top of the file can be raised, to 8 at most.\n"
-        )),
-        _ => {}
+        ));
     }
+}
+
+/// Adds the place that a unit has.
+fn add_place(out: &mut Draft, doc: Doc<'_>, spot: Spot) {
+    let unit = doc.unit(spot.unit);
+    out.add(format_args!(
+        "{}{} and {}",
+        In(doc, spot),
+        Pair(unit, Key::Phase),
+        Pair(unit, Key::Slot)
+    ));
 }
 
 /// Tells a phase or a slot out of range, with both limits.
 pub(crate) fn tell_range(out: &mut Draft, doc: Doc<'_>, spot: Spot) {
     let unit = doc.unit(spot.unit);
-    let period = number_in(unit, Key::Period).unwrap_or(60);
-    let slots = number_in(doc.top, Key::Slots).unwrap_or(8);
+    let period = unit.number(Key::Period).unwrap_or(60);
+    let slots = doc.top().number(Key::Slots).unwrap_or(8);
     let (last_phase, last_slot) = (period.saturating_sub(1), slots.saturating_sub(1));
-    add_in(out, doc, spot);
-    add_pair(out, unit, Key::Phase);
-    out.add(" and ");
-    add_pair(out, unit, Key::Slot);
-    out.add(format_args!(", but with its period its phase is 0 to {last_phase}"));
-    out.add(format_args!(", and with the slots of the file its slot is 0 to {last_slot}.\n"));
-    if number_in(unit, Key::Slot).unwrap_or(0) > last_slot {
+    add_place(out, doc, spot);
+    out.add(format_args!(
+        ", but with its period its phase is 0 to {last_phase}, and with the slots of the file its slot is 0 to {last_slot}.\n"
+    ));
+    if unit.number(Key::Slot).unwrap_or(0) > last_slot {
         add_more_slots(out, doc);
     }
 }
 
 /// Tells which half of a place is missing.
 pub(crate) fn tell_half(out: &mut Draft, doc: Doc<'_>, spot: Spot) {
-    let unit = doc.unit(spot.unit);
-    add_in(out, doc, spot);
-    add_pair(out, unit, Key::Phase);
-    out.add(" and ");
-    add_pair(out, unit, Key::Slot);
+    add_place(out, doc, spot);
     out.add(", but a place is both, a phase and a slot.\nWrite both, or leave both out.\n");
 }
 
 /// Tells a unit without a place.
 pub(crate) fn tell_no_place(out: &mut Draft, doc: Doc<'_>, unit: usize) {
-    out.add("A unit has no place, that is no phase and no slot: ");
-    add_unit(out, doc, unit);
-    out.add(
-        ".\nCosts and frames are those of places: write them for every unit, or let plan find them.\n",
-    );
+    out.add(format_args!(
+        "A unit has no place, that is no phase and no slot: {}.\nCosts and frames are those of places: write them for every unit, or let plan find them.\n",
+        Named(doc, unit, None)
+    ));
 }
 
 /// Whether a unit with this place travels in a tick and a slot.
-fn travels(unit: Option<&Table>, tick: i64, slot: i64) -> bool {
-    let period = number_in(unit, Key::Period).unwrap_or(0);
-    let phase = number_in(unit, Key::Phase).unwrap_or(0);
-    if period <= 0 || tick < 0 || value_in(unit, Key::Phase).is_none() {
+fn travels(unit: Fields<'_>, tick: i64, slot: i64) -> bool {
+    let period = unit.number(Key::Period).unwrap_or(0);
+    let phase = unit.number(Key::Phase).unwrap_or(0);
+    if period <= 0 || tick < 0 || !unit.has(Key::Phase) {
         return false;
     }
-    number_in(unit, Key::Slot) == Some(slot) && tick % period == phase
+    unit.number(Key::Slot) == Some(slot) && tick % period == phase
 }
 
 /// Adds the names of the units that travel in a tick and a slot.
@@ -68,47 +72,55 @@ fn add_travelling(out: &mut Draft, doc: Doc<'_>, tick: i64, slot: i64) {
     out.add("In it travel");
     let mut sign = " ";
     for unit in doc.units() {
-        let table = unit.as_table();
-        if travels(table, tick, slot) {
-            out.add(sign);
-            add_quoted(out, text_in(table, Key::Name).unwrap_or("").as_bytes());
+        let unit = Fields::of(unit);
+        if travels(unit, tick, slot) {
+            out.add(format_args!("{sign}{}", Quoted(unit.text(Key::Name).unwrap_or(""))));
             sign = ", ";
         }
     }
     out.add(".\n");
 }
 
-/// Adds a slot that carries too much in a tick, with its bytes.
-pub(crate) fn add_full(out: &mut Draft, tick: u32, slot: u8, bytes: u32) {
-    out.add(format_args!(
-        "Too much travels in one frame: in tick {tick} slot {slot} has {bytes} bytes"
-    ));
-    out.add(", 12 for each datagram counted, and a frame carries at most 1498.\n");
+/// Adds why a plan isn't legal.
+pub(crate) fn add_illegal(out: &mut Draft, doc: Doc<'_>, illegal: Illegal) {
+    match illegal {
+        Illegal::WrongCount => out.add("It has not one place for each unit.\n"),
+        Illegal::PhaseRange(unit) => out.add(format_args!(
+            "The phase that it gives is not below the period: {}.\n",
+            Named(doc, unit, None)
+        )),
+        Illegal::SlotRange(unit) => out.add(format_args!(
+            "The slot that it gives is not one of the slots of the file: {}.\n",
+            Named(doc, unit, None)
+        )),
+        Illegal::Full { tick, slot, bytes } => out.add(format_args!(
+            "Too much travels in one frame: in tick {tick} slot {slot} has {bytes} bytes, 12 for each datagram counted, and a frame carries at most 1498.\n"
+        )),
+    }
 }
 
 /// Whether some unit that travels in a tick and a slot can have another phase; also where no unit is known to travel in it.
-fn has_phases(doc: Doc<'_>, tick: i64, slot: i64) -> bool {
-    let mut is_known = false;
-    for unit in doc.units() {
-        let table = unit.as_table();
-        if travels(table, tick, slot) {
-            if number_in(table, Key::Period) != Some(1) {
-                return true;
-            }
-            is_known = true;
-        }
-    }
-    !is_known
+fn has_phases(units: &[Value], tick: i64, slot: i64) -> bool {
+    let mut travelling = units
+        .iter()
+        .map(Fields::of)
+        .filter(|unit| travels(*unit, tick, slot))
+        .peekable();
+    travelling.peek().is_none() || travelling.any(|unit| unit.number(Key::Period) != Some(1))
 }
 
-/// Tells which slot carries too much in which tick, and which units travel in it.
-pub(crate) fn tell_full(out: &mut Draft, doc: Doc<'_>, tick: u32, slot: u8, bytes: u32) {
-    let (at, place) = (i64::from(tick), i64::from(slot));
-    add_full(out, tick, slot, bytes);
+/// Tells why the places of the file are no legal plan: which slot carries too much in which tick, and which units travel in it. Of
+/// those that reading has judged nothing is told.
+pub(crate) fn tell_illegal(out: &mut Draft, doc: Doc<'_>, illegal: Illegal) {
+    let Illegal::Full { tick, slot, .. } = illegal else {
+        return;
+    };
+    let (tick, slot) = (i64::from(tick), i64::from(slot));
+    add_illegal(out, doc, illegal);
     if !doc.units().is_empty() {
-        add_travelling(out, doc, at, place);
+        add_travelling(out, doc, tick, slot);
     }
-    out.add(if has_phases(doc, at, place) {
+    out.add(if has_phases(doc.units(), tick, slot) {
         "Give some of them another phase or another slot.\n"
     } else {
         "Give some of them another slot.\n"

@@ -1,57 +1,108 @@
-//! Values out of their range.
+//! Values out of their range, and areas of a slave's memory that lie wrong.
 
-use crate::inputs::Doc;
-use crate::label::{add_in, add_pair, table_of};
+use crate::inputs::{Doc, Fields};
+use crate::label::{In, Pair};
 use ec_text_builder::Draft;
 use ec_unit_text::{Key, Spot};
 
-/// The top table of a unit text.
-const TOP: Spot = Spot {
-    unit: None,
-    slave: None,
-};
+/// What is told of values out of their range: their keys, and the range.
+#[derive(Clone, Copy)]
+pub(crate) struct Rule(&'static [Key], &'static str);
 
-/// Tells values and their range: `In unit "a" (line 3): period = 90, but a period is 1 to 60 ticks.`
-fn tell_range(out: &mut Draft, doc: Doc<'_>, spot: Spot, keys: &[Key], rule: &str) {
-    let table = table_of(doc, spot);
-    add_in(out, doc, spot);
-    if table.is_some() {
+pub(crate) const PERIOD: Rule = Rule(&[Key::Period], "a period is 1 to 60 ticks");
+
+pub(crate) const STATION: Rule = Rule(&[Key::Station], "a station address is 1 to 65535");
+
+pub(crate) const SLAVE_BYTES: Rule = Rule(
+    &[Key::OutBytes, Key::InBytes],
+    "neither may be negative, and not both may be 0",
+);
+
+pub(crate) const SLOTS: Rule = Rule(&[Key::Slots], "there are 1 to 8 slots");
+
+pub(crate) const TICK: Rule = Rule(&[Key::TickNs], "a tick is 80 to 1000000000 ns");
+
+/// Tells values out of their range: `In unit "a" (line 3): period = 90, but a period is 1 to 60 ticks.`
+pub(crate) fn tell_range(out: &mut Draft, doc: Doc<'_>, spot: Spot, rule: Rule) {
+    let Rule(keys, words) = rule;
+    let table = doc.table(spot);
+    out.add(In(doc, spot));
+    if table.0.is_some() {
         for key in keys {
-            add_pair(out, table, *key);
-            out.add(", ");
+            out.add(format_args!("{}, ", Pair(table, *key)));
         }
         out.add("but ");
     }
-    out.add(rule);
-    out.add(".\n");
+    out.add(format_args!("{words}.\n"));
 }
 
-/// Tells a period out of range.
-pub(crate) fn tell_period(out: &mut Draft, doc: Doc<'_>, spot: Spot) {
-    let rule = "a period is 1 to 60 ticks";
-    tell_range(out, doc, spot, &[Key::Period], rule);
+/// An area: where it begins, and its bytes.
+#[derive(Clone, Copy)]
+struct Area {
+    at: i64,
+    bytes: i64,
 }
 
-/// Tells bytes of a slave that are negative, or both 0.
-pub(crate) fn tell_slave_bytes(out: &mut Draft, doc: Doc<'_>, spot: Spot) {
-    let rule = "neither may be negative, and not both may be 0";
-    tell_range(out, doc, spot, &[Key::OutBytes, Key::InBytes], rule);
+impl Area {
+    /// An area of a slave, with the address that stands for one that isn't given.
+    fn of(slave: Fields<'_>, at: Key, default: i64, bytes: Key) -> Area {
+        Area {
+            at: slave.number(at).unwrap_or(default),
+            bytes: slave.number(bytes).unwrap_or(0),
+        }
+    }
+
+    /// The address after it.
+    fn end(self) -> i64 {
+        self.at.saturating_add(self.bytes)
+    }
+
+    /// Adds what is wrong with it, and says whether something is.
+    fn add_fault(self, out: &mut Draft, key: &str) -> bool {
+        let Area { at, bytes } = self;
+        if at < 4096 {
+            out.add(format_args!("{key} = {at} is below 4096, where the process data begin.\n"));
+        } else if at > 65535 {
+            out.add(format_args!("{key} = {at} is above 65535, the last address.\n"));
+        } else if self.end() > 65536 {
+            out.add(format_args!(
+                "{key} = {at} with {bytes} bytes ends above 65535, the last address.\n"
+            ));
+        } else {
+            return false;
+        }
+        true
+    }
 }
 
-/// Tells a station out of range.
-pub(crate) fn tell_station(out: &mut Draft, doc: Doc<'_>, spot: Spot) {
-    let rule = "a station address is 1 to 65535";
-    tell_range(out, doc, spot, &[Key::Station], rule);
+/// Adds that two areas overlap, and where each lies.
+fn add_overlap(out: &mut Draft, outputs: Area, inputs: Area) {
+    if outputs.bytes <= 0 || inputs.bytes <= 0 {
+        return;
+    }
+    let (out_at, in_at) = (outputs.at, inputs.at);
+    let out_last = outputs.end().saturating_sub(1);
+    let in_last = inputs.end().saturating_sub(1);
+    out.add(format_args!(
+        "The two overlap: outputs at {out_at} to {out_last}, inputs at {in_at} to {in_last}.\n"
+    ));
 }
 
-/// Tells slots out of range.
-pub(crate) fn tell_slots(out: &mut Draft, doc: Doc<'_>) {
-    let rule = "there are 1 to 8 slots";
-    tell_range(out, doc, TOP, &[Key::Slots], rule);
-}
-
-/// Tells a tick out of range.
-pub(crate) fn tell_tick(out: &mut Draft, doc: Doc<'_>) {
-    let rule = "a tick is 80 to 1000000000 ns";
-    tell_range(out, doc, TOP, &[Key::TickNs], rule);
+/// Tells which cause an area has to be refused.
+pub(crate) fn tell_area(out: &mut Draft, doc: Doc<'_>, spot: Spot) {
+    let slave = doc.table(spot);
+    out.add(format_args!(
+        "{}its outputs or its inputs lie wrong in its memory.\n",
+        In(doc, spot)
+    ));
+    if slave.0.is_none() {
+        return;
+    }
+    let outputs = Area::of(slave, Key::Area(false), 4096, Key::OutBytes);
+    let inputs = Area::of(slave, Key::Area(true), 8192, Key::InBytes);
+    let first = outputs.add_fault(out, "out_at");
+    let second = inputs.add_fault(out, "in_at");
+    if !first && !second {
+        add_overlap(out, outputs, inputs);
+    }
 }

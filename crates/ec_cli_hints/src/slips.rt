@@ -18,13 +18,6 @@ const NUMBER: &str = "A number is written 1000000 or 1_000_000.\n";
 const QUOTES: &str =
     "A text has a quote before and behind it, as name = \"press-4\": one is missing.\n";
 
-/// What is told of a line that has more than a key and its value.
-const ONE_KEY: &str = "A line has one key and its value, without , or ; behind it.\n";
-
-/// The same, where the value may be a number that isn't written as TOML has it.
-const ONE_KEY_AND_NUMBER: &str =
-    "A line has one key and its value, without , or ; behind it. A number is written 1000000 or 1_000_000.\n";
-
 /// What stands in a line before the first # that is outside quotes.
 fn uncommented(line: &str) -> &str {
     let mut quoted = false;
@@ -40,13 +33,7 @@ fn uncommented(line: &str) -> &str {
 
 /// Whether a line has an odd number of quotes before its comment.
 fn lacks_quote(line: &str) -> bool {
-    let mut odd = false;
-    for byte in uncommented(line).bytes() {
-        if byte == b'"' {
-            odd = !odd;
-        }
-    }
-    odd
+    uncommented(line).matches('"').count() % 2 == 1
 }
 
 /// Whether a line has a comment of another language.
@@ -57,12 +44,9 @@ fn has_slashes(line: &str) -> bool {
     }
 }
 
-/// What stands in a line before its comment, if it has one.
+/// What stands in a line before its first #.
 fn before_comment(line: &str) -> &str {
-    match line.split_once('#') {
-        Some((before, _)) => before.trim(),
-        None => line.trim(),
-    }
+    line.split('#').next().unwrap_or("").trim()
 }
 
 /// Whether a character is a quote that TOML doesn't know.
@@ -75,43 +59,40 @@ fn is_curly(letter: char) -> bool {
 
 /// Whether a key or a value begins with a quote that TOML doesn't know, or a text ends with one.
 fn has_curly(stop: Stop<'_>) -> bool {
-    let letter = match stop.message {
-        message if message.starts_with("invalid string") => {
-            before_comment(stop.line).chars().next_back()
-        }
-        message if message.starts_with("invalid") => stop.rest.chars().next(),
-        _ => None,
-    };
-    letter.is_some_and(is_curly)
+    if stop.message.starts_with("invalid string") {
+        before_comment(stop.line).ends_with(is_curly)
+    } else {
+        stop.message.starts_with("invalid") && stop.rest.starts_with(is_curly)
+    }
 }
 
 /// Whether a value has digits, and nothing else but what is written between them.
 fn is_spaced_number(value: &str) -> bool {
-    for byte in value.bytes() {
-        if !matches!(byte, b'0'..=b'9' | b' ' | b'.' | b'_') {
-            return false;
-        }
-    }
-    value.as_bytes().iter().any(|byte| byte.is_ascii_digit())
+    let is_digit = |letter: char| letter.is_ascii_digit();
+    value.contains(is_digit)
+        && value
+            .chars()
+            .all(|letter| matches!(letter, '0'..='9' | ' ' | '.' | '_'))
 }
 
 /// Whether a value is a number with a 0 in front.
 fn has_zero(value: &str) -> bool {
-    let digits = value.trim_start_matches(['+', '-']);
-    let mut letters = digits.bytes();
-    letters.next() == Some(b'0') && matches!(letters.next(), Some(b'0'..=b'9'))
+    match value.trim_start_matches(['+', '-']).strip_prefix('0') {
+        Some(rest) => rest.starts_with(|letter: char| letter.is_ascii_digit()),
+        None => false,
+    }
 }
 
 /// What was likely meant by something that is no value.
 fn hint_of_value(rest: &str) -> &'static str {
     let value = before_comment(rest);
     if has_zero(value) {
-        return "A number has no 0 in front.\n";
+        "A number has no 0 in front.\n"
+    } else if is_spaced_number(value) {
+        NUMBER
+    } else {
+        "A value is a whole number, or a text in quotes, as name = \"press-4\".\n"
     }
-    if is_spaced_number(value) {
-        return NUMBER;
-    }
-    "A value is a whole number, or a text in quotes, as name = \"press-4\".\n"
 }
 
 /// What was likely meant by a header in single brackets.
@@ -139,33 +120,34 @@ fn hint_of_signs(stop: Stop<'_>, word: &str) -> Option<&'static str> {
     None
 }
 
-/// Whether a digit stands before the place where the reader stopped, or before the blanks in front of it.
-fn is_behind_digit(stop: Stop<'_>) -> bool {
-    let before = stop.line.strip_suffix(stop.rest).unwrap_or("");
-    matches!(before.trim_end().chars().next_back(), Some('0'..='9'))
-}
-
-/// What was likely meant by what stands behind the value or the header of a line.
+/// What was likely meant by what stands behind the value or the header of a line: behind a digit, perhaps the rest of a number.
 fn hint_behind(stop: Stop<'_>, word: &str) -> &'static str {
+    let before = stop.line.strip_suffix(stop.rest).unwrap_or("").trim_end();
     if word.starts_with('[') {
-        return "A header stands alone on its line, without , or ; behind it.\n";
-    }
-    if is_behind_digit(stop) {
-        ONE_KEY_AND_NUMBER
+        "A header stands alone on its line, without , or ; behind it.\n"
+    } else if before.ends_with(|letter: char| letter.is_ascii_digit()) {
+        "A line has one key and its value, without , or ; behind it. A number is written 1000000 or 1_000_000.\n"
     } else {
-        ONE_KEY
+        "A line has one key and its value, without , or ; behind it.\n"
     }
 }
 
-/// What was likely meant by a number or a text that isn't whole; empty where that isn't known.
-fn hint_of_rest(stop: Stop<'_>) -> &'static str {
-    if stop.message.contains("between digits") {
-        return NUMBER;
+/// What was likely meant by a line with nothing but plain signs, by the reader's message; empty where that isn't known.
+fn hint_of_message(stop: Stop<'_>, word: &str) -> &'static str {
+    let Stop { rest, message, .. } = stop;
+    if message.starts_with("unexpected key or value") {
+        hint_behind(stop, word)
+    } else if !word.is_empty() && !word.starts_with('[') && !word.contains('=') {
+        "A line is key = value, or a header in brackets.\n"
+    } else if message.starts_with("invalid value") {
+        hint_of_value(rest)
+    } else if message.contains("between digits") {
+        NUMBER
+    } else if message.starts_with("invalid string") && rest.trim().is_empty() {
+        QUOTES
+    } else {
+        ""
     }
-    if stop.message.starts_with("invalid string") && stop.rest.trim().is_empty() {
-        return QUOTES;
-    }
-    ""
 }
 
 /// What was likely meant by a line at which the reader stopped; empty where that isn't known.
@@ -177,17 +159,5 @@ pub(crate) fn hint(stop: Stop<'_>) -> &'static str {
     if stop.message.contains("duplicate") {
         return "A key stands once in its table: take one of the two lines out.\n";
     }
-    if let Some(meant) = hint_of_signs(stop, word) {
-        return meant;
-    }
-    if stop.message.starts_with("unexpected key or value") {
-        return hint_behind(stop, word);
-    }
-    if !word.is_empty() && !word.starts_with('[') && !word.contains('=') {
-        return "A line is key = value, or a header in brackets.\n";
-    }
-    if stop.message.starts_with("invalid value") {
-        return hint_of_value(stop.rest);
-    }
-    hint_of_rest(stop)
+    hint_of_signs(stop, word).unwrap_or_else(|| hint_of_message(stop, word))
 }

@@ -1,0 +1,90 @@
+//! What would help a search that ended without a proof.
+
+use crate::advising::Asked;
+use ec_outcome::{Cut, Ending};
+
+/// How far a search came.
+#[derive(Clone, Copy)]
+enum Stage {
+    /// It found no plan.
+    NoPlan,
+    /// It found a plan that may not be the best.
+    Plan,
+    /// It found a plan that is the best.
+    Best,
+}
+
+/// How far a search came that ended so.
+fn stage_of(ending: Ending) -> Stage {
+    match ending.best {
+        None => Stage::NoPlan,
+        Some(best) if best == ending.level => Stage::Best,
+        Some(_) => Stage::Plan,
+    }
+}
+
+/// What would help a search of a whole tree.
+fn help_whole(ending: Ending) -> &'static str {
+    match (ending.cut, stage_of(ending)) {
+        (Cut::Budget, Stage::NoPlan) =>
+            "No plan was found before all nodes were spent, and there may be one: a greater --nodes searches longer.\n",
+        (Cut::Budget, Stage::Plan) =>
+            "All nodes were spent before it was shown to be the best: a greater --nodes may show it, or find a better one.\n",
+        (Cut::Budget, Stage::Best) =>
+            "All nodes were spent before the search was closed: a greater --nodes may close it.\n",
+        (Cut::Time, Stage::NoPlan) =>
+            "No plan was found before the time was over, and there may be one: a greater --minutes searches longer.\n",
+        (Cut::Time, Stage::Plan) =>
+            "The time was over before it was shown to be the best: a greater --minutes may show it, or find a better one.\n",
+        (Cut::Time, Stage::Best) =>
+            "The time was over before the search was closed: a greater --minutes may close it.\n",
+        (Cut::Memory, Stage::NoPlan) =>
+            "Memory ran out before a plan was found, and there may be one: run it with more memory.\n",
+        (Cut::Memory, Stage::Plan) =>
+            "Memory ran out before it was shown to be the best: more memory may show it, or find a better one.\n",
+        (Cut::Memory, Stage::Best) =>
+            "Memory ran out before the search was closed: more memory may close it.\n",
+        (Cut::Journal, Stage::NoPlan) =>
+            "What the workers noted does not agree, and there may be a plan: run it with --workers 1.\n",
+        (Cut::Journal, Stage::Plan) =>
+            "What the workers noted does not agree, so it is not shown to be the best: run it with --workers 1.\n",
+        (Cut::Journal, Stage::Best) =>
+            "What the workers noted does not agree: run it with --workers 1.\n",
+        (Cut::Parts, Stage::NoPlan) =>
+            "The leaves of this part are closed, and there may be a plan: merge it with the certificates of the other parts.\n",
+        (Cut::Parts, Stage::Plan) =>
+            "The leaves of this part are closed. What is open is left to others: merge it with the certificates of the other parts.\n",
+        (Cut::Parts, Stage::Best) =>
+            "The leaves of this part are closed: merge it with the certificates of the other parts.\n",
+    }
+}
+
+/// What would help, by what was found and what was asked for.
+pub(crate) fn help(ending: Ending, asked: Asked) -> &'static str {
+    match (asked, ending.cut) {
+        (Asked::Most, Cut::Budget) =>
+            "All nodes were spent, as many as one search may visit: resume goes on from its certificate.\n",
+        (Asked::Most, Cut::Time) =>
+            "The time was over, as much as one search may take: resume goes on from its certificate.\n",
+        (Asked::Part, Cut::Budget) =>
+            "All nodes were spent before the leaves of this part were closed: what it closed stays closed when it is merged.\n",
+        (Asked::Part, Cut::Time) =>
+            "The time was over before the leaves of this part were closed: what it closed stays closed when it is merged.\n",
+        (Asked::Part, Cut::Memory) =>
+            "Memory ran out before the leaves of this part were closed: what it closed stays closed when it is merged.\n",
+        (Asked::Merged, _) =>
+            "Some leaves are still open: none of these certificates closes them.\n",
+        (Asked::Whole | Asked::Most | Asked::Part, _) => help_whole(ending),
+    }
+}
+
+/// Which other rules may end with a proof where a search didn't.
+pub(crate) fn other_rules(ending: Ending, asked: Asked) -> &'static str {
+    if matches!(asked, Asked::Part | Asked::Merged) || ending.cut == Cut::Journal {
+        ""
+    } else if ending.strong {
+        "The command plan without --strong searches in another order, and may end with a proof.\n"
+    } else {
+        "The command plan --strong searches by stronger rules, and may end with a proof.\n"
+    }
+}
