@@ -11,10 +11,7 @@ use ec_cert::Part;
 fn number_of(text: &str) -> Option<u16>
     ensures { IfSome result (λ number. number ≡ number_in text.now) }
 {
-    match text.parse::<u16>() {
-        Ok(number) => Some(number),
-        Err(_) => None,
-    }
+    text.parse::<u16>().ok()
 }
 
 /// The part that a text says as I/N, where 1 <= I <= N <= 10,000: part N has the index 0.

@@ -17,6 +17,9 @@ use ec_cert::Part;
 use ec_cli_command::{Effort, Line};
 use std::alloc::{AllocError, Global};
 
+/// What is told of a number that is out of its limits.
+const OUT_OF_RANGE: &str = "error: a number is out of range\n";
+
 /// What is told of a word that says no part.
 const NO_PART: &str = "error: --part is I/N with 1 <= I <= N <= 10000, as 3/8\n";
 
@@ -56,12 +59,17 @@ pub struct Trial {
     pub pcap: Option<String>,
 }
 
-/// A refusal with this text, unless memory ran out.
-pub(crate) fn refused(alloc: Global, text: &str) -> LineFault {
-    match String::from_str(alloc, text) {
+/// A refusal with a text, unless memory ran out over it.
+fn refusal(text: Result<String, AllocError>) -> LineFault {
+    match text {
         Ok(text) => LineFault::Refused { text },
         Err(AllocError) => LineFault::Memory,
     }
+}
+
+/// A refusal with this text, unless memory ran out.
+pub(crate) fn refused(alloc: Global, text: &str) -> LineFault {
+    refusal(String::from_str(alloc, text))
 }
 
 /// What is told of an option that isn't one of the command's, without how to give it as a path: it is meant as none. Between two
@@ -95,10 +103,7 @@ pub(crate) fn fault_of(alloc: Global, error: Error) -> LineFault {
     if error.kind() == ErrorKind::OutOfMemory {
         return LineFault::Memory;
     }
-    match text_of(alloc, error) {
-        Ok(text) => LineFault::Refused { text },
-        Err(AllocError) => LineFault::Memory,
-    }
+    refusal(text_of(alloc, error))
 }
 
 /// The path that an option names, if it is there.
@@ -119,10 +124,10 @@ pub(crate) fn path_of(
 fn cert_path(alloc: Global, matches: &ArgMatches<'_>) -> Result<String, LineFault>
     ensures { IfOk result (λ path. IsPathOf matches.now (codes "cert") (Some path)) }
 {
-    match path_of(alloc, matches, "cert")? {
-        Some(path) => Ok(path),
-        None => Err(refused(alloc, "error: --cert <PATH> is missing\n")),
-    }
+    path_of(alloc, matches, "cert")?.ok_or_else(|| refused(
+        alloc,
+        "error: --cert <PATH> is missing\n",
+    ))
 }
 
 /// The nodes that a search may visit where no number is given: a million, and where time ends it, as many as may be asked
@@ -178,10 +183,7 @@ fn effort(alloc: Global, matches: &ArgMatches<'_>) -> Result<Effort, LineFault>
     ensures within { IfOk result EffortFits }
     ensures said { IfOk result (HasEffortOf matches.now) }
 {
-    match effort_of(matches) {
-        Some(effort) => Ok(effort),
-        None => Err(refused(alloc, "error: a number is out of range\n")),
-    }
+    effort_of(matches).ok_or_else(|| refused(alloc, OUT_OF_RANGE))
 }
 
 /// The line of a plan with these options.
@@ -208,10 +210,7 @@ fn part(alloc: Global, matches: &ArgMatches<'_>) -> Result<Part, LineFault>
     ensures fits { IfOk result PartFits }
     ensures said { IfOk result (HasPartOf matches.now) }
 {
-    match part_of(matches) {
-        Some(part) => Ok(part),
-        None => Err(refused(alloc, NO_PART)),
-    }
+    part_of(matches).ok_or_else(|| refused(alloc, NO_PART))
 }
 
 /// The line of a resumed search with these options.
@@ -235,39 +234,6 @@ fn resume_line(alloc: Global, matches: &ArgMatches<'_>) -> Result<Line, LineFaul
     })
 }
 
-/// The line of a cost with these options.
-fn cost_line(alloc: Global, matches: &ArgMatches<'_>) -> Result<Line, LineFault>
-    ensures named { IfOk result (λ line. name_of line ≡ codes "cost") }
-    ensures within { IfOk result (λ line. JobFits (job_of line)) }
-    ensures said { IfOk result (HasNumbersOf matches.now) }
-    ensures paths { IfOk result (HasPathsOf matches.now) }
-{
-    let cert = path_of(alloc, matches, "cert")?;
-    let svg = path_of(alloc, matches, "svg")?;
-    Ok(Line::Cost { cert, svg })
-}
-
-/// The line of frames with these options.
-fn frames_line(alloc: Global, matches: &ArgMatches<'_>) -> Result<Line, LineFault>
-    ensures named { IfOk result (λ line. name_of line ≡ codes "frames") }
-    ensures within { IfOk result (λ line. JobFits (job_of line)) }
-    ensures said { IfOk result (HasNumbersOf matches.now) }
-    ensures paths { IfOk result (HasPathsOf matches.now) }
-{
-    let cert = path_of(alloc, matches, "cert")?;
-    let pcap = path_of(alloc, matches, "pcap")?;
-    let header = path_of(alloc, matches, "header")?;
-    let map = path_of(alloc, matches, "map")?;
-    let report = path_of(alloc, matches, "report")?;
-    Ok(Line::Frames {
-        cert,
-        pcap,
-        header,
-        map,
-        report,
-    })
-}
-
 /// The line of a command with these options.
 fn line_of(alloc: Global, command: &str, matches: &ArgMatches<'_>) -> Result<Line, LineFault>
     ensures named { IfOk result (λ line. name_of line ≡ command.now) }
@@ -276,13 +242,22 @@ fn line_of(alloc: Global, command: &str, matches: &ArgMatches<'_>) -> Result<Lin
     ensures paths { IfOk result (HasPathsOf matches.now) }
 {
     match command {
-        "cost" => cost_line(alloc, matches),
+        "cost" => Ok(Line::Cost {
+            cert: path_of(alloc, matches, "cert")?,
+            svg: path_of(alloc, matches, "svg")?,
+        }),
         "plan" => plan_line(alloc, matches),
         "resume" => resume_line(alloc, matches),
         "check" => Ok(Line::Check {
             cert: cert_path(alloc, matches)?,
         }),
-        "frames" => frames_line(alloc, matches),
+        "frames" => Ok(Line::Frames {
+            cert: path_of(alloc, matches, "cert")?,
+            pcap: path_of(alloc, matches, "pcap")?,
+            header: path_of(alloc, matches, "header")?,
+            map: path_of(alloc, matches, "map")?,
+            report: path_of(alloc, matches, "report")?,
+        }),
         "play" => Ok(Line::Play {
             cert: path_of(alloc, matches, "cert")?,
         }),
@@ -300,7 +275,7 @@ fn lost_of(alloc: Global, matches: &ArgMatches<'_>) -> Result<Vec<u16>, LineFaul
     };
     for text in texts {
         let Ok(station) = text.parse::<u16>() else {
-            return Err(refused(alloc, "error: a number is out of range\n"));
+            return Err(refused(alloc, OUT_OF_RANGE));
         };
         let Ok(()) = lost.push(station) else {
             return Err(LineFault::Memory);
@@ -321,11 +296,8 @@ fn trial_of(alloc: Global, line: &Line, matches: &ArgMatches<'_>) -> Result<Tria
         });
     };
     let lost = lost_of(alloc, matches)?;
-    let capture = path_of(alloc, matches, "pcap")?;
-    Ok(Trial {
-        lost,
-        pcap: capture,
-    })
+    let pcap = path_of(alloc, matches, "pcap")?;
+    Ok(Trial { lost, pcap })
 }
 
 /// The path of the units, where they don't come on standard input.
@@ -348,12 +320,10 @@ pub(crate) fn line_words(
     ensures { IfOk result (λ words. JobFits (job_of words.line)) }
 {
     let line = line_of(alloc, command, options)?;
-    let units = units_path(alloc, options)?;
-    let trial = trial_of(alloc, &line, options)?;
     Ok(Words {
-        line,
-        units,
+        units: units_path(alloc, options)?,
         progress: options.get_flag("progress"),
-        trial,
+        trial: trial_of(alloc, &line, options)?,
+        line,
     })
 }
