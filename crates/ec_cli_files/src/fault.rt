@@ -1,8 +1,8 @@
 //! Why a file isn't at its path.
 
 use crate::guard::KeepReason;
+use std::alloc::AllocError;
 use std::io;
-use std::io::ErrorKind;
 
 /// Why a file that was to be written isn't at its path. What stood there before stands, but for `Unsynced`.
 #[derive(Debug, Drop)]
@@ -20,11 +20,10 @@ pub enum FileFault {
     Unsynced { why: io::Error },
 }
 
-impl FileFault {
-    /// Want of memory.
-    pub fn no_memory() -> FileFault {
+impl From<AllocError> for FileFault {
+    fn from(error: AllocError) -> FileFault {
         FileFault::Unwritten {
-            why: io::Error::from(ErrorKind::OutOfMemory),
+            why: io::Error::from(error),
         }
     }
 }

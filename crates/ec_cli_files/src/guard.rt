@@ -25,6 +25,19 @@ pub enum Content {
 }
 
 impl Content {
+    /// What it is called.
+    pub fn as_str(self) -> &'static str {
+        match self {
+            Content::Certificate => "certificate",
+            Content::Capture => "capture",
+            Content::Picture => "picture",
+            Content::Units => "units",
+            Content::Header => "header",
+            Content::Map => "map",
+            Content::Report => "report",
+        }
+    }
+
     /// How it begins; a unit text may begin in any way.
     fn front(self) -> &'static [u8] {
         match self {
@@ -104,9 +117,7 @@ pub fn reason_to_keep<F: Files>(
     path: &str,
     content: Content,
 ) -> Option<KeepReason> {
-    let Ok(found) = fs::metadata(files, path) else {
-        return None;
-    };
+    let found = fs::metadata(files, path).ok()?;
     if !found.is_file() {
         return None;
     }

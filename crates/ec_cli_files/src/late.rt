@@ -6,16 +6,19 @@ ghost use Rattle.std.specs.Io.{WritesAtMost};
 ghost use Rattle.std.specs.Io.KnownBytes.{WriteAppends};
 
 use crate::fault::FileFault;
-use crate::guard::{Content, KeepReason};
+use crate::guard::{Content, KeepReason, reason_to_keep};
 use crate::place::{Place, are_one};
 use crate::reading::read_front;
-use crate::settling::{Settling, settle};
+use crate::settling::{replace, sync_folder};
 use std::alloc::{AllocError, Global};
 use std::fmt::Write as _;
 use std::io::{ErrorKind, Write};
 use std::os::unix::fs::OpenOptionsExt;
 use std::rt::Files;
 use std::{fs, io};
+
+/// The most bytes of a certificate that are read.
+const MOST_CERT: u64 = 67_108_864;
 
 /// The most names that are tried for a file beside its path.
 const MOST_NAMES: u32 = 999;
@@ -52,10 +55,16 @@ fn write_name(name: &mut String, path: &str, count: u32) -> Result<(), AllocErro
 /// The mode with which a file is made beside a path: where a file stands there, nobody else may look into the new one before
 /// it has that file's mode.
 fn first_mode<F: Files>(files: &F, path: &str) -> u32 {
-    match fs::metadata(files, path) {
-        Ok(_) => 0o600,
-        Err(_) => 0o666,
+    if fs::metadata(files, path).is_ok() {
+        0o600
+    } else {
+        0o666
     }
+}
+
+/// Whether a file that isn't empty stands at a path.
+fn is_filled<F: Files>(files: &F, path: &str) -> bool {
+    fs::metadata(files, path).is_ok_and(|found| found.len() > 0)
 }
 
 /// Makes a file under the first free name beside a path, and leaves that name.
@@ -89,8 +98,8 @@ impl<'a, F: Files> Late<'a, F> {
     {
         let place = Place::of(files, alloc, path)?;
         let mut name = String::new(alloc);
-        if let Place::Beside { path } = &place {
-            write_name(&mut name, path.as_str(), MOST_NAMES)?;
+        if let Some(path) = place.beside() {
+            write_name(&mut name, path, MOST_NAMES)?;
         }
         Ok(Late {
             files,
@@ -173,19 +182,20 @@ impl<'a, F: Files> Late<'a, F> {
             bytes,
             ..
         } = self;
-        match (place, file) {
-            (Place::Beside { path }, Some(file)) => {
-                let settling = Settling {
-                    files,
-                    alloc,
-                    content,
-                    path: path.as_str(),
-                    bytes,
-                };
-                settle(&settling, file, name)
-            }
-            _ => Ok(()),
+        let (Place::Beside { path }, Some(file)) = (place, file) else {
+            return Ok(());
+        };
+        let path = path.as_str();
+        if content == Content::Certificate && bytes > MOST_CERT && is_filled(files, path) {
+            return Err(FileFault::TooLarge { at: name, bytes });
         }
+        if let Some(why) = reason_to_keep(files, alloc, path, content) {
+            return Err(FileFault::Kept { at: name, why });
+        }
+        if let Err(why) = replace(files, file, name.as_str(), path) {
+            return Err(FileFault::Aside { at: name, why });
+        }
+        sync_folder(files, path).map_err(|why| FileFault::Unsynced { why })
     }
 
     /// The bytes of the file that stands at the path, up to so many; none where no file stands there.
@@ -194,10 +204,10 @@ impl<'a, F: Files> Late<'a, F> {
     ///
     /// Why they can't be read.
     pub fn standing(&self, most: u64) -> io::Result<Option<Vec<u8>>> {
-        let Place::Beside { path } = &self.place else {
+        let Some(path) = self.place.beside() else {
             return Ok(None);
         };
-        match read_front(self.files, self.alloc, path.as_str(), most) {
+        match read_front(self.files, self.alloc, path, most) {
             Ok(bytes) => Ok(Some(bytes)),
             Err(error) if error.kind() == ErrorKind::NotFound => Ok(None),
             Err(error) => Err(error),
@@ -206,10 +216,9 @@ impl<'a, F: Files> Late<'a, F> {
 
     /// Whether another path leads to the file that stands at the path.
     pub fn is_at(&self, other: &str) -> bool {
-        match &self.place {
-            Place::Beside { path } => are_one(self.files, self.alloc, path.as_str(), other),
-            Place::Straight { .. } | Place::Nowhere { .. } => false,
-        }
+        self.place
+            .beside()
+            .is_some_and(|path| are_one(self.files, self.alloc, path, other))
     }
 
     /// Leaves the whole file beside its path, where what stands there is kept for this reason.
@@ -220,10 +229,7 @@ impl<'a, F: Files> Late<'a, F> {
 
     /// Takes away what was written of the file, and says why it isn't whole.
     pub fn give_up(self) -> FileFault {
-        let why = match self.fault {
-            Some(why) => why,
-            None => io::Error::from(ErrorKind::Other),
-        };
+        let why = self.fault.unwrap_or(io::Error::from(ErrorKind::Other));
         if self.made {
             let _ = fs::remove_file(self.files, self.name.as_str());
         }
@@ -268,9 +274,7 @@ pub fn write_whole<F: Files>(
     content: Content,
     bytes: &[u8],
 ) -> Result<(), FileFault> {
-    let Ok(mut late) = Late::new(files, alloc, path, content) else {
-        return Err(FileFault::no_memory());
-    };
+    let mut late = Late::new(files, alloc, path, content)?;
     match late.write_all(bytes) {
         Ok(()) => late.settle(),
         Err(_) => Err(late.give_up()),

@@ -15,4 +15,4 @@ pub use fault::FileFault;
 pub use guard::{Content, KeepReason, reason_to_keep};
 pub use late::{Late, write_whole};
 pub use place::{are_one, are_same_file};
-pub use reading::read_front;
+pub use reading::read_file;

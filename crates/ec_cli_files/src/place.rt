@@ -60,6 +60,14 @@ impl Place {
             Err(why) => Ok(Place::Nowhere { why }),
         }
     }
+
+    /// The path beside which a file is made, if one is.
+    pub(crate) fn beside(&self) -> Option<&str> {
+        match self {
+            Place::Beside { path } => Some(path.as_str()),
+            Place::Straight { .. } | Place::Nowhere { .. } => None,
+        }
+    }
 }
 
 /// The folder of a path.
@@ -84,10 +92,7 @@ fn true_path<F: Files>(files: &F, alloc: Global, path: &str) -> io::Result<Strin
 
 /// Whether what stands at a path is there and is no file, as a pipe or a device.
 fn is_no_file<F: Files>(files: &F, path: &str) -> bool {
-    match fs::metadata(files, path) {
-        Ok(found) => !found.is_file(),
-        Err(_) => false,
-    }
+    fs::metadata(files, path).is_ok_and(|found| !found.is_file())
 }
 
 /// Whether two paths lead to one file that is there (own profile).

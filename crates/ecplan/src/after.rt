@@ -1,30 +1,44 @@
 //! What is written after the text of a job: the picture of costs, the units with the places of a plan, and what is handed over
 //! with frames.
 
-use crate::faults::{tell_fault, tell_whole};
-use crate::handing::hand_over;
+use crate::ending::Done;
 use crate::targets::Target;
-use crate::telling::{CHANGED, NO_FORM, NO_PLAN, tell_path};
+use crate::telling::{tell_fault, tell_path, tell_whole};
+use ec_checker::Verdict;
 use ec_cli_answers::Told;
-use ec_cli_command::Line;
-use ec_cli_files::{Content, FileFault, are_one, are_same_file, read_front, write_whole};
+use ec_cli_files::{Content, FileFault, read_file, write_whole};
 use ec_cli_text::placed_plan;
 use ec_cost_picture::picture;
-use ec_loads::Plan;
+use ec_loads::{Plan, is_legal};
+use ec_master_files::{Claim, header_of, map_of, report_of};
 use ec_unit_rewrite::{PlacingFault, place_text};
 use ec_unit_text::read_units;
+use ec_units::Units;
 use std::alloc::{AllocError, Global};
 use std::rt::Files;
-use std::{fs, io};
+
+/// What is told before a path to which the places are not written.
+const UNPLACED: &str = "The places are not written to";
+
+/// What is told of a text into which no places can be filled.
+const NO_FORM: &str =
+    "Each unit of the text has to begin with a line [[unit]], and each key to have a line of its own";
+
+/// What is told where no plan gives places to fill in.
+const NO_PLAN: &str = "No plan was found";
+
+/// What is told of a file of units that isn't written over.
+const CHANGED: &str =
+    "It isn't the text any more that the search began with, and is left as it is. The plan was told";
 
 /// Why what is written after the job isn't at its path.
 #[derive(Drop)]
 enum AfterFault {
     File(FileFault),
-    /// The places can't be filled into this text.
-    Form,
-    /// The units were changed in their file since they were read.
-    Changed,
+    /// The places aren't written, for this reason.
+    Unplaced(&'static str),
+    /// No plan was found, so nothing is missing.
+    NoPlan,
 }
 
 impl From<FileFault> for AfterFault {
@@ -33,146 +47,132 @@ impl From<FileFault> for AfterFault {
     }
 }
 
-/// Whether the units with their places go over the file of the units themselves: the one at this path, else the one that
-/// standard input comes from.
-pub(crate) fn is_own_file<R: Files + AllocGlobal>(
-    rt: &R,
-    line: &Line,
-    units: &Option<String>,
-) -> bool {
-    let (Line::Plan { places, .. } | Line::Resume { places, .. }) = line else {
-        return false;
-    };
-    match (places, units) {
-        (Some(places), Some(units)) => are_one(rt, rt.alloc(), places.as_str(), units.as_str()),
-        (Some(places), None) => are_same_file(rt, places.as_str(), "/dev/stdin"),
-        (None, _) => false,
+impl From<AllocError> for AfterFault {
+    fn from(error: AllocError) -> AfterFault {
+        AfterFault::File(FileFault::from(error))
     }
 }
 
-/// Whether the file at a path still holds these units.
-fn holds_still<R: Files + AllocGlobal>(rt: &R, path: &str, units: &[u8]) -> io::Result<bool> {
-    if !fs::metadata(rt, path)?.is_file() {
-        return Ok(false);
-    }
-    let most = (units.len() as u64).saturating_add(1);
-    let bytes = read_front(rt, rt.alloc(), path, most)?;
-    Ok(bytes.as_slice() == units)
-}
-
-/// The picture of a unit text that was found right, and of the plan whose costs were told, else of the units' own places:
-/// only memory may be wanting.
-fn picture_of(alloc: Global, units: &[u8], plan: Option<&Plan>) -> Result<String, AllocError> {
-    let Ok(units) = read_units(alloc, units) else {
-        return Err(AllocError);
-    };
+/// The picture of units and of the plan whose costs were told, else of the units' own places.
+fn picture_of(alloc: Global, units: &Units, plan: Option<&Plan>) -> Result<String, AllocError> {
     if let Some(plan) = plan {
-        return picture(alloc, &units, plan);
+        return picture(alloc, units, plan);
     }
-    match placed_plan(alloc, &units) {
-        Ok(plan) => picture(alloc, &units, &plan),
+    match placed_plan(alloc, units) {
+        Ok(plan) => picture(alloc, units, &plan),
         Err(_) => Err(AllocError),
     }
 }
 
-/// Writes the picture of a unit text whose costs were told.
-fn draw<R: Files + AllocGlobal>(
-    rt: &R,
-    units: &[u8],
-    plan: Option<&Plan>,
-    path: &str,
-) -> Result<(), AfterFault> {
-    let Ok(drawn) = picture_of(rt.alloc(), units, plan) else {
-        return Err(AfterFault::File(FileFault::no_memory()));
-    };
-    write_whole(rt, rt.alloc(), path, Content::Picture, drawn.as_bytes())?;
-    Ok(())
+/// What a verdict on the certificate of a plan proves of the plan; nothing where there is none.
+fn claim_of(verdict: Option<Verdict>) -> Claim {
+    match verdict {
+        Some(Verdict::Least(_)) => Claim::Optimal,
+        Some(Verdict::AtLeast(level)) => Claim::AtLeast { level },
+        Some(Verdict::NoPlan) | None => Claim::Nothing,
+    }
 }
 
-/// Writes a unit text with the places of a plan. Where it goes over the units' own file, that file must hold the text still.
-fn fill<R: Files + AllocGlobal>(
-    rt: &R,
-    units: &[u8],
-    plan: &Plan,
-    path: &str,
-    is_own: bool,
-) -> Result<(), AfterFault> {
+/// What is handed over of units and of their plan whose frames were told.
+fn handed_of(
+    alloc: Global,
+    content: Content,
+    units: &Units,
+    told: &Told,
+) -> Result<String, AllocError> {
+    let plan = told.plan().ok_or(AllocError)?;
+    let Ok(()) = is_legal(units, plan) else {
+        return Err(AllocError);
+    };
+    match content {
+        Content::Header => header_of(alloc, units, plan),
+        Content::Map => map_of(alloc, units, plan),
+        _ => report_of(alloc, units, plan, claim_of(told.verdict)),
+    }
+}
+
+/// A unit text with the places of the plan that was found.
+fn placed_of(alloc: Global, units: &[u8], told: &Told) -> Result<String, AfterFault> {
+    let plan = told.plan().ok_or(AfterFault::NoPlan)?;
     if units.is_empty() {
-        return Err(AfterFault::File(FileFault::no_memory()));
+        return Err(AfterFault::from(AllocError));
     }
-    let placed = match place_text(rt.alloc(), units, plan.places.as_slice()) {
-        Ok(placed) => placed,
-        Err(PlacingFault::OutOfMemory) => return Err(AfterFault::File(FileFault::no_memory())),
-        Err(_) => return Err(AfterFault::Form),
-    };
-    if is_own && !matches!(holds_still(rt, path, units), Ok(true)) {
-        return Err(AfterFault::Changed);
-    }
-    write_whole(rt, rt.alloc(), path, Content::Units, placed.as_bytes())?;
-    Ok(())
-}
-
-/// Tells why what is written after the job isn't at its path.
-fn tell_after<R: AllocGlobal + Eprint>(rt: &R, target: Target<'_>, fault: &AfterFault) {
-    match fault {
-        AfterFault::Form => tell_path(rt, "The places are not written to", target.path, NO_FORM),
-        AfterFault::Changed => tell_path(rt, "The places are not written to", target.path, CHANGED),
-        AfterFault::File(fault) => tell_fault(rt, target, fault),
+    match place_text(alloc, units, plan.places.as_slice()) {
+        Ok(placed) => Ok(placed),
+        Err(PlacingFault::OutOfMemory) => Err(AfterFault::from(AllocError)),
+        Err(_) => Err(AfterFault::Unplaced(NO_FORM)),
     }
 }
 
-/// Writes the units with the places of a plan, if one was found; tells where none was. None where nothing is missing then.
-fn fill_found<R: Files + AllocGlobal + Eprint>(
-    rt: &R,
-    units: &[u8],
-    plan: Option<&Plan>,
-    path: &str,
-    is_own: bool,
-) -> Option<Result<(), AfterFault>> {
-    let Some(plan) = plan else {
-        tell_path(rt, "The places are not written to", path, NO_PLAN);
-        return None;
-    };
-    Some(fill(rt, units, plan, path, is_own))
-}
-
-/// Writes what a line wants after the text of its job: the picture of costs, the units with the places of a plan that was
-/// found, and what is handed over with frames. Whether nothing is missing; tells what is, and where `is_told` says so where each
-/// whole file lies.
-pub(crate) fn write_after<R: Files + AllocGlobal + Eprint>(
-    rt: &R,
-    line: &Line,
+/// What is written of a unit text that was found right and of what was told of it. Of both only memory may be wanting: then no
+/// text is left.
+fn text_of(
+    alloc: Global,
+    content: Content,
     units: &[u8],
     told: &Told,
-    is_own: bool,
-    is_told: bool,
-) -> bool {
-    let (path, content, written) = match line {
-        Line::Cost {
-            svg: Some(path),
-            ..
-        } => {
-            let drawn = draw(rt, units, told.plan(), path.as_str());
-            (path.as_str(), Content::Picture, Some(drawn))
-        }
-        Line::Plan {
-            places: Some(path),
-            ..
-        }
-        | Line::Resume {
-            places: Some(path),
-            ..
-        } => {
-            let filled = fill_found(rt, units, told.plan(), path.as_str(), is_own);
-            (path.as_str(), Content::Units, filled)
-        }
-        Line::Frames { .. } => return hand_over(rt, line, units, told, is_told),
-        _ => return true,
-    };
-    match &written {
-        Some(Ok(())) if is_told => tell_whole(rt, Target { path, content }),
-        Some(Ok(())) | None => {}
-        Some(Err(fault)) => tell_after(rt, Target { path, content }, fault),
+) -> Result<String, AfterFault> {
+    if content == Content::Units {
+        return placed_of(alloc, units, told);
     }
-    !matches!(written, Some(Err(_)))
+    let Ok(units) = read_units(alloc, units) else {
+        return Err(AfterFault::from(AllocError));
+    };
+    if content == Content::Picture {
+        return Ok(picture_of(alloc, &units, told.plan())?);
+    }
+    Ok(handed_of(alloc, content, &units, told)?)
+}
+
+/// Whether the file at a path still holds these units.
+fn holds_still<R: Files + AllocGlobal>(rt: &R, path: &str, units: &[u8]) -> bool {
+    let most = (units.len() as u64).saturating_add(1);
+    match read_file(rt, rt.alloc(), path, most) {
+        Ok(Some(held)) => held.as_slice() == units,
+        _ => false,
+    }
+}
+
+/// Writes to a path what is to be there. The units' own file must hold their text still.
+fn write_to<R: Files + AllocGlobal>(
+    rt: &R,
+    target: Target<'_>,
+    units: &[u8],
+    told: &Told,
+) -> Result<(), AfterFault> {
+    let Target { path, content, .. } = target;
+    let text = text_of(rt.alloc(), content, units, told)?;
+    if target.is_own && !holds_still(rt, path, units) {
+        return Err(AfterFault::Unplaced(CHANGED));
+    }
+    Ok(write_whole(rt, rt.alloc(), path, content, text.as_bytes())?)
+}
+
+/// Tells why what is written after the job isn't at its path. Whether nothing is missing.
+fn tell_after<R: AllocGlobal + Eprint>(rt: &R, target: Target<'_>, fault: &AfterFault) -> bool {
+    match fault {
+        AfterFault::File(fault) => tell_fault(rt, target, fault),
+        AfterFault::Unplaced(why) => tell_path(rt, UNPLACED, target.path, *why),
+        AfterFault::NoPlan => tell_path(rt, UNPLACED, target.path, NO_PLAN),
+    }
+    matches!(fault, AfterFault::NoPlan)
+}
+
+/// Writes what is to be at some paths after the text of a job, each whole before the next one. Whether nothing is missing; tells
+/// what is, and where standard output hasn't got the text where each whole file lies.
+pub(crate) fn write_after<R: Files + AllocGlobal + Eprint>(
+    rt: &R,
+    targets: &[Option<Target<'_>>],
+    told: &Told,
+    done: Done<'_>,
+) -> bool {
+    let mut is_whole = true;
+    for target in targets.iter().flatten() {
+        match write_to(rt, *target, done.left.units, told) {
+            Ok(()) if done.untold.is_some() => tell_whole(rt, *target),
+            Ok(()) => {}
+            Err(fault) => is_whole = tell_after(rt, *target, &fault) && is_whole,
+        }
+    }
+    is_whole
 }

@@ -6,31 +6,29 @@ ghost use Rattle.std.specs.Prelude.{IfOk};
 ghost use Rattle.ec_cli_words.specs.Merges.{AskedFits};
 
 mod after;
-mod again;
-mod faults;
-mod handing;
+mod ending;
 mod job;
-mod kept;
 mod merging;
-mod opening;
 mod output;
 mod progress;
-mod remark;
+mod refusal;
 mod targets;
 mod telling;
 mod trial;
+mod units;
 
 use crate::job::{Streams, do_words};
 use crate::merging::do_merging;
-use crate::output::{refuse_line, refuse_text};
-use crate::telling::WAITING;
-use ec_cli_refusals::Refusal;
+use crate::output::{refuse_memory, refuse_text};
 use ec_cli_words::{Asked, LineFault, read_words};
-use ec_unit_text::UnitFault;
 use std::io::{ErrorKind, IsTerminal};
 use std::os::fd::AsRawFd;
 use std::process::ExitCode;
 use std::{env, fs, io};
+
+/// What is told while the units are waited for.
+const WAITING: &str =
+    "ecplan waits for the units on standard input, up to an end of file (Ctrl-D); or name their file as a word.\n";
 
 /// The words after the program's name.
 fn words_of(rt: &HostRuntime) -> io::Result<Vec<String>> {
@@ -47,17 +45,9 @@ fn hold_number(rt: &HostRuntime) -> Option<fs::File> {
     fs::open(rt, "/").ok()
 }
 
-/// Whether the first file that was opened took the number of standard input, which is closed then.
-fn is_input(first: &Option<fs::File>) -> bool {
-    match first {
-        Some(file) => file.as_raw_fd() == 0,
-        None => false,
-    }
-}
-
 /// Tells a person that the units are waited for, where they come from a terminal.
-fn tell_waiting(rt: &HostRuntime, come_on_input: bool) {
-    if come_on_input && rt.stdin().is_terminal() {
+fn tell_waiting(rt: &HostRuntime, units: &Option<String>) {
+    if units.is_none() && rt.stdin().is_terminal() {
         let _ = rt.eprint(WAITING);
     }
 }
@@ -75,31 +65,24 @@ fn asked_by(rt: &HostRuntime) -> Result<Asked, LineFault>
     }
 }
 
-/// Says why words are no command line. The status.
-fn refuse_asked(rt: &HostRuntime, fault: LineFault) -> u8 {
-    match fault {
-        LineFault::Memory => refuse_line(rt, Refusal::Unit(UnitFault::OutOfMemory)),
-        LineFault::Refused { text } => refuse_text(rt, text.as_str()),
-    }
-}
-
 /// Reads the words, does what they say, and ends with its status.
 fn main(rt: HostRuntime) -> ExitCode {
     let held = (hold_number(&rt), hold_number(&rt), hold_number(&rt));
     let streams = Streams {
-        is_closed: is_input(&held.0),
+        is_closed: held.0.as_ref().is_some_and(|file| file.as_raw_fd() == 0),
         shows: rt.stderr().is_terminal(),
     };
     let code = match asked_by(&rt) {
         Ok(Asked::Line(words)) => {
-            tell_waiting(&rt, words.units.is_none());
+            tell_waiting(&rt, &words.units);
             do_words(&rt, &words, streams)
         }
         Ok(Asked::Merge(merging)) => {
-            tell_waiting(&rt, merging.units.is_none());
-            do_merging(&rt, &merging, streams.is_closed)
+            tell_waiting(&rt, &merging.units);
+            do_merging(&rt, &merging, streams)
         }
-        Err(fault) => refuse_asked(&rt, fault),
+        Err(LineFault::Refused { text }) => refuse_text(&rt, text.as_str()),
+        Err(LineFault::Memory) => refuse_memory(&rt),
     };
     ExitCode::from(code)
 }

@@ -3,21 +3,21 @@
 ghost use Rattle.std.specs.Prelude.{◌≡◌};
 ghost use Rattle.ec_cli_words.specs.Merges.{MergingFits};
 
-use crate::kept::Kept;
-use crate::opening::open_units;
+use crate::ending::{Done, Wanted, tell_end};
+use crate::job::Streams;
 use crate::output::{Output, refuse_line, tell_untold};
-use crate::remark::{Delivered, Left, Wanted, tell_end, tell_refusal};
-use crate::targets::{Target, is_kept, target_at};
+use crate::refusal::tell_refusal;
+use crate::targets::{Target, may_write, target_at};
+use crate::telling::tell;
+use crate::units::{Kept, open_units};
 use ec_cert_merge::Misfit;
-use ec_cli_command::Line;
-use ec_cli_explain::{Asked, quoted_path, shown_text};
+use ec_cli_explain::{Asked, quoted_path};
 use ec_cli_files::Content;
 use ec_cli_refusals::Refusal;
 use ec_cli_run::{MergeFault, Report, do_merge};
 use ec_cli_words::Merging;
 use ec_wire::Io;
 use std::alloc::{AllocError, Global};
-use std::io;
 use std::io::Read;
 use std::rt::Files;
 
@@ -28,17 +28,15 @@ const ONE_LINE_OF_DESCENT: &str =
 /// The nodes that a search visits where no number is asked for.
 const USUAL_NODES: u32 = 1_000_000;
 
-/// The path of the merged certificate, and what is written there.
-fn target_of(merging: &Merging) -> Option<Target<'_>> {
-    target_at(&merging.out, Content::Certificate)
+/// The path of the certificate of this number, from 1.
+fn path_of(merging: &Merging, number: usize) -> Option<&String> {
+    merging.certs.as_slice().get(number.saturating_sub(1))
 }
 
-/// The path of the certificate of this number, from 1.
-fn path_of(merging: &Merging, number: usize) -> &str {
-    match merging.certs.as_slice().get(number.saturating_sub(1)) {
-        Some(path) => path.as_str(),
-        None => "",
-    }
+/// That path, as it is told.
+fn quoted(alloc: Global, merging: &Merging, number: usize) -> Result<String, AllocError> {
+    let path = path_of(merging, number);
+    quoted_path(alloc, path.map_or("", |path| path.as_str()))
 }
 
 /// Why two certificates don't fit together.
@@ -50,70 +48,44 @@ fn words_of(misfit: Misfit) -> &'static str {
     }
 }
 
-/// What is told of a certificate that doesn't fit with the first.
-fn misfit_text(alloc: Global, first: &str, other: &str, why: Misfit) -> Result<String, AllocError> {
-    let (first, other) = (quoted_path(alloc, first)?, quoted_path(alloc, other)?);
-    let words = words_of(why);
-    let text = format!(in alloc;
-        "The certificate {other} cannot be merged\nwith the first one, {first}.\n{words}{ONE_LINE_OF_DESCENT}"
-    )?;
-    shown_text(alloc, text.as_str())
-}
-
-/// Tells why the certificate of this number doesn't fit with the first.
-fn tell_misfit<H: AllocGlobal + Eprint>(rt: &H, merging: &Merging, number: usize, why: Misfit) {
-    let (first, other) = (path_of(merging, 1), path_of(merging, number));
-    if let Ok(text) = misfit_text(rt.alloc(), first, other, why) {
-        let _ = rt.eprint(text.as_str());
-    }
-}
-
-/// Tells why the certificate of this number is refused, as it is told of a check.
-fn tell_cert<H: Files + AllocGlobal + Eprint>(
-    rt: &H,
+/// What is told of the certificate of this number, which doesn't fit with the first.
+fn misfit_text(
+    alloc: Global,
     merging: &Merging,
     number: usize,
-    why: Refusal,
-    left: Left<'_>,
-) {
-    let Ok(cert) = String::from_str(rt.alloc(), path_of(merging, number)) else {
-        return;
-    };
-    tell_refusal(rt, &why, &Line::Check { cert }, left);
+    why: Misfit,
+) -> Result<String, AllocError> {
+    let first = quoted(alloc, merging, 1)?;
+    let other = quoted(alloc, merging, number)?;
+    let words = words_of(why);
+    format!(in alloc;
+        "The certificate {other} cannot be merged\nwith the first one, {first}.\n{words}{ONE_LINE_OF_DESCENT}"
+    )
 }
 
-/// Tells on standard error what came of a merge.
-fn tell_report<H: Files + AllocGlobal + Eprint>(
+/// Tells what came of a merge, as it is told of a line.
+fn tell_merge<H: Files + AllocGlobal + Eprint>(
     rt: &H,
     merging: &Merging,
-    left: Left<'_>,
     report: &Report<MergeFault>,
-    untold: Option<io::Error>,
+    done: Done<'_>,
 ) {
-    tell_untold(rt, untold);
+    tell_untold(rt, done.untold);
     match &report.told {
         Ok(told) => {
-            let delivered = Delivered {
-                target: target_of(merging),
-                fault: report.fault.as_ref(),
-                code: report.status.code,
-                untold,
-            };
             let wanted = Wanted {
                 asked: Asked::Merged,
                 nodes: USUAL_NODES,
             };
-            tell_end(rt, told, left.units, delivered, Some(wanted));
+            tell_end(rt, told, report, done, Some(wanted));
         }
-        Err(MergeFault::Refused(why)) => {
-            let line = Line::Cost {
-                cert: None,
-                svg: None,
-            };
-            tell_refusal(rt, why, &line, left);
+        Err(MergeFault::Refused(why)) => tell_refusal(rt, why, None, None, done.left),
+        Err(MergeFault::Cert { number, why }) => {
+            tell_refusal(rt, why, path_of(merging, *number), None, done.left);
         }
-        Err(MergeFault::Cert { number, why }) => tell_cert(rt, merging, *number, *why, left),
-        Err(MergeFault::Misfit { number, why }) => tell_misfit(rt, merging, *number, *why),
+        Err(MergeFault::Misfit { number, why }) => {
+            tell(rt, misfit_text(rt.alloc(), merging, *number, *why));
+        }
     }
 }
 
@@ -121,11 +93,12 @@ fn tell_report<H: Files + AllocGlobal + Eprint>(
 fn merge_units<H: Files + AllocGlobal + Eprint + Print, R: Read + Drop>(
     rt: &H,
     merging: &Merging,
+    target: Option<Target<'_>>,
     reader: R,
 ) -> u8
     requires { MergingFits merging.now }
 {
-    let mut units = Kept::new(rt.alloc(), reader);
+    let mut units = Kept::new(rt.alloc(), &merging.units, reader);
     let mut output = Output::new(rt, false);
     let report = do_merge(
         rt,
@@ -135,8 +108,12 @@ fn merge_units<H: Files + AllocGlobal + Eprint + Print, R: Read + Drop>(
         &mut Io::new(&mut units),
         &mut Io::new(&mut output),
     );
-    let left = Left::of(&merging.units, &units);
-    tell_report(rt, merging, left, &report, output.fault());
+    let done = Done {
+        left: units.left(),
+        target,
+        untold: output.fault(),
+    };
+    tell_merge(rt, merging, &report, done);
     report.status.code
 }
 
@@ -145,16 +122,17 @@ fn merge_units<H: Files + AllocGlobal + Eprint + Print, R: Read + Drop>(
 pub(crate) fn do_merging<H: Files + AllocGlobal + Eprint + Print + Input>(
     rt: &H,
     merging: &Merging,
-    is_closed: bool,
+    streams: Streams,
 ) -> u8
     requires { MergingFits merging.now }
 {
-    if is_kept(rt, target_of(merging)) {
+    let target = target_at(&merging.out, Content::Certificate);
+    if !may_write(rt, &[target]) {
         return refuse_line(rt, Refusal::Write);
     }
-    match open_units(rt, &merging.units, is_closed) {
-        Ok(Some(file)) => merge_units(rt, merging, file),
-        Ok(None) => merge_units(rt, merging, rt.reader()),
+    match open_units(rt, &merging.units, streams.is_closed) {
+        Ok(Some(file)) => merge_units(rt, merging, target, file),
+        Ok(None) => merge_units(rt, merging, target, rt.reader()),
         Err(code) => code,
     }
 }

@@ -1,8 +1,10 @@
 //! Standard output, and what is told where it takes no text.
 
 use crate::progress::BLANKS;
+use crate::telling::tell;
 use ec_cli_refusals::Refusal;
 use ec_cli_run::{refuse, refuse_words};
+use ec_unit_text::UnitFault;
 use ec_wire::Io;
 use std::alloc::{AllocError, Global};
 use std::io;
@@ -58,19 +60,20 @@ impl<'a, H: Eprint + Print> io::Write for Output<'a, H> {
 }
 
 /// That a text isn't written, and why.
-fn untold_words(alloc: Global, fault: io::Error) -> Result<String, AllocError> {
-    let why = fault.to_string(alloc)?;
+fn untold_text(alloc: Global, why: io::Error) -> Result<String, AllocError> {
     format!(in alloc; "The text cannot be written to standard output: {why}.\n")
 }
 
 /// Tells why a text isn't written, if it isn't.
-pub(crate) fn tell_untold<H: AllocGlobal + Eprint>(rt: &H, fault: Option<io::Error>) {
-    let Some(fault) = fault else {
-        return;
-    };
-    if let Ok(words) = untold_words(rt.alloc(), fault) {
-        let _ = rt.eprint(words.as_str());
+pub(crate) fn tell_untold<H: AllocGlobal + Eprint>(rt: &H, why: Option<io::Error>) {
+    if let Some(why) = why {
+        tell(rt, untold_text(rt.alloc(), why));
     }
+}
+
+/// Refuses for want of memory; tells why, where it can't. The status.
+pub(crate) fn refuse_memory<H: AllocGlobal + Eprint + Print>(rt: &H) -> u8 {
+    refuse_line(rt, Refusal::Unit(UnitFault::OutOfMemory))
 }
 
 /// Writes the line that refuses; tells why, where it can't. The status.

@@ -18,6 +18,19 @@ const MOST_WORKERS: usize = 16;
 pub(crate) const BLANKS: &str =
     "\r                                                                              \r";
 
+/// What the search of a line may take, if it searches.
+pub(crate) fn effort_of(line: &Line) -> Option<Effort> {
+    match line {
+        Line::Plan { effort, .. } | Line::Resume { effort, .. } => Some(*effort),
+        _ => None,
+    }
+}
+
+/// The milliseconds that a search may take, if time ends it.
+fn most_millis(effort: Option<Effort>) -> Option<u64> {
+    Some(u64::from(effort?.minutes?).saturating_mul(60_000))
+}
+
 /// How the progress is told.
 #[derive(Clone, Copy, PartialEq, Eq)]
 pub(crate) enum Telling {
@@ -32,9 +45,9 @@ pub(crate) enum Telling {
 impl Telling {
     /// How the progress of a line is told: of a search alone, on a terminal, or where it is asked for.
     pub(crate) fn of(line: &Line, is_terminal: bool, is_asked: bool) -> Telling {
-        match line {
-            Line::Plan { .. } | Line::Resume { .. } if is_terminal => Telling::Over,
-            Line::Plan { .. } | Line::Resume { .. } if is_asked => Telling::Lines,
+        match effort_of(line) {
+            Some(_) if is_terminal => Telling::Over,
+            Some(_) if is_asked => Telling::Lines,
             _ => Telling::Nothing,
         }
     }
@@ -76,20 +89,6 @@ fn new_counts(alloc: Global, telling: Telling) -> Vec<CachePadded<AtomicU64>> {
     counts
 }
 
-/// What the search of a line may take, if it searches.
-fn effort_of(line: &Line) -> Option<Effort> {
-    match line {
-        Line::Plan { effort, .. } | Line::Resume { effort, .. } => Some(*effort),
-        _ => None,
-    }
-}
-
-/// The milliseconds that a search may take, if time ends it.
-fn most_millis(effort: Option<Effort>) -> Option<u64> {
-    let minutes = effort?.minutes?;
-    Some(u64::from(minutes).saturating_mul(60_000))
-}
-
 impl<'a, H: AllocGlobal + Eprint + Clock> Progress<'a, H> {
     /// The progress of a line, of which nothing was told yet.
     pub(crate) fn new(rt: &'a H, line: &Line, telling: Telling) -> Progress<'a, H> {
@@ -97,10 +96,7 @@ impl<'a, H: AllocGlobal + Eprint + Clock> Progress<'a, H> {
         Progress {
             rt,
             telling,
-            budget: match effort {
-                Some(effort) => effort.nodes,
-                None => 0,
-            },
+            budget: effort.map_or(0, |effort| effort.nodes),
             most: most_millis(effort),
             began: Instant::now(rt).ok(),
             counts: new_counts(rt.alloc(), telling),
@@ -186,9 +182,6 @@ impl<'a, H: AllocGlobal + Eprint + Clock> Gate for Progress<'a, H> {
         let Some(most) = self.most else {
             return false;
         };
-        match self.millis() {
-            Some(millis) => millis >= most,
-            None => false,
-        }
+        self.millis().is_some_and(|millis| millis >= most)
     }
 }

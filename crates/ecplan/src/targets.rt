@@ -1,11 +1,12 @@
-//! What a line writes to paths, looked at before the job.
+//! What the words write to paths, looked at before the job.
 
-use crate::faults::unwritten;
-use crate::telling::{tell_path, tell_reason};
+use crate::telling::tell;
 use ec_cli_command::Line;
 use ec_cli_explain::quoted_path;
-use ec_cli_files::{Content, KeepReason, Late, are_one, reason_to_keep};
+use ec_cli_files::{Content, KeepReason, Late, are_one, are_same_file, reason_to_keep};
+use ec_cli_words::Words;
 use std::alloc::{AllocError, Global};
+use std::io;
 use std::rt::Files;
 
 /// A path to write, and what is written there.
@@ -13,53 +14,54 @@ use std::rt::Files;
 pub(crate) struct Target<'a> {
     pub path: &'a str,
     pub content: Content,
+    /// Whether it is the file that the units come from.
+    pub is_own: bool,
 }
 
-/// What is told before the path of a file that is left as it is.
-fn kept(content: Content) -> &'static str {
-    match content {
-        Content::Certificate => "The certificate is not written over the file",
-        Content::Capture => "The capture is not written over the file",
-        Content::Picture => "The picture is not written over the file",
-        Content::Units => "The units are not written over the file",
-        Content::Header => "The header is not written over the file",
-        Content::Map => "The map is not written over the file",
-        Content::Report => "The report is not written over the file",
-    }
-}
-
-/// What is told before a path that can't be written, while the job goes on.
-fn unwritable(content: Content) -> &'static str {
-    match content {
-        Content::Certificate =>
-            "The search goes on and tells its plan, but the certificate cannot be written to",
-        Content::Units =>
-            "The search goes on and tells its plan, but the units cannot be written to",
-        _ => unwritten(content),
-    }
-}
+/// What is written: the file of the job, and what is written after its text.
+pub(crate) type Targets<'a> = [Option<Target<'a>>; 4];
 
 /// A path to write, if it is there.
 pub(crate) fn target_at(path: &Option<String>, content: Content) -> Option<Target<'_>> {
-    match path {
-        Some(path) => Some(Target {
-            path: path.as_str(),
-            content,
-        }),
-        None => None,
+    Some(Target {
+        path: path.as_deref()?,
+        content,
+        is_own: false,
+    })
+}
+
+/// Whether a path leads to the file of the units: the one at their path, else the one that standard input comes from.
+fn is_own_file<H: Files + AllocGlobal>(rt: &H, path: &str, units: Option<&str>) -> bool {
+    match units {
+        Some(units) => are_one(rt, rt.alloc(), path, units),
+        None => are_same_file(rt, path, "/dev/stdin"),
     }
 }
 
-/// What a line writes: the file of its job, and what is written after its text.
-pub(crate) fn targets_of(line: &Line) -> [Option<Target<'_>>; 4] {
-    match line {
+/// The path to which the units with their places are written, if it is there.
+fn places_at<'a, H: Files + AllocGlobal>(
+    rt: &H,
+    path: &'a Option<String>,
+    units: Option<&str>,
+) -> Option<Target<'a>> {
+    let target = target_at(path, Content::Units)?;
+    Some(Target {
+        is_own: is_own_file(rt, target.path, units),
+        ..target
+    })
+}
+
+/// What the words of a line write.
+pub(crate) fn targets_of<'a, H: Files + AllocGlobal>(rt: &H, words: &'a Words) -> Targets<'a> {
+    match &words.line {
         Line::Cost { svg, .. } => [None, target_at(svg, Content::Picture), None, None],
         Line::Plan { out, places, .. } | Line::Resume { out, places, .. } => [
             target_at(out, Content::Certificate),
-            target_at(places, Content::Units),
+            places_at(rt, places, words.units.as_deref()),
             None,
             None,
         ],
+        Line::Check { .. } => [None, None, None, None],
         Line::Frames {
             pcap,
             header,
@@ -72,148 +74,125 @@ pub(crate) fn targets_of(line: &Line) -> [Option<Target<'_>>; 4] {
             target_at(map, Content::Map),
             target_at(report, Content::Report),
         ],
-        Line::Check { .. } | Line::Play { .. } => [None, None, None, None],
+        Line::Play { .. } => [
+            target_at(&words.trial.pcap, Content::Capture),
+            None,
+            None,
+            None,
+        ],
     }
+}
+
+/// That what stands at a path is left as it is, and why.
+fn kept_text(alloc: Global, target: Target<'_>, why: KeepReason) -> Result<String, AllocError> {
+    let Target { path, content, .. } = target;
+    let (name, path) = (content.as_str(), quoted_path(alloc, path)?);
+    let is = match content {
+        Content::Units => "are",
+        _ => "is",
+    };
+    let why = why.as_str();
+    format!(in alloc; "The {name} {is} not written over the file {path}.\n{why}.\n")
 }
 
 /// Whether what stands at a path is left as it is; tells why. The units' own file is judged as the units are, and kept only where
 /// standard output goes to it.
-fn is_left<H: Files + AllocGlobal + Eprint>(
-    rt: &H,
-    target: Option<Target<'_>>,
-    is_own: bool,
-) -> bool {
-    let Some(Target { path, content }) = target else {
-        return false;
-    };
-    match reason_to_keep(rt, rt.alloc(), path, content) {
-        Some(why) if is_own && why != KeepReason::IsOutput => false,
-        Some(why) => {
-            tell_path(rt, kept(content), path, why.as_str());
+fn is_kept<H: Files + AllocGlobal + Eprint>(rt: &H, target: Target<'_>) -> bool {
+    match reason_to_keep(rt, rt.alloc(), target.path, target.content) {
+        Some(why) if !target.is_own || why == KeepReason::IsOutput => {
+            tell(rt, kept_text(rt.alloc(), target, why));
             true
         }
-        None => false,
+        _ => false,
     }
 }
 
-/// Whether what stands at a path that isn't the units' own is left as it is; tells why.
-pub(crate) fn is_kept<H: Files + AllocGlobal + Eprint>(rt: &H, target: Option<Target<'_>>) -> bool {
-    is_left(rt, target, false)
-}
-
-/// What is told of a path that leads to the same file as another one.
-fn same_words(alloc: Global, one: &str, other: &str) -> Result<String, AllocError> {
+/// That two paths to write are one file.
+fn same_text(alloc: Global, one: &str, other: &str) -> Result<String, AllocError> {
+    let path = quoted_path(alloc, one)?;
+    let lead = format!(in alloc; "Two files are to be written to one path, {path}.\n")?;
     if one == other {
-        return String::from_str(alloc, "Give each a path of its own");
+        return format!(in alloc; "{lead}Give each a path of its own.\n");
     }
     let other = quoted_path(alloc, other)?;
-    format!(in alloc; "{other} is the same file: give each a path of its own")
-}
-
-/// Tells that two paths to write are one file.
-fn tell_same<H: AllocGlobal + Eprint>(rt: &H, one: &str, other: &str) {
-    if let Ok(why) = same_words(rt.alloc(), one, other) {
-        tell_path(
-            rt,
-            "Two files are to be written to one path,",
-            one,
-            why.as_str(),
-        );
-    }
+    format!(in alloc; "{lead}{other} is the same file: give each a path of its own.\n")
 }
 
 /// Whether two paths to write are one file; tells that.
-fn are_same<H: Files + AllocGlobal + Eprint>(
-    rt: &H,
-    one: Option<Target<'_>>,
-    other: Option<Target<'_>>,
-) -> bool {
-    let (Some(one), Some(other)) = (one, other) else {
-        return false;
-    };
-    let is_one = are_one(rt, rt.alloc(), one.path, other.path);
+fn are_same<H: Files + AllocGlobal + Eprint>(rt: &H, one: &str, other: &str) -> bool {
+    let is_one = are_one(rt, rt.alloc(), one, other);
     if is_one {
-        tell_same(rt, one.path, other.path);
+        tell(rt, same_text(rt.alloc(), one, other));
     }
     is_one
 }
 
-/// Whether a unit text is written to a path.
-fn holds_units(target: Option<Target<'_>>) -> bool {
-    match target {
-        Some(Target { content, .. }) => content == Content::Units,
-        None => false,
-    }
-}
-
-/// Whether what stands at one of some paths is left as it is; tells why.
-fn is_any_kept<H: Files + AllocGlobal + Eprint>(
-    rt: &H,
-    targets: &[Option<Target<'_>>],
-    is_own: bool,
-) -> bool {
-    for target in targets {
-        if is_left(rt, *target, is_own && holds_units(*target)) {
-            return true;
-        }
-    }
-    false
-}
-
-/// Whether a path to write is one of some others; tells that.
+/// Whether a path to write, if it is there, is one of some others; tells that.
 fn is_among<H: Files + AllocGlobal + Eprint>(
     rt: &H,
     one: Option<Target<'_>>,
     others: &[Option<Target<'_>>],
 ) -> bool {
-    for other in others {
-        if are_same(rt, one, *other) {
+    let Some(one) = one else {
+        return false;
+    };
+    others
+        .iter()
+        .flatten()
+        .any(|other| are_same(rt, one.path, other.path))
+}
+
+/// Whether two of some paths to write are one file; tells that.
+fn has_same<H: Files + AllocGlobal + Eprint>(rt: &H, targets: &[Option<Target<'_>>]) -> bool {
+    for at in 0..targets.len() {
+        if is_among(rt, targets[at], &targets[at + 1..]) {
             return true;
         }
     }
     false
 }
 
-/// Whether a line may write what it says: none of its paths is one whose file is left as it is, and no two are one. Tells
+/// Whether all that is to be written may be: none of the paths is one whose file is left as it is, and no two are one. Tells
 /// what is wrong. The file of `--places` may be the units' own.
 pub(crate) fn may_write<H: Files + AllocGlobal + Eprint>(
     rt: &H,
-    line: &Line,
-    is_own: bool,
+    targets: &[Option<Target<'_>>],
 ) -> bool {
-    let targets = targets_of(line);
-    let [one, second, third, _] = targets;
-    !is_any_kept(rt, &targets, is_own)
-        && !is_among(rt, one, &targets[1..])
-        && !is_among(rt, second, &targets[2..])
-        && !is_among(rt, third, &targets[3..])
+    let is_any_kept = targets.iter().flatten().any(|target| is_kept(rt, *target));
+    !is_any_kept && !has_same(rt, targets)
+}
+
+/// That a path can't be written, while a search goes on.
+fn unwritable_text(
+    alloc: Global,
+    target: Target<'_>,
+    why: io::Error,
+) -> Result<String, AllocError> {
+    let (name, path) = (target.content.as_str(), quoted_path(alloc, target.path)?);
+    format!(in alloc;
+        "The search goes on and tells its plan, but the {name} cannot be written to {path}.\n{why}.\n"
+    )
 }
 
 /// Tells that a path can't be written, if it can't.
 fn try_target<H: Files + AllocGlobal + Eprint>(
     rt: &H,
-    target: Option<Target<'_>>,
+    target: Target<'_>,
 ) -> Result<(), AllocError> {
-    let Some(Target { path, content }) = target else {
-        return Ok(());
-    };
-    let mut late = Late::new(rt, rt.alloc(), path, content)?;
-    if let Err(error) = late.try_path() {
-        tell_reason(rt, unwritable(content), path, error);
+    let mut late = Late::new(rt, rt.alloc(), target.path, target.content)?;
+    if let Err(why) = late.try_path() {
+        tell(rt, unwritable_text(rt.alloc(), target, why));
     }
     Ok(())
 }
 
-/// Tells which paths of a search can't be written, before it begins.
+/// Tells which paths can't be written, before a search begins.
 pub(crate) fn try_targets<H: Files + AllocGlobal + Eprint>(
     rt: &H,
-    line: &Line,
+    targets: &Targets<'_>,
 ) -> Result<(), AllocError> {
-    let (Line::Plan { .. } | Line::Resume { .. }) = line else {
-        return Ok(());
-    };
-    for target in targets_of(line) {
-        try_target(rt, target)?;
+    for target in targets.iter().flatten() {
+        try_target(rt, *target)?;
     }
     Ok(())
 }

@@ -1,71 +1,92 @@
-//! What is told on standard error of a path.
+//! What is told on standard error of paths. Where memory is wanting, or standard error takes nothing, nothing is told.
 
+use crate::targets::Target;
 use ec_cli_explain::{quoted_path, shown_text};
+use ec_cli_files::{Content, FileFault};
 use std::alloc::{AllocError, Global};
+use std::fmt::Display;
+use std::fs;
+use std::rt::Files;
 
-/// What is told while the units are waited for.
-pub(crate) const WAITING: &str =
-    "ecplan waits for the units on standard input, up to an end of file (Ctrl-D); or name their file as a word.\n";
+/// Tells some sentences, with nothing in them but what a terminal shows as it stands.
+pub(crate) fn tell<R: AllocGlobal + Eprint>(rt: &R, sentences: Result<String, AllocError>) {
+    let Ok(sentences) = sentences else {
+        return;
+    };
+    if let Ok(text) = shown_text(rt.alloc(), sentences.as_str()) {
+        let _ = rt.eprint(text.as_str());
+    }
+}
 
-/// What is told where the units come on standard input and that is closed.
-pub(crate) const CLOSED: &str = "The units cannot be read: standard input is closed.\n";
-
-/// What is told of a text into which no places can be filled.
-pub(crate) const NO_FORM: &str =
-    "Each unit of the text has to begin with a line [[unit]], and each key to have a line of its own";
-
-/// What is told where no plan gives places to fill in.
-pub(crate) const NO_PLAN: &str = "No plan was found";
-
-/// What is told of a file of units that isn't written over.
-pub(crate) const CHANGED: &str =
-    "It isn't the text any more that the search began with, and is left as it is. The plan was told";
-
-/// What is told before what was found, where standard output hasn't got it.
-pub(crate) const UNTOLD: &str = "What was found:";
-
-/// A sentence that ends with a path, and behind it further lines.
-fn sentence(alloc: Global, words: &str, path: &str, more: &str) -> Result<String, AllocError> {
+/// A sentence that ends with a path, and in a line of its own why.
+fn path_text<W: Display + Drop>(
+    alloc: Global,
+    words: &str,
+    path: &str,
+    why: W,
+) -> Result<String, AllocError> {
     let path = quoted_path(alloc, path)?;
-    let text = format!(in alloc; "{words} {path}.\n{more}")?;
-    shown_text(alloc, text.as_str())
+    format!(in alloc; "{words} {path}.\n{why}.\n")
 }
 
-/// Tells a sentence that ends with a path. Where that can't be written or made, nothing is told.
-pub(crate) fn tell_place<R: AllocGlobal + Eprint>(rt: &R, words: &str, path: &str) {
-    if let Ok(text) = sentence(rt.alloc(), words, path, "") {
-        let _ = rt.eprint(text.as_str());
-    }
-}
-
-/// The same, and in a line of its own why.
-fn sentence_with(alloc: Global, words: &str, path: &str, why: &str) -> Result<String, AllocError> {
-    let why = format!(in alloc; "{why}.\n")?;
-    sentence(alloc, words, path, why.as_str())
-}
-
-/// Tells a sentence that ends with a path, and why. Where that can't be written or made, nothing is told.
-pub(crate) fn tell_path<R: AllocGlobal + Eprint>(rt: &R, words: &str, path: &str, why: &str) {
-    if let Ok(text) = sentence_with(rt.alloc(), words, path, why) {
-        let _ = rt.eprint(text.as_str());
-    }
-}
-
-/// Tells a sentence that ends with a path, and the system's reason.
-pub(crate) fn tell_reason<R: AllocGlobal + Eprint>(
+/// Tells a sentence that ends with a path, and why.
+pub(crate) fn tell_path<R: AllocGlobal + Eprint, W: Display + Drop>(
     rt: &R,
     words: &str,
     path: &str,
-    reason: std::io::Error,
+    why: W,
 ) {
-    if let Ok(why) = reason.to_string(rt.alloc()) {
-        tell_path(rt, words, path, why.as_str());
+    tell(rt, path_text(rt.alloc(), words, path, why));
+}
+
+/// That a whole file lies at a path.
+fn whole_text(alloc: Global, content: Content, path: &str) -> Result<String, AllocError> {
+    let (name, path) = (content.as_str(), quoted_path(alloc, path)?);
+    if content == Content::Units {
+        return format!(in alloc; "The {name} with their places are whole and lie at {path}.\n");
+    }
+    format!(in alloc; "The {name} is whole and lies at {path}.\n")
+}
+
+/// Tells that a whole file lies at its path. What is no file, as a pipe, isn't told.
+pub(crate) fn tell_whole<R: Files + AllocGlobal + Eprint>(rt: &R, target: Target<'_>) {
+    let Target { path, content, .. } = target;
+    if fs::metadata(rt, path).is_ok_and(|found| found.is_file()) {
+        tell(rt, whole_text(rt.alloc(), content, path));
     }
 }
 
-/// Tells a text, and before it on a line of its own what it is. It takes no memory.
-pub(crate) fn tell_text<R: Eprint>(rt: &R, words: &str, text: &str) {
-    let _ = rt.eprint(words);
-    let _ = rt.eprint("\n");
-    let _ = rt.eprint(text);
+/// Why a file isn't at its path, and where it lies.
+fn fault_text(alloc: Global, target: Target<'_>, fault: &FileFault) -> Result<String, AllocError> {
+    let Target { path, content, .. } = target;
+    let (name, path) = (content.as_str(), quoted_path(alloc, path)?);
+    match fault {
+        FileFault::Unwritten { why } => {
+            format!(in alloc; "The {name} cannot be written to {path}.\n{why}.\n")
+        }
+        FileFault::Aside { at, why } => {
+            let lies = whole_text(alloc, content, at.as_str())?;
+            format!(in alloc; "{lies}It cannot take the place of {path}: {why}.\n")
+        }
+        FileFault::Kept { at, why } => {
+            let (lies, why) = (whole_text(alloc, content, at.as_str())?, why.as_str());
+            format!(in alloc; "{lies}It does not take the place of {path}.\n{why}.\n")
+        }
+        FileFault::TooLarge { at, bytes } => {
+            let lies = whole_text(alloc, content, at.as_str())?;
+            format!(in alloc;
+                "{lies}It has {bytes} bytes, and at most 67108864 are read.\nIt does not take the place of {path}.\n"
+            )
+        }
+        FileFault::Unsynced { why } => {
+            format!(in alloc;
+                "It is whole at {path}.\nIt may be lost if the power fails now, since its folder cannot be synced: {why}.\n"
+            )
+        }
+    }
+}
+
+/// Tells why a file isn't at its path, and where it lies.
+pub(crate) fn tell_fault<R: AllocGlobal + Eprint>(rt: &R, target: Target<'_>, fault: &FileFault) {
+    tell(rt, fault_text(rt.alloc(), target, fault));
 }

@@ -1,0 +1,153 @@
+//! What is told on standard error at the end of a job.
+
+use crate::output::tell_untold;
+use crate::progress::effort_of;
+use crate::refusal::tell_refusal;
+use crate::targets::Target;
+use crate::telling::{tell_fault, tell_whole};
+use crate::units::Left;
+use ec_cert::Cert;
+use ec_cli_answers::{File, Told};
+use ec_cli_command::{Effort, Line};
+use ec_cli_explain::{Asked, Cycle, Filed, Found, Written, advice};
+use ec_cli_files::FileFault;
+use ec_cli_refusals::Refusal;
+use ec_cli_run::Report;
+use ec_outcome::Cut;
+use ec_unit_text::read_units;
+use std::alloc::Global;
+use std::rt::Files;
+use std::{fs, io};
+
+/// The most nodes that a search may be asked to visit.
+const MOST_NODES: u32 = 10_000_000;
+
+/// The most minutes that a search may be asked to take.
+const MOST_MINUTES: u32 = 10_000;
+
+/// Whether a search that was cut short took as many nodes or minutes as may be asked for.
+fn is_most(effort: &Effort, cut: Cut) -> bool {
+    match cut {
+        Cut::Budget => effort.nodes == MOST_NODES,
+        Cut::Time => effort.minutes == Some(MOST_MINUTES),
+        _ => false,
+    }
+}
+
+/// What was asked of a search or a merge, and how many nodes a search is asked for that goes on as before.
+#[derive(Clone, Copy)]
+pub(crate) struct Wanted {
+    pub asked: Asked,
+    pub nodes: u32,
+}
+
+/// What a search was asked for; none of a line that searches for nothing.
+fn wanted_of(line: &Line, told: &Told) -> Option<Wanted> {
+    let effort = effort_of(line)?;
+    let asked = match (line, &told.ending) {
+        (Line::Resume { part, .. }, _) if part.count > 1 => Asked::Part,
+        (_, Some(ending)) if is_most(&effort, ending.cut) => Asked::Most,
+        _ => Asked::Whole,
+    };
+    Some(Wanted {
+        asked,
+        nodes: effort.nodes,
+    })
+}
+
+/// What a search or a merge found.
+fn found_of(told: &Told) -> Found {
+    if let Some(ending) = told.ending {
+        return Found::Unproved(ending);
+    }
+    match &told.file {
+        File::Cert(
+            Cert {
+                best: Some(best),
+                ..
+            },
+        ) => Found::Least(best.busiest),
+        _ => Found::NoPlan,
+    }
+}
+
+/// What is known of the line of the units that were read.
+fn cycle_of(alloc: Global, units: &[u8]) -> Option<Cycle> {
+    read_units(alloc, units).ok().map(|units| Cycle::of(&units))
+}
+
+/// What became of the certificate that was to be written, if one was; `nodes` are those that a search is asked for that goes on
+/// with it as before.
+fn filed_at<'x, R: Files>(
+    files: &R,
+    target: Option<Target<'x>>,
+    fault: Option<&FileFault>,
+    nodes: u32,
+) -> Filed<'x> {
+    let Some(Target { path, .. }) = target else {
+        return Filed::Unasked;
+    };
+    match fault {
+        Some(FileFault::TooLarge { .. }) => Filed::TooLarge,
+        Some(_) => Filed::Missing,
+        None => Filed::There(Written {
+            path,
+            bytes: fs::metadata(files, path).map_or(0, |found| found.len()),
+            nodes,
+        }),
+    }
+}
+
+/// What is there once a job is done, beside its report.
+#[derive(Clone, Copy)]
+pub(crate) struct Done<'a> {
+    pub left: Left<'a>,
+    /// The file that the job writes, if it writes one.
+    pub target: Option<Target<'a>>,
+    /// Why standard output hasn't got the text.
+    pub untold: Option<io::Error>,
+}
+
+/// Tells at the end of a job why its file isn't at its path, or where it lies where standard output hasn't got the text. Of
+/// what was asked of a search or a merge also what was found, where standard output hasn't got it, and what to do.
+pub(crate) fn tell_end<R: Files + AllocGlobal + Eprint, E>(
+    rt: &R,
+    told: &Told,
+    report: &Report<E>,
+    done: Done<'_>,
+    wanted: Option<Wanted>,
+) {
+    match (done.target, &report.fault, done.untold) {
+        (Some(target), Some(fault), _) => tell_fault(rt, target, fault),
+        (Some(target), None, Some(_)) => tell_whole(rt, target),
+        _ => {}
+    }
+    let Some(Wanted { asked, nodes }) = wanted else {
+        return;
+    };
+    if report.status.code == 4 {
+        let _ = rt.eprint("What was found:\n");
+        let _ = rt.eprint(told.answer.text.as_str());
+    }
+    let filed = filed_at(rt, done.target, report.fault.as_ref(), nodes);
+    let (alloc, units) = (rt.alloc(), done.left.units);
+    if let Ok(text) = advice(alloc, found_of(told), cycle_of(alloc, units), filed, asked) {
+        let _ = rt.eprint(text.as_str());
+    }
+}
+
+/// Tells what came of a line: why standard output hasn't got the text, what a refusal means, why a file isn't at its path or
+/// where it lies, what was found where standard output hasn't got it, and what would help a search that ended without a proof.
+/// Where that can't be written or made, nothing is told.
+pub(crate) fn tell_line<R: Files + AllocGlobal + Eprint>(
+    rt: &R,
+    line: &Line,
+    report: &Report<Refusal>,
+    done: Done<'_>,
+) {
+    tell_untold(rt, done.untold);
+    match &report.told {
+        Ok(told) => tell_end(rt, told, report, done, wanted_of(line, told)),
+        Err(refusal) => tell_refusal(rt, refusal, line.cert(), line.out(), done.left),
+    }
+}

@@ -1,0 +1,108 @@
+//! What is told of a refusal.
+
+use crate::telling::tell_path;
+use crate::units::Left;
+use ec_cert_text::CertFault;
+use ec_checker::CheckFault;
+use ec_cli_explain::{Inputs, explain};
+use ec_cli_files::read_file;
+use ec_cli_refusals::Refusal;
+use std::alloc::AllocError;
+use std::io::Read;
+use std::rt::Files;
+use std::{fs, io};
+
+/// The most bytes of a certificate that are read again.
+const MOST_CERT: u64 = 67_108_864;
+
+/// Reads one byte of what stands at a path, to see why that fails. What can't be opened without waiting, as a pipe, isn't tried.
+fn try_read<R: Files>(files: &R, path: &str) -> io::Result<()> {
+    let found = fs::metadata(files, path)?;
+    if found.is_file() || found.is_dir() {
+        let mut byte = [0u8; 1];
+        fs::open(files, path)?.read(&mut byte)?;
+    }
+    Ok(())
+}
+
+/// Why the system refused the units or the certificate at a path, for the line that says so.
+fn reason_for<R: Files>(
+    files: &R,
+    refusal: &Refusal,
+    cert: Option<&String>,
+    fault: Option<io::Error>,
+) -> Option<io::Error> {
+    match (refusal, fault, cert) {
+        (Refusal::Read, Some(error), _) => Some(error),
+        (Refusal::Read, None, Some(path)) => try_read(files, path.as_str()).err(),
+        _ => None,
+    }
+}
+
+/// Whether a refusal is of what stands in a certificate.
+fn is_of_cert(refusal: &Refusal) -> bool {
+    match refusal {
+        Refusal::Cert(fault) => !matches!(fault, CertFault::OutOfMemory | CertFault::TooLarge),
+        Refusal::Check(fault) => !matches!(fault, CheckFault::OutOfMemory),
+        Refusal::CertHasNoPlan => true,
+        _ => false,
+    }
+}
+
+/// The certificate at a path that a refusal is about, if it can be read again.
+fn cert_for<R: Files + AllocGlobal>(rt: &R, refusal: &Refusal, path: &str) -> Option<Vec<u8>> {
+    if !is_of_cert(refusal) {
+        return None;
+    }
+    read_file(rt, rt.alloc(), path, MOST_CERT).ok().flatten()
+}
+
+/// The text in a string, if there is one.
+fn text_in(held: Option<&String>) -> Option<&str> {
+    held.map(|text| text.as_str())
+}
+
+/// What there is to tell of a refusal.
+fn refusal_text<'x, R: Files + AllocGlobal>(
+    rt: &R,
+    refusal: &Refusal,
+    cert_path: Option<&'x String>,
+    out_path: Option<&'x String>,
+    left: Left<'x>,
+) -> Result<String, AllocError> {
+    let reason = match reason_for(rt, refusal, cert_path, left.fault) {
+        Some(error) => Some(error.to_string(rt.alloc())?),
+        None => None,
+    };
+    let cert = cert_path.and_then(|path| cert_for(rt, refusal, path.as_str()));
+    let inputs = Inputs {
+        units: left.units,
+        cert: match &cert {
+            Some(bytes) => Some(bytes.as_slice()),
+            None => None,
+        },
+        cert_path: text_in(cert_path),
+        out_path: text_in(out_path),
+        reason: text_in(reason.as_ref()),
+    };
+    explain(rt.alloc(), refusal, &inputs)
+}
+
+/// Tells what a refusal means: of the units, of the certificate that was to be read, or of the file that was to be written. Where
+/// that can't be written or made, nothing is told.
+pub(crate) fn tell_refusal<'x, R: Files + AllocGlobal + Eprint>(
+    rt: &R,
+    refusal: &Refusal,
+    cert: Option<&'x String>,
+    out: Option<&'x String>,
+    left: Left<'x>,
+) {
+    if let (Some(path), Some(error)) = (left.path, left.fault) {
+        return tell_path(rt, "The units cannot be read from", path, error);
+    }
+    // Where standard input couldn't be read, the certificate has no part in it.
+    let cert = if left.fault.is_some() { None } else { cert };
+    if let Ok(told) = refusal_text(rt, refusal, cert, out, left) {
+        let _ = rt.eprint(told.as_str());
+    }
+}

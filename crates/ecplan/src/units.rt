@@ -1,0 +1,121 @@
+//! The units that a job reads: opened first, and kept for what is told afterwards.
+
+use crate::output::refuse_line;
+use crate::telling::tell_path;
+use ec_cli_refusals::Refusal;
+use std::alloc::Global;
+use std::io::Read;
+use std::rt::Files;
+use std::{fs, io};
+
+/// The most bytes of a unit text that are read, and one, by which a longer one shows.
+const MOST_TEXT: usize = 1_048_577;
+
+/// What is told where the units come on standard input and that is closed.
+const CLOSED: &str = "The units cannot be read: standard input is closed.\n";
+
+/// What is left of the units: their path if they have one, the front of what was read, and why their reading failed.
+#[derive(Clone, Copy)]
+pub(crate) struct Left<'a> {
+    pub path: Option<&'a str>,
+    pub units: &'a [u8],
+    pub fault: Option<io::Error>,
+}
+
+/// The front of some bytes, up to a limit. Where memory runs out it keeps nothing any more.
+#[derive(Drop)]
+struct Front {
+    bytes: Vec<u8>,
+    /// How many more bytes are kept.
+    room: usize,
+}
+
+impl Front {
+    /// Keeps as much of these bytes as there is room for.
+    fn keep(&mut self, bytes: &[u8]) {
+        let count = bytes.len().min(self.room);
+        match self.bytes.extend_from_slice(&bytes[..count]) {
+            Ok(()) => self.room -= count,
+            Err(_) => {
+                self.bytes.clear();
+                self.room = 0;
+            }
+        }
+    }
+}
+
+/// A reader of units at a path, if they have one, the front of what passed through it, and why it failed at last. It reads and
+/// tells what the one inside does.
+#[derive(Drop)]
+pub(crate) struct Kept<'a, R> {
+    path: Option<&'a str>,
+    inner: R,
+    front: Front,
+    fault: Option<io::Error>,
+}
+
+impl<'a, R> Kept<'a, R> {
+    /// This reader, of which nothing was read yet.
+    pub(crate) fn new(alloc: Global, path: &'a Option<String>, inner: R) -> Kept<'a, R> {
+        Kept {
+            path: path.as_deref(),
+            inner,
+            front: Front {
+                bytes: Vec::new(alloc),
+                room: MOST_TEXT,
+            },
+            fault: None,
+        }
+    }
+
+    /// What is left of the units.
+    pub(crate) fn left(&self) -> Left<'_> {
+        Left {
+            path: self.path,
+            units: self.front.bytes.as_slice(),
+            fault: self.fault,
+        }
+    }
+}
+
+impl<'a, R: Read> Read for Kept<'a, R> {
+    ghost remaining = { λ kept. R.remaining kept.inner };
+
+    fn read(&mut self, buf: &mut [u8]) -> io::Result<usize> {
+        match self.inner.read(buf) {
+            Ok(count) => {
+                self.front.keep(&buf[..count]);
+                Ok(count)
+            }
+            Err(error) => {
+                self.fault = Some(error);
+                Err(error)
+            }
+        }
+    }
+}
+
+/// The file of the units, where they have a path; none where they come on standard input. Where they can't be opened, or
+/// standard input is closed, that is refused and told: the status.
+pub(crate) fn open_units<H: Files + AllocGlobal + Eprint + Print>(
+    rt: &H,
+    path: &Option<String>,
+    is_closed: bool,
+) -> Result<Option<H::File>, u8> {
+    let Some(path) = path else {
+        if is_closed {
+            let code = refuse_line(rt, Refusal::Read);
+            let _ = rt.eprint(CLOSED);
+            return Err(code);
+        }
+        return Ok(None);
+    };
+    match fs::open(rt, path.as_str()) {
+        Ok(file) => Ok(Some(file)),
+        Err(error) => {
+            let code = refuse_line(rt, Refusal::Read);
+            tell_path(rt, "The units cannot be read from", path.as_str(), error);
+            Err(code)
+        }
+    }
+}
