@@ -70,6 +70,13 @@ pub enum Asked {
     Merged,
 }
 
+/// How many nodes a search may go on with from a certificate of so many bytes, so that its own can be read in most cases: a node takes
+/// at most 13 bytes of it by the strong rules, and else 10, but for few searches. In thousands (own profile).
+pub fn room_beside(bytes: u64, strong: bool) -> u64 {
+    let each = if strong { 13 } else { 10 };
+    MOST_READ.saturating_sub(bytes) / each / 1000 * 1000
+}
+
 /// A search, or a merge, that ended without a proof.
 #[derive(Clone, Copy)]
 struct Search<'a> {
@@ -95,11 +102,9 @@ impl Search<'_> {
         }
     }
 
-    /// Adds how many nodes one may go on with, where as many as before may make a certificate that can't be read. In most searches
-    /// a node takes at most 13 bytes of a certificate by the strong rules, and else 10.
+    /// Adds how many nodes one may go on with, where as many as before may make a certificate that can't be read.
     fn add_room(self, out: &mut Draft, bytes: u64, nodes: u32) {
-        let each = if self.ending.strong { 13 } else { 10 };
-        let room = MOST_READ.saturating_sub(bytes) / each / 1000 * 1000;
+        let room = room_beside(bytes, self.ending.strong);
         if room >= u64::from(nodes) || self.asked == Asked::Part {
             return;
         }
@@ -213,7 +218,7 @@ impl Search<'_> {
 fn add_too_large(out: &mut Draft, filed: Filed<'_>, asked: Asked) {
     if let Filed::There(Written { path, bytes, .. }) = filed {
         out.add(format_args!(
-            "The certificate in {} has {bytes} bytes. At most {MOST_READ} are read: check and resume refuse it.\n",
+            "The certificate in {} has {bytes} bytes. At most {MOST_READ} are read: each command refuses it.\n",
             PathPiece(path)
         ));
     }

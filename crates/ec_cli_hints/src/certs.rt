@@ -26,7 +26,12 @@ pub(crate) fn add_line(out: &mut Draft, cert: &[u8], line: usize) {
     match line_at(cert, line) {
         None => {}
         Some([]) => out.add("    (an empty line, or the end of the text)\n"),
-        Some(bytes) => out.add(format_args!("    {}\n", Bytes(bytes, 120))),
+        Some(bytes) => {
+            out.add(format_args!("    {}\n", Bytes(bytes, 120)));
+            if bytes.ends_with(b" ") {
+                out.add("It ends with a space.\n");
+            }
+        }
     }
 }
 
@@ -48,6 +53,7 @@ fn add_stranger(out: &mut Draft, cert: &[u8]) {
             "It is a carriage return: each line ends with a line feed alone. Was the file changed by an editor?\n",
         ),
         b'\t' => out.add("It is a tabulator: words are separated by one space.\n"),
+        0xef if at == 0 => out.add("It may be a byte order mark, which editors put before a text: no certificate has one.\n"),
         _ => {}
     }
 }

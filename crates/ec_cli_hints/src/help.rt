@@ -51,11 +51,11 @@ fn help_whole(ending: Ending) -> &'static str {
         (Cut::Journal, Stage::Best) =>
             "What the workers noted does not agree: run it with --workers 1.\n",
         (Cut::Parts, Stage::NoPlan) =>
-            "The leaves of this part are closed, and there may be a plan: merge it with the certificates of the other parts.\n",
+            "No leaf of this part is open, and there may be a plan: merge it with the certificates of the other parts.\n",
         (Cut::Parts, Stage::Plan) =>
-            "The leaves of this part are closed. What is open is left to others: merge it with the certificates of the other parts.\n",
+            "No leaf of this part is open. What is open is left to others: merge it with the certificates of the other parts.\n",
         (Cut::Parts, Stage::Best) =>
-            "The leaves of this part are closed: merge it with the certificates of the other parts.\n",
+            "No leaf of this part is open: merge it with the certificates of the other parts.\n",
     }
 }
 

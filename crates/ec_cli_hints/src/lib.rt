@@ -28,7 +28,7 @@ mod syntax;
 mod telling;
 mod units;
 
-pub use advising::{Asked, Filed, Found, Written, counsel};
+pub use advising::{Asked, Filed, Found, Written, counsel, room_beside};
 pub use cycle::Cycle;
 pub use inputs::Inputs;
 pub use quoted::{PIECE, quoted_path};
