@@ -19,6 +19,8 @@ GONE_AFTER = (0, 0.5, 1, 1.5, 2, 2.5, 3, 4, 6, 10)
 REFUSED_BYTES = len(REFUSED_WRITE)
 CALLS = os.path.join(os.path.dirname(os.path.abspath(__file__)), "calls.c")
 UNITS = "units.toml"
+# What an edit of the units puts before them.
+EDIT = b"# edited\n"
 # Calls of which a failure leaves the whole file: under its own name, or the one beside it.
 PLACING = ("fsync", "fdatasync", "chmod", "fchmod", "chown", "fchown", "lchown", "rename")
 
@@ -290,7 +292,8 @@ def try_failing(library, output, path, trial):
             is_named = trial.get(name) == output.whole and name in done.said
             is_right = is_named or failed == "unlink"
             trial.holds(is_right, f"at call {number}, {failed}: {name} is left, and not whole and named")
-        if failed in PLACING:
+        has_written = any(name == "write" for name, _ in calls.noted()[: number - 1])
+        if failed in PLACING and has_written:
             trial.holds(done.code == 4, f"at call {number}, {failed}: status {done.code}")
             trial.holds(is_written or beside, f"at call {number}, {failed}: the whole file is gone")
 
@@ -322,6 +325,39 @@ def try_overtaken(library, output, path, trial):
         is_left = path == UNITS and done.code == 4
         trial.holds(done.code == output.code or is_left, f"at call {number}: it ended with status {done.code}")
         trial.holds(found in (output.whole, rival.whole) and not beside, f"at call {number}: left beside are {beside}")
+
+
+def try_beaten(library, output, path, trial):
+    """A search that ends without a proof, stopped at each call for files in turn, while another run puts a proof at its path: the
+    proof stays. Only where the search stops in the very call that renames its file the proof comes too late."""
+    calls = Calls(library, output.rival, path, trial)
+    for number, _ in each_call(calls, "s"):
+        child = trial.start(*output.rival.line(path), env=calls.env(number, "s"))
+        is_stopped = has_stopped(child)
+        stopped_in = calls.noted()[number - 1][0] if is_stopped else ""
+        other = trial.run(*output.line(path))
+        trial.holds(other.code == output.code, f"at call {number}: the proof ended with status {other.code}")
+        if is_stopped:
+            child.send_signal(signal.SIGCONT)
+        trial.end(child)
+        is_proof = trial.get(path) == output.whole
+        trial.holds(is_proof or stopped_in == "rename", f"at call {number}, {stopped_in}: at its path stands what says less than the proof")
+
+
+def try_saved(library, output, path, trial):
+    """The units' own file, edited while a run with `--places` stands at each call for files in turn: the edit stays. Only where the run
+    stops in the very call that renames its file the edit comes too late."""
+    calls = Calls(library, output, path, trial)
+    for number, _ in each_call(calls, "s"):
+        child = trial.start(*output.line(path), env=calls.env(number, "s"))
+        is_stopped = has_stopped(child)
+        stopped_in = calls.noted()[number - 1][0] if is_stopped else ""
+        trial.put(path, EDIT + trial.get(path))
+        if is_stopped:
+            child.send_signal(signal.SIGCONT)
+        trial.end(child)
+        is_there = trial.get(path).startswith(EDIT)
+        trial.holds(is_there or stopped_in == "rename", f"at call {number}, {stopped_in}: an edit of the units is lost")
 
 
 def try_synced(library, output, path, trial):
@@ -364,3 +400,6 @@ def calls(outputs, library):
         for tries, what in kinds:
             way = partial(tries, library, output, path) if library else skip_no_compiler
             yield f"{name}: {what}", way
+    for tries, output, path, what in ((try_beaten, outputs[0], "of-run", "a search without a proof: at each call for files a proof is put there"),
+                                      (try_saved, outputs[4], UNITS, "the places in the units' own file: it is edited at each call for files")):
+        yield what, partial(tries, library, output, path) if library else skip_no_compiler

@@ -65,6 +65,10 @@ pub enum KeepReason {
     SaysMore,
     /// It holds a proof for the same units.
     IsProof,
+    /// It holds another unit text than the one that the run began with.
+    Changed,
+    /// Other runs write to it at the same time.
+    Changing,
 }
 
 impl KeepReason {
@@ -84,6 +88,11 @@ impl KeepReason {
             KeepReason::IsProof => {
                 "It holds a proof for the same units: where check says that it is right nothing better can be found, else give another path"
             }
+            KeepReason::Changed => {
+                "It isn't the text any more that the search began with, and is left as it is. The plan was told"
+            }
+            KeepReason::Changing =>
+                "Other runs write to it at this time: give each a path of its own",
         }
     }
 }

@@ -6,10 +6,10 @@ ghost use Rattle.std.specs.Io.{WritesAtMost};
 ghost use Rattle.std.specs.Io.KnownBytes.{WriteAppends};
 
 use crate::fault::FileFault;
-use crate::guard::{Content, KeepReason, reason_to_keep};
-use crate::place::{Place, are_one};
-use crate::reading::read_front;
-use crate::settling::{replace, sync_folder};
+use crate::guard::Content;
+use crate::place::Place;
+use crate::settling::{dress, make_lasting};
+use crate::whole::Whole;
 use std::alloc::{AllocError, Global};
 use std::fmt::Write as _;
 use std::io::{ErrorKind, Write};
@@ -17,15 +17,11 @@ use std::os::unix::fs::OpenOptionsExt;
 use std::rt::Files;
 use std::{fs, io};
 
-/// The most bytes of a certificate that are read.
-const MOST_CERT: u64 = 67_108_864;
-
 /// The most names that are tried for a file beside its path.
 const MOST_NAMES: u32 = 999;
 
 /// A writer that makes its file beside a path, under a name that is free, at its first write. Until then nothing is made.
-/// What is no file, as a pipe, is written straight. `settle` lets the file take its place at the path, `give_up` takes it
-/// away.
+/// What is no file, as a pipe, is written straight. `finish` gives the file once it is whole, `give_up` takes it away.
 #[derive(Drop)]
 pub struct Late<'a, F: Files> {
     files: &'a F,
@@ -60,11 +56,6 @@ fn first_mode<F: Files>(files: &F, path: &str) -> u32 {
     } else {
         0o666
     }
-}
-
-/// Whether a file that isn't empty stands at a path.
-fn is_filled<F: Files>(files: &F, path: &str) -> bool {
-    fs::metadata(files, path).is_ok_and(|found| found.len() > 0)
 }
 
 /// Makes a file under the first free name beside a path, and leaves that name.
@@ -131,7 +122,8 @@ impl<'a, F: Files> Late<'a, F> {
         }
     }
 
-    /// Tries whether a file can be made there: makes one and takes it away again. What is no file isn't tried.
+    /// Tries whether a file can be made there, with the owner and the mode of the one that it would replace: makes one and takes it
+    /// away again. What is no file isn't tried.
     ///
     /// # Errors
     ///
@@ -140,12 +132,14 @@ impl<'a, F: Files> Late<'a, F> {
         if let Place::Straight { .. } = &self.place {
             return Ok(());
         }
-        self.make()?;
-        if self.made {
-            self.made = false;
-            fs::remove_file(self.files, self.name.as_str())?;
-        }
-        Ok(())
+        let file = self.make()?;
+        let Some(path) = self.place.beside() else {
+            return Ok(());
+        };
+        let dressed = dress(self.files, &file, self.name.as_str(), path);
+        self.made = false;
+        fs::remove_file(self.files, self.name.as_str())?;
+        dressed
     }
 
     /// Writes some bytes, to the file if it is there, else to one that is made.
@@ -165,13 +159,13 @@ impl<'a, F: Files> Late<'a, F> {
         Ok(count)
     }
 
-    /// Lets the file take its place at the path: it gets the mode and the owner of what stands there and is synced before,
-    /// and so is the folder after. Where nothing was written there is nothing to do.
+    /// The file, which is whole, once it has the mode and the owner of what stands at the path and is on the disk. None where nothing
+    /// was written, or what was written is no file: then there is nothing to do.
     ///
     /// # Errors
     ///
-    /// Why it isn't there, and where it lies.
-    pub fn settle(self) -> Result<(), FileFault> {
+    /// Why it isn't on the disk, and where it lies.
+    pub fn finish(self) -> Result<Option<Whole<'a, F>>, FileFault> {
         let Late {
             files,
             alloc,
@@ -183,48 +177,31 @@ impl<'a, F: Files> Late<'a, F> {
             ..
         } = self;
         let (Place::Beside { path }, Some(file)) = (place, file) else {
-            return Ok(());
+            return Ok(None);
         };
-        let path = path.as_str();
-        if content == Content::Certificate && bytes > MOST_CERT && is_filled(files, path) {
-            return Err(FileFault::TooLarge { at: name, bytes });
-        }
-        if let Some(why) = reason_to_keep(files, alloc, path, content) {
-            return Err(FileFault::Kept { at: name, why });
-        }
-        if let Err(why) = replace(files, file, name.as_str(), path) {
+        if let Err(why) = make_lasting(files, &file, name.as_str(), path.as_str()) {
             return Err(FileFault::Aside { at: name, why });
         }
-        sync_folder(files, path).map_err(|why| FileFault::Unsynced { why })
+        Ok(Some(Whole {
+            files,
+            alloc,
+            content,
+            path,
+            name,
+            bytes,
+        }))
     }
 
-    /// The bytes of the file that stands at the path, up to so many; none where no file stands there.
+    /// Finishes the file, and lets it take its place.
     ///
     /// # Errors
     ///
-    /// Why they can't be read.
-    pub fn standing(&self, most: u64) -> io::Result<Option<Vec<u8>>> {
-        let Some(path) = self.place.beside() else {
-            return Ok(None);
-        };
-        match read_front(self.files, self.alloc, path, most) {
-            Ok(bytes) => Ok(Some(bytes)),
-            Err(error) if error.kind() == ErrorKind::NotFound => Ok(None),
-            Err(error) => Err(error),
+    /// Why it isn't there, and where it lies.
+    pub fn settle(self) -> Result<(), FileFault> {
+        match self.finish()? {
+            Some(whole) => whole.settle(|_| None),
+            None => Ok(()),
         }
-    }
-
-    /// Whether another path leads to the file that stands at the path.
-    pub fn is_at(&self, other: &str) -> bool {
-        self.place
-            .beside()
-            .is_some_and(|path| are_one(self.files, self.alloc, path, other))
-    }
-
-    /// Leaves the whole file beside its path, where what stands there is kept for this reason.
-    pub fn leave(self, why: KeepReason) -> FileFault {
-        let Late { name, .. } = self;
-        FileFault::Kept { at: name, why }
     }
 
     /// Takes away what was written of the file, and says why it isn't whole.
@@ -262,6 +239,26 @@ impl<'a, F: Files> Write for Late<'a, F> {
     }
 }
 
+/// A file of these bytes that is whole, beside the path where it is to be; none where they went straight to what is no file, or there
+/// are none (own profile).
+///
+/// # Errors
+///
+/// Why it isn't whole, or isn't on the disk; want of memory is one reason.
+pub fn make_whole<'a, F: Files>(
+    files: &'a F,
+    alloc: Global,
+    path: &str,
+    content: Content,
+    bytes: &[u8],
+) -> Result<Option<Whole<'a, F>>, FileFault> {
+    let mut late = Late::new(files, alloc, path, content)?;
+    match late.write_all(bytes) {
+        Ok(()) => late.finish(),
+        Err(_) => Err(late.give_up()),
+    }
+}
+
 /// Writes these bytes to a path: to a file that is made beside it, and takes its place there (own profile).
 ///
 /// # Errors
@@ -274,9 +271,8 @@ pub fn write_whole<F: Files>(
     content: Content,
     bytes: &[u8],
 ) -> Result<(), FileFault> {
-    let mut late = Late::new(files, alloc, path, content)?;
-    match late.write_all(bytes) {
-        Ok(()) => late.settle(),
-        Err(_) => Err(late.give_up()),
+    match make_whole(files, alloc, path, content, bytes)? {
+        Some(whole) => whole.settle(|_| None),
+        None => Ok(()),
     }
 }

@@ -10,9 +10,11 @@ mod late;
 mod place;
 mod reading;
 mod settling;
+mod whole;
 
 pub use fault::FileFault;
 pub use guard::{Content, KeepReason, reason_to_keep};
-pub use late::{Late, write_whole};
+pub use late::{Late, make_whole, write_whole};
 pub use place::{are_one, are_same_file};
 pub use reading::read_file;
+pub use whole::Whole;

@@ -1,4 +1,4 @@
-//! How a file that is whole takes its place.
+//! How a file gets what the one has that it replaces, and how it lasts.
 
 use crate::place::folder_of;
 use std::fs::OpenFile;
@@ -8,7 +8,7 @@ use std::rt::Files;
 use std::{fs, io};
 
 /// Gives a new file the owner and the mode of the file at a path, where one stands there.
-fn dress<F: Files>(files: &F, file: &F::File, name: &str, path: &str) -> io::Result<()> {
+pub(crate) fn dress<F: Files>(files: &F, file: &F::File, name: &str, path: &str) -> io::Result<()> {
     let old = match fs::metadata(files, path) {
         Ok(old) => old,
         Err(error) if error.kind() == ErrorKind::NotFound => return Ok(()),
@@ -24,16 +24,15 @@ fn dress<F: Files>(files: &F, file: &F::File, name: &str, path: &str) -> io::Res
     Ok(())
 }
 
-/// Makes sure that the file of a name is on the disk, and lets it take its place at a path.
-pub(crate) fn replace<F: Files>(
+/// Makes sure that a new file is on the disk, with the owner and the mode of the file at a path.
+pub(crate) fn make_lasting<F: Files>(
     files: &F,
-    file: F::File,
+    file: &F::File,
     name: &str,
     path: &str,
 ) -> io::Result<()> {
-    dress(files, &file, name, path)?;
-    file.sync_all()?;
-    fs::rename(files, name, path)
+    dress(files, file, name, path)?;
+    file.sync_all()
 }
 
 /// Makes sure that what was renamed in the folder of a path is on the disk. There is nothing to do where the folder may not be

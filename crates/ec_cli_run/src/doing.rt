@@ -16,7 +16,7 @@ use crate::older::reason_to_stay;
 use crate::reporting::{Report, deliver_report};
 use ec_cli_answers::{File, Told};
 use ec_cli_command::{Job, Line};
-use ec_cli_files::{Content, FileFault, KeepReason, Late};
+use ec_cli_files::{Content, FileFault, KeepReason, Late, Whole};
 use ec_cli_inputs::{read_alone, read_both};
 use ec_cli_refusals::Refusal;
 use ec_tree::{law_levels_bound, law_trees_bound};
@@ -94,36 +94,40 @@ fn reason_to_leave<F: Files>(
     alloc: Global,
     from: Option<&String>,
     file: &File,
-    late: &Late<'_, F>,
+    whole: &Whole<'_, F>,
 ) -> Option<KeepReason> {
     let File::Cert(cert) = file else {
         return None;
     };
     match from {
-        Some(from) if late.is_at(from.as_str()) => None,
-        _ => reason_to_stay(alloc, late, cert),
+        Some(from) if whole.is_at(from.as_str()) => None,
+        _ => reason_to_stay(alloc, whole, cert),
     }
 }
 
 /// Writes a file, if there is one, of what went on with the certificate `from` if it did with one, and lets it take its
-/// place. Why it isn't there.
+/// place.
+///
+/// # Errors
+///
+/// Why it isn't there, and where it lies.
 fn settle_file<F: Files>(
     alloc: Global,
     from: Option<&String>,
     file: &File,
     mut late: Late<'_, F>,
-) -> Option<FileFault>
+) -> Result<(), FileFault>
     requires { HasText file.now }
 {
     let mut out = Io::new(&mut late);
     let written = write_file(file, &mut out);
     drop(out);
     let Ok(()) = written else {
-        return Some(late.give_up());
+        return Err(late.give_up());
     };
-    match reason_to_leave(alloc, from, file, &late) {
-        Some(why) => Some(late.leave(why)),
-        None => late.settle().err(),
+    match late.finish()? {
+        Some(whole) => whole.settle(|whole| reason_to_leave(alloc, from, file, whole)),
+        None => Ok(()),
     }
 }
 
@@ -138,7 +142,7 @@ pub(crate) fn write_late<E, F: Files>(
     requires { IfOk told.now (λ t. HasText t.file) }
 {
     match told {
-        Ok(told) => settle_file(alloc, from, &told.file, late),
+        Ok(told) => settle_file(alloc, from, &told.file, late).err(),
         Err(_) => None,
     }
 }

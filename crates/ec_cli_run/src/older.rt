@@ -9,7 +9,7 @@ ghost use Rattle.ec_cli_run.specs.Older.{HasMoreNodes, ShowsMore, SaysMore};
 use ec_cert::{Best, Cert, UnitLine, node_count};
 use ec_cert_merge::misfit;
 use ec_cert_text::{CertFault, MOST_BYTES, read_cert};
-use ec_cli_files::{KeepReason, Late};
+use ec_cli_files::{KeepReason, Whole};
 use std::alloc::Global;
 use std::io;
 use std::io::ErrorKind;
@@ -98,8 +98,8 @@ fn says_more(older: &Cert, newer: &Cert) -> bool
 
 /// The certificate that stands at the path of a file; none where no file is there, or an empty one. An error also where
 /// what stands there can't be read as a certificate.
-fn standing_cert<F: Files>(alloc: Global, late: &Late<'_, F>) -> io::Result<Option<Cert>> {
-    let Some(text) = late.standing(MOST_BYTES as u64)? else {
+fn standing_cert<F: Files>(alloc: Global, whole: &Whole<'_, F>) -> io::Result<Option<Cert>> {
+    let Some(text) = whole.standing(MOST_BYTES as u64)? else {
         return Ok(None);
     };
     match read_cert(alloc, &text) {
@@ -114,13 +114,13 @@ fn standing_cert<F: Files>(alloc: Global, late: &Late<'_, F>) -> io::Result<Opti
 /// can't be read. None where nothing of it is lost (own profile).
 pub(crate) fn reason_to_stay<F: Files>(
     alloc: Global,
-    late: &Late<'_, F>,
+    whole: &Whole<'_, F>,
     newer: &Cert,
 ) -> Option<KeepReason> {
     if newer.level.is_none() {
         return None;
     }
-    match standing_cert(alloc, late) {
+    match standing_cert(alloc, whole) {
         Ok(Some(older)) if says_more(&older, newer) => Some(match older.level {
             Some(_) => KeepReason::SaysMore,
             None => KeepReason::IsProof,

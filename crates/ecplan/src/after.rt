@@ -6,7 +6,7 @@ use crate::targets::Target;
 use crate::telling::{tell_fault, tell_path, tell_whole};
 use ec_checker::Verdict;
 use ec_cli_answers::Told;
-use ec_cli_files::{Content, FileFault, read_file, write_whole};
+use ec_cli_files::{Content, FileFault, KeepReason, make_whole, read_file};
 use ec_cli_text::placed_plan;
 use ec_cost_picture::picture;
 use ec_loads::{Plan, is_legal};
@@ -15,6 +15,7 @@ use ec_unit_rewrite::{PlacingFault, place_text};
 use ec_unit_text::read_units;
 use ec_units::Units;
 use std::alloc::{AllocError, Global};
+use std::fs;
 use std::rt::Files;
 
 /// What is told before a path to which the places are not written.
@@ -26,10 +27,6 @@ const NO_FORM: &str =
 
 /// What is told where no plan gives places to fill in.
 const NO_PLAN: &str = "No plan was found";
-
-/// What is told of a file of units that isn't written over.
-const CHANGED: &str =
-    "It isn't the text any more that the search began with, and is left as it is. The plan was told";
 
 /// Why what is written after the job isn't at its path.
 #[derive(Drop)]
@@ -133,7 +130,33 @@ fn holds_still<R: Files + AllocGlobal>(rt: &R, path: &str, units: &[u8]) -> bool
     }
 }
 
-/// Writes to a path what is to be there. The units' own file must hold their text still.
+/// Why the units' own file is kept: it doesn't hold their text any more. None of another file.
+fn reason_to_leave<R: Files + AllocGlobal>(
+    rt: &R,
+    target: Target<'_>,
+    units: &[u8],
+) -> Option<KeepReason> {
+    if target.is_own && !holds_still(rt, target.path, units) {
+        return Some(KeepReason::Changed);
+    }
+    None
+}
+
+/// Why what is written after the job isn't at its path. Places for another text than the one that stands there are taken away.
+fn after_fault<R: Files>(files: &R, fault: FileFault) -> AfterFault {
+    if let FileFault::Kept {
+        at,
+        why: KeepReason::Changed,
+    } = &fault
+    {
+        let _ = fs::remove_file(files, at.as_str());
+        return AfterFault::Unplaced(KeepReason::Changed.as_str());
+    }
+    AfterFault::File(fault)
+}
+
+/// Writes to a path what is to be there. The units' own file must hold their text still, and once more when the new one, which is whole
+/// by then, takes its place.
 fn write_to<R: Files + AllocGlobal>(
     rt: &R,
     target: Target<'_>,
@@ -142,10 +165,16 @@ fn write_to<R: Files + AllocGlobal>(
 ) -> Result<(), AfterFault> {
     let Target { path, content, .. } = target;
     let text = text_of(rt.alloc(), content, units, told)?;
-    if target.is_own && !holds_still(rt, path, units) {
-        return Err(AfterFault::Unplaced(CHANGED));
+    if let Some(why) = reason_to_leave(rt, target, units) {
+        return Err(AfterFault::Unplaced(why.as_str()));
     }
-    Ok(write_whole(rt, rt.alloc(), path, content, text.as_bytes())?)
+    match make_whole(rt, rt.alloc(), path, content, text.as_bytes())? {
+        Some(whole) => match whole.settle(|_| reason_to_leave(rt, target, units)) {
+            Ok(()) => Ok(()),
+            Err(fault) => Err(after_fault(rt, fault)),
+        },
+        None => Ok(()),
+    }
 }
 
 /// Tells why what is written after the job isn't at its path. Whether nothing is missing.

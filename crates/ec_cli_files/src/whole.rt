@@ -1,0 +1,134 @@
+//! A file that is whole, and what stands where it is to be.
+
+use crate::fault::FileFault;
+use crate::guard::{Content, KeepReason, reason_to_keep};
+use crate::place::are_one;
+use crate::reading::read_front;
+use crate::settling::sync_folder;
+use std::alloc::Global;
+use std::io::ErrorKind;
+use std::os::unix::fs::MetadataExt;
+use std::rt::Files;
+use std::{fs, io};
+
+/// The most bytes of a certificate that are read.
+const MOST_CERT: u64 = 67_108_864;
+
+/// How often what stands at a path is judged, where other runs write to it.
+const MOST_LOOKS: usize = 8;
+
+/// Which file stands at a path, how long it is, and when it was written last.
+#[derive(Clone, Copy, Debug, PartialEq, Eq)]
+struct Seen {
+    dev: u64,
+    ino: u64,
+    bytes: u64,
+    seconds: i64,
+    nanoseconds: i64,
+}
+
+/// A file that is whole and on the disk, under a name beside the path where it is to be. What may take long is done: so what stands
+/// at the path can be judged just before the file takes its place.
+#[derive(Drop)]
+pub struct Whole<'a, F: Files> {
+    pub(crate) files: &'a F,
+    pub(crate) alloc: Global,
+    pub(crate) content: Content,
+    pub(crate) path: String,
+    pub(crate) name: String,
+    pub(crate) bytes: u64,
+}
+
+/// Whether a file that isn't empty stands at a path.
+fn is_filled<F: Files>(files: &F, path: &str) -> bool {
+    fs::metadata(files, path).is_ok_and(|found| found.len() > 0)
+}
+
+impl<'a, F: Files> Whole<'a, F> {
+    /// Which file stands at the path; none where none does.
+    fn seen(&self) -> Option<Seen> {
+        let found = fs::metadata(self.files, self.path.as_str()).ok()?;
+        Some(Seen {
+            dev: found.dev(),
+            ino: found.ino(),
+            bytes: found.len(),
+            seconds: found.mtime(),
+            nanoseconds: found.mtime_nsec(),
+        })
+    }
+
+    /// The bytes of the file that stands at the path, up to so many; none where no file stands there.
+    ///
+    /// # Errors
+    ///
+    /// Why they can't be read.
+    pub fn standing(&self, most: u64) -> io::Result<Option<Vec<u8>>> {
+        match read_front(self.files, self.alloc, self.path.as_str(), most) {
+            Ok(bytes) => Ok(Some(bytes)),
+            Err(error) if error.kind() == ErrorKind::NotFound => Ok(None),
+            Err(error) => Err(error),
+        }
+    }
+
+    /// Whether another path leads to the file that stands at the path.
+    pub fn is_at(&self, other: &str) -> bool {
+        are_one(self.files, self.alloc, self.path.as_str(), other)
+    }
+
+    /// Lets the file take its place, unless what stands there is kept: for a reason of its own, or for one that `judge` has. Where
+    /// another file came there while it was judged, that one is judged, too. The folder is synced after that.
+    ///
+    /// # Errors
+    ///
+    /// Why it isn't there, and where it lies.
+    pub fn settle<J: Fn(&Whole<'a, F>) -> Option<KeepReason>>(
+        self,
+        judge: J,
+    ) -> Result<(), FileFault>
+        requires judge { (f : _) (x : _) → J.pre f x }
+    {
+        for _ in 0..MOST_LOOKS {
+            let seen = self.seen();
+            if let Some(why) = self.own_reason() {
+                return Err(self.leave(why));
+            }
+            if let Some(why) = judge(&self) {
+                return Err(self.leave(why));
+            }
+            if self.seen() == seen {
+                return self.take_place();
+            }
+        }
+        Err(self.leave(KeepReason::Changing))
+    }
+
+    /// Why what stands at the path is kept, whatever the new file says.
+    fn own_reason(&self) -> Option<KeepReason> {
+        reason_to_keep(self.files, self.alloc, self.path.as_str(), self.content)
+    }
+
+    /// Lets the file take its place, and syncs the folder. One that no command reads doesn't take the place of another.
+    fn take_place(self) -> Result<(), FileFault> {
+        let Whole {
+            files,
+            content,
+            path,
+            name,
+            bytes,
+            ..
+        } = self;
+        let path = path.as_str();
+        if content == Content::Certificate && bytes > MOST_CERT && is_filled(files, path) {
+            return Err(FileFault::TooLarge { at: name, bytes });
+        }
+        if let Err(why) = fs::rename(files, name.as_str(), path) {
+            return Err(FileFault::Aside { at: name, why });
+        }
+        sync_folder(files, path).map_err(|why| FileFault::Unsynced { why })
+    }
+
+    /// Leaves the file beside its path, where what stands there is kept for this reason.
+    fn leave(self, why: KeepReason) -> FileFault {
+        FileFault::Kept { at: self.name, why }
+    }
+}
