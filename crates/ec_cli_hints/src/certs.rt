@@ -53,7 +53,9 @@ fn add_stranger(out: &mut Draft, cert: &[u8]) {
             "It is a carriage return: each line ends with a line feed alone. Was the file changed by an editor?\n",
         ),
         b'\t' => out.add("It is a tabulator: words are separated by one space.\n"),
-        0xef if at == 0 => out.add("It may be a byte order mark, which editors put before a text: no certificate has one.\n"),
+        0xef if at == 0 => out.add(
+            "It may be a byte order mark, which editors put before a text: no certificate has one.\n",
+        ),
         _ => {}
     }
 }

@@ -23,6 +23,9 @@ const OUT_OF_RANGE: &str = "error: a number is out of range\n";
 /// What is told of a word that says no part.
 const NO_PART: &str = "error: --part is I/N with 1 <= I <= N <= 10000, as 3/8\n";
 
+/// How a certificate is given.
+const CERT_TIP: &str = "\n  tip: the path of each certificate has --cert before it\n";
+
 /// Why words are no command line.
 #[derive(Debug, Drop)]
 pub enum LineFault {
@@ -72,9 +75,18 @@ pub(crate) fn refused(alloc: Global, text: &str) -> LineFault {
     refusal(String::from_str(alloc, text))
 }
 
-/// What is told of an option that isn't one of the command's, without how to give it as a path: it is meant as none. Between two
-/// paragraphs one line stays empty.
-fn without_tip(alloc: Global, text: &str) -> Result<String, AllocError> {
+/// Whether a line says that a path is one too many.
+fn is_of_path(line: &str) -> bool {
+    match line.strip_prefix("error: unexpected argument '") {
+        Some(rest) => !rest.starts_with('-'),
+        None => false,
+    }
+}
+
+/// What is told of a word that is unexpected: of an option without how to give it as a path, since it is meant as none; of a path,
+/// where the command needs a certificate, how that is given. Between two paragraphs one line stays empty.
+fn with_other_tips(alloc: Global, text: &str) -> Result<String, AllocError> {
+    let needs_cert = text.contains(" --cert <PATH>");
     let mut out = String::new(alloc);
     let mut was_empty = false;
     for line in text.lines() {
@@ -84,6 +96,9 @@ fn without_tip(alloc: Global, text: &str) -> Result<String, AllocError> {
             out.push('\n')?;
             was_empty = line.is_empty();
         }
+        if needs_cert && is_of_path(line) {
+            out.push_str(CERT_TIP)?;
+        }
     }
     Ok(out)
 }
@@ -92,7 +107,7 @@ fn without_tip(alloc: Global, text: &str) -> Result<String, AllocError> {
 fn text_of(alloc: Global, error: Error) -> Result<String, AllocError> {
     let text = error.to_string(alloc)?;
     if error.kind() == ErrorKind::UnknownArgument {
-        without_tip(alloc, text.as_str())
+        with_other_tips(alloc, text.as_str())
     } else {
         Ok(text)
     }

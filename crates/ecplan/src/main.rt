@@ -12,6 +12,7 @@ mod merging;
 mod output;
 mod progress;
 mod refusal;
+mod room;
 mod targets;
 mod telling;
 mod trial;

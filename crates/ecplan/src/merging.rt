@@ -42,7 +42,8 @@ fn quoted(alloc: Global, merging: &Merging, number: usize) -> Result<String, All
 /// Why two certificates don't fit together.
 fn words_of(misfit: Misfit) -> &'static str {
     match misfit {
-        Misfit::Order => "They place the units in another order.\n",
+        Misfit::Order =>
+            "They place the units in another order, as plan does with and without --strong.\n",
         Misfit::Rules =>
             "Their trees are made by other rules: certificates of version 1, of versions 2 and 3, and of version 4 (plan --strong) have rules of their own.\n",
     }

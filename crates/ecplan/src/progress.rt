@@ -14,9 +14,8 @@ const EVERY: u64 = 4096;
 /// The most workers of a search.
 const MOST_WORKERS: usize = 16;
 
-/// What covers a line on a terminal.
-pub(crate) const BLANKS: &str =
-    "\r                                                                              \r";
+/// What covers a line on a terminal: the longest one has 54 characters.
+pub(crate) const BLANKS: &str = "\r                                                      \r";
 
 /// What the search of a line may take, if it searches.
 pub(crate) fn effort_of(line: &Line) -> Option<Effort> {

@@ -261,7 +261,7 @@ const REFUSED: &str = " : requires a subcommand|\
     resume --cert p --nodes 10000001 : invalid value '10000001' for '--nodes <N>'|\
     resume --cert p --pcap q : unexpected argument '--pcap'|\
     resume --cert p --svg q : unexpected argument '--svg'|\
-    resume --cert p q r : unexpected argument 'r'|\
+    resume --cert p q r : tip: the path of each certificate has --cert before it|\
     resume --cert p --part : a value is required for '--part <I/N>'|\
     resume --cert p --part 1/2 --part 1/2 : '--part <I/N>' cannot be used multiple times|\
     resume --cert p --part 0/3 : <error: --part is I/N with 1 <= I <= N <= 10000, as 3/8\n>|\

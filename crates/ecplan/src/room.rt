@@ -1,0 +1,59 @@
+//! What is told before a search goes on with a certificate that is large.
+
+use crate::telling::tell;
+use ec_cli_command::Line;
+use ec_cli_explain::{quoted_path, room_beside};
+use ec_cli_files::read_file;
+use std::alloc::{AllocError, Global};
+use std::fs;
+use std::rt::Files;
+
+/// How the certificate of a search by the strong rules begins.
+const STRONG: &[u8] = b"ecplan 4";
+
+/// A certificate with which a search goes on, its bytes, and how many nodes leave room for one that can be read.
+#[derive(Clone, Copy)]
+struct Room<'a> {
+    path: &'a str,
+    bytes: u64,
+    nodes: u64,
+}
+
+/// The room beside the certificate at a path, unless it isn't a file.
+fn room_at<'a, H: Files + AllocGlobal>(rt: &H, path: &'a str) -> Option<Room<'a>> {
+    let bytes = fs::metadata(rt, path).ok()?.len();
+    let front = read_file(rt, rt.alloc(), path, STRONG.len() as u64).ok()??;
+    let nodes = room_beside(bytes, front.as_slice() == STRONG);
+    Some(Room { path, bytes, nodes })
+}
+
+/// That so many nodes may make a certificate that can't be read, and how many do not.
+fn room_text(alloc: Global, room: Room<'_>) -> Result<String, AllocError> {
+    let (path, bytes, nodes) = (quoted_path(alloc, room.path)?, room.bytes, room.nodes);
+    let front = format!(in alloc;
+        "The certificate {path} has {bytes} bytes, and at most 67108864 are read.\n"
+    )?;
+    if nodes == 0 {
+        return format!(in alloc; "{front}One that goes on with it may have more.\n");
+    }
+    format!(in alloc;
+        "{front}One that goes on with it for more than {nodes} nodes may have more: give --nodes {nodes} or less.\n"
+    )
+}
+
+/// Tells, before a search goes on with a certificate and writes its own, that this may have more bytes than are read.
+pub(crate) fn tell_room<H: Files + AllocGlobal + Eprint>(rt: &H, line: &Line) {
+    let Line::Resume {
+        cert,
+        effort,
+        out: Some(_),
+        ..
+    } = line
+    else {
+        return;
+    };
+    match room_at(rt, cert.as_str()) {
+        Some(room) if room.nodes < u64::from(effort.nodes) => tell(rt, room_text(rt.alloc(), room)),
+        _ => {}
+    }
+}
