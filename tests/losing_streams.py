@@ -340,8 +340,8 @@ def try_beaten(library, output, path, trial):
         if is_stopped:
             child.send_signal(signal.SIGCONT)
         trial.end(child)
-        is_proof = trial.get(path) == output.whole
-        trial.holds(is_proof or stopped_in == "rename", f"at call {number}, {stopped_in}: at its path stands what says less than the proof")
+        is_right = trial.get(path) == output.whole or stopped_in == "rename"
+        trial.holds(is_right, f"at call {number}, {stopped_in}: at its path stands what says less than the proof")
 
 
 def try_saved(library, output, path, trial):
@@ -400,6 +400,7 @@ def calls(outputs, library):
         for tries, what in kinds:
             way = partial(tries, library, output, path) if library else skip_no_compiler
             yield f"{name}: {what}", way
-    for tries, output, path, what in ((try_beaten, outputs[0], "of-run", "a search without a proof: at each call for files a proof is put there"),
-                                      (try_saved, outputs[4], UNITS, "the places in the units' own file: it is edited at each call for files")):
+    overtaken = ((try_beaten, outputs[0], "of-run", "a search without a proof: at each call for files a proof is put there"),
+                 (try_saved, outputs[4], UNITS, "the places in the units' own file: it is edited at each call for files"))
+    for tries, output, path, what in overtaken:
         yield what, partial(tries, library, output, path) if library else skip_no_compiler

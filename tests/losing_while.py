@@ -9,7 +9,7 @@ import signal
 from functools import partial
 
 from losing import NOTES, UNWRITABLE, put_all_paths
-from trials import NOBODY, Done, stop_once_begun
+from trials import NOBODY, Done, Skipped, stop_once_begun
 
 NOTE = b"# a note of mine\n"
 # How often two runs are started at one time.
@@ -251,6 +251,25 @@ def try_told(output, path, reason, is_older, trial):
     trial.left(before)
 
 
+def try_owned(output, trial):
+    """A file of another user, which this one may write, is told before the search: the new one could not get its owner. It stays, and
+    the new one lies beside it."""
+    if os.getuid() != 0:
+        raise Skipped("only root can put a file of another user")
+    output.put(trial)
+    trial.put("of-run", output.older, 0o666)
+    os.chown(trial.folder, NOBODY, NOBODY)
+    trial.run_as_nobody("--version")
+    before = trial.seen()
+    with search_begun(trial, output, *output.line("of-run"), user=NOBODY) as child:
+        first = said_so_far(child)
+        done = go_on(trial, child)
+    trial.holds("of-run" in first and "Operation not permitted" in first, f"before the search standard error has {first[:200]!r}")
+    trial.tells(done, "of-run.part")
+    trial.left(before, free=["of-run.part"])
+    trial.holds(trial.get("of-run.part") == output.whole, "the whole file isn't at of-run.part")
+
+
 def told_before(searches):
     """Paths that can't be written, of a search."""
     for output in searches:
@@ -258,6 +277,7 @@ def told_before(searches):
             if path:
                 yield (f"{output.name} at a path {where}, told before the search",
                        partial(try_told, output, path, reason, where.endswith("older one")))
+        yield f"{output.name} over a file of another user, told before the search", partial(try_owned, output)
 
 
 def try_two(output, rival, trial):
