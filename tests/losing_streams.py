@@ -85,7 +85,7 @@ def try_full(writing, trial):
 
 def try_closed(writing, trial):
     before, done = run_into(trial, writing, subprocess.DEVNULL, before=("sh", "-c", 'exec "$@" >&-', "sh"))
-    ends_unread(trial, writing, before, done, "Bad file descriptor (os error 9)")
+    ends_unread(trial, writing, before, done, "it is closed, or opened for reading alone")
 
 
 def gone_in_between(trial, writing, wait):

@@ -27,12 +27,12 @@ fn are_ascii(inputs: &Inputs<'_>) -> bool
     inputs.units.is_ascii() && is_ascii(inputs.cert_path) && is_ascii(inputs.out_path)
 }
 
-/// Whether the path of a certificate, if one is told, is ASCII.
+/// Whether the paths of a certificate and of its units, if they are told, are ASCII.
 fn has_ascii_path(filed: Filed<'_>) -> bool
     ensures { IsTrue result ↔ HasAsciiPath filed.entry }
 {
     match filed {
-        Filed::There(cert) => cert.path.is_ascii(),
+        Filed::There(cert) => cert.path.is_ascii() && is_ascii(cert.units),
         Filed::Unasked | Filed::Missing | Filed::TooLarge => true,
     }
 }
@@ -70,7 +70,7 @@ pub fn explain(alloc: Global, refusal: &Refusal, inputs: &Inputs<'_>) -> Result<
 /// Of any: whether the plan fits into its ticks, what would make room where there is none, and that its certificate, if one was
 /// written, has more than the 67,108,864 bytes that are read again. Less where the cycle of the line isn't known.
 ///
-/// Whatever the path holds, the text has no control character but line feeds, and where the path is ASCII nothing but that, as
+/// Whatever the paths hold, the text has no control character but line feeds, and where they are ASCII nothing but that, as
 /// `explain` says it. Only want of memory is an error (own profile).
 pub fn advice(
     alloc: Global,

@@ -12,6 +12,12 @@ use std::{fs, io};
 /// The most bytes of a unit text, and one.
 const MOST_TEXT: u64 = 1_048_577;
 
+/// How a capture file begins: stamps in ns, version 2.4, frames of at most 65,535 bytes, Ethernet.
+const CAPTURE: &[u8] = b"\x4D\x3C\xB2\xA1\x02\0\x04\0\0\0\0\0\0\0\0\0\xFF\xFF\0\0\x01\0\0\0";
+
+/// How its first frame begins, behind the head of its record: to all, from the master, EtherCAT.
+const FRAME: &[u8] = b"\xFF\xFF\xFF\xFF\xFF\xFF\x02\0\0\0\0\x01\x88\xA4";
+
 /// What a path is written with.
 #[derive(Clone, Copy, Debug, PartialEq, Eq)]
 pub enum Content {
@@ -42,8 +48,8 @@ impl Content {
     fn front(self) -> &'static [u8] {
         match self {
             Content::Certificate => b"ecplan ",
-            Content::Capture => &[0x4D, 0x3C, 0xB2, 0xA1],
-            Content::Picture => b"<svg ",
+            Content::Capture => CAPTURE,
+            Content::Picture => b"<svg xmlns=\"http://www.w3.org/2000/svg\" role=\"img\" ",
             Content::Units => b"",
             Content::Header => b"/* A plan of ecplan",
             Content::Map => b"unit,station,direction,",
@@ -97,11 +103,32 @@ impl KeepReason {
     }
 }
 
+/// Whether the front of a file has a version alone in its first line, behind `ecplan `.
+fn has_version(front: &[u8]) -> bool {
+    let Some(rest) = front.strip_prefix(Content::Certificate.front()) else {
+        return false;
+    };
+    let line = rest.split(|byte| *byte == b'\n').next().unwrap_or(rest);
+    let version = line.trim_ascii_end();
+    !version.is_empty() && version.iter().all(u8::is_ascii_digit)
+}
+
+/// Whether the front of a file is that of a capture file, whose first frame, if it has one, a master sends.
+fn is_capture(front: &[u8]) -> bool {
+    let frame = front.get(40..54).unwrap_or(FRAME);
+    front.starts_with(CAPTURE) && frame == FRAME
+}
+
 /// Whether the file at a path begins as the content does.
 fn begins<F: Files>(files: &F, path: &str, content: Content) -> io::Result<bool> {
     let mut front = [0u8; 64];
     let count = fs::open(files, path)?.read(&mut front)?;
-    Ok(front[..count].starts_with(content.front()))
+    let front = &front[..count];
+    Ok(match content {
+        Content::Certificate => has_version(front),
+        Content::Capture => is_capture(front),
+        _ => front.starts_with(content.front()),
+    })
 }
 
 /// Whether the file at a path is a unit text.

@@ -16,6 +16,8 @@ const MOST_READ: u64 = 67_108_864;
 pub struct Written<'a> {
     /// Where it was written.
     pub path: &'a str,
+    /// The path of its units; none where they came on standard input.
+    pub units: Option<&'a str>,
     /// How many bytes it has.
     pub bytes: u64,
     /// How many nodes a search that goes on with it is asked for, if it is for as many as before.
@@ -46,13 +48,15 @@ impl Filed<'_> {
     }
 }
 
-/// What was found.
+/// What was found, or given.
 #[derive(Clone, Copy)]
 pub enum Found {
     /// A plan that is proved to be the best, whose busiest tick costs so many wire bytes.
     Least(u64),
     /// That no plan is legal.
     NoPlan,
+    /// A plan that was given, whose busiest tick costs so many wire bytes.
+    Given(u64),
     /// No proof.
     Unproved(Ending),
 }
@@ -119,9 +123,10 @@ impl Search<'_> {
     }
 
     /// Adds how one goes on from a certificate that was written.
-    fn add_onward(self, out: &mut Draft, path: &str) {
-        let resume = Command("resume --cert ", path, "");
-        let merge = Command("merge --cert ", path, " --cert PATH ..");
+    fn add_onward(self, out: &mut Draft, written: Written<'_>) {
+        let (cert, units) = (written.path, written.units);
+        let resume = Command::Resume { cert, units };
+        let merge = Command::Merge { cert, units };
         match self.asked {
             Asked::Whole | Asked::Most => out.add(format_args!(
                 "The command {resume} goes on with this search, and counts new nodes alone.\n"
@@ -130,7 +135,7 @@ impl Search<'_> {
                 "The command {merge} merges it with the others, and tells what they show together.\n"
             )),
             Asked::Merged => out.add(format_args!(
-                "The command {resume} goes on with these leaves, and with --part I/N on many machines.\n"
+                "The command {resume} goes on with these leaves; on many machines each has --part I/N and an --out of its own.\n"
             )),
         }
     }
@@ -163,7 +168,7 @@ impl Search<'_> {
         out.add(other_rules(ending, asked));
         match filed {
             Filed::There(cert) if !is_too_large => {
-                self.add_onward(out, cert.path);
+                self.add_onward(out, cert);
                 self.add_room(out, cert.bytes, cert.nodes);
             }
             Filed::Unasked => self.add_unasked(out),
@@ -254,7 +259,10 @@ pub fn counsel(
             cycle.add_beyond(&mut out, busiest);
         }
         (Found::NoPlan, Some(cycle)) => cycle.add_none(&mut out),
-        (Found::Least(_) | Found::NoPlan, _) => {}
+        (Found::Given(busiest), Some(cycle)) if cycle.is_beyond(busiest) => {
+            cycle.add_use(&mut out, busiest);
+        }
+        (Found::Least(_) | Found::NoPlan | Found::Given(_), _) => {}
     }
     if filed.is_too_large() {
         add_too_large(&mut out, filed, asked);

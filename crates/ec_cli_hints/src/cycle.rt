@@ -2,11 +2,26 @@
 
 use ec_bounds::{MeanTick, mean_tick};
 use ec_text_builder::Draft;
-use ec_units::Units;
-use ec_wire::{BYTE_NS, fits};
+use ec_units::{Unit, Units, bytes_of};
+use ec_wire::{BYTE_NS, fits, frame_wire};
 
 /// The most slots of a line.
 const MOST_SLOTS: u8 = 8;
+
+/// The bytes of a datagram beside those of its units.
+const DATAGRAM: u32 = 14;
+
+/// The wire bytes of the least frame.
+const LEAST_FRAME: u64 = 84;
+
+/// The wire bytes of a frame with nothing but the largest of some units.
+fn largest_of(units: &[Unit]) -> u64 {
+    let mut largest = 0u32;
+    for unit in units {
+        largest = largest.max(frame_wire(DATAGRAM + u32::from(bytes_of(unit))));
+    }
+    u64::from(largest)
+}
 
 /// What is told of a legal plan.
 pub(crate) const USE: &str = "The plan is legal and can be used as it stands.\n";
@@ -16,6 +31,8 @@ pub(crate) const USE: &str = "The plan is legal and can be used as it stands.\n"
 pub struct Cycle {
     pub tick_ns: u32,
     pub slots: u8,
+    /// The wire bytes of a frame with its largest unit alone.
+    pub largest: u64,
     pub mean: MeanTick,
 }
 
@@ -25,6 +42,7 @@ impl Cycle {
         Cycle {
             tick_ns: units.tick_ns,
             slots: units.slots,
+            largest: largest_of(units.units.as_slice()),
             mean: mean_tick(units),
         }
     }
@@ -49,8 +67,20 @@ impl Cycle {
     pub(crate) fn add_beyond(self, out: &mut Draft, least: u64) {
         let (ns, tick) = (least.saturating_mul(BYTE_NS), self.tick_ns);
         out.add(format_args!(
-            "Some tick of each plan takes at least {ns} ns on the wire, and tick_ns = {tick}: no plan of this line fits.\nA longer tick, longer periods or fewer bytes would help.\n"
+            "Some tick of each plan takes at least {ns} ns on the wire, and tick_ns = {tick}: no plan of this line fits.\n"
         ));
+        let (shortest, largest) = (LEAST_FRAME * BYTE_NS, self.largest.saturating_mul(BYTE_NS));
+        if self.is_beyond(LEAST_FRAME) {
+            out.add(format_args!(
+                "Each frame takes {shortest} ns or more: only a longer tick would help. tick_ns is in ns, so 1 ms is 1000000.\n"
+            ));
+        } else if self.is_beyond(self.largest) {
+            out.add(format_args!(
+                "A frame with its largest unit alone takes {largest} ns: a longer tick, fewer bytes in that unit, or two units in its place would help.\n"
+            ));
+        } else {
+            out.add("A longer tick, longer periods or fewer bytes would help.\n");
+        }
     }
 
     /// Adds what some tick of each plan carries at least.

@@ -6,6 +6,7 @@ use crate::nearest::nearest;
 use crate::quoted::{Quoted, Shown};
 use ec_text_builder::Draft;
 use ec_unit_text::{Key, Spot};
+use std::alloc::AllocError;
 use toml::Value;
 
 /// A kind of table: its keys, how they are told, and what is told of one of them that stands in another table.
@@ -113,6 +114,25 @@ pub(crate) fn add_unknown(out: &mut Draft, doc: Doc<'_>, word: &str, spot: Spot)
     }
 }
 
+/// The first key at a spot that isn't known there, and was meant for this one.
+pub(crate) fn meant_for<'a>(
+    doc: Doc<'a>,
+    spot: Spot,
+    key: Key,
+) -> Result<Option<&'a str>, AllocError> {
+    let kind = Kind::at(spot);
+    let Some(table) = doc.table(spot).0 else {
+        return Ok(None);
+    };
+    for word in table.keys() {
+        let word = word.as_str();
+        if !kind.has(word) && nearest(doc.alloc, word, kind.keys)? == Some(key) {
+            return Ok(Some(word));
+        }
+    }
+    Ok(None)
+}
+
 /// Tells a key that isn't known.
 pub(crate) fn tell_unknown(out: &mut Draft, doc: Doc<'_>, spot: Spot) {
     let kind = Kind::at(spot);
@@ -131,12 +151,28 @@ fn type_of(key: Key, value: &Value) -> &'static str {
         (Key::Slave, true) => "Write [[unit.slave]] in double brackets, once for each.\n",
         (Key::Slave, false) => "It has to be tables, each begun by a line [[unit.slave]].\n",
         (Key::Name, _) => "A name is a text in quotes, as name = \"press-4\".\n",
-        _ => "A whole number is needed, without quotes and without a point.\n",
+        _ => "A whole number is needed, without quotes, a point or an exponent.\n",
     }
+}
+
+/// Tells that no unit is begun, but by its slaves, where another key was meant for `unit`; says whether one was.
+fn tell_unbegun(out: &mut Draft, doc: Doc<'_>, spot: Spot) -> bool {
+    match meant_for(doc, spot, Key::Unit) {
+        Err(_) => out.give_up(),
+        Ok(None) => return false,
+        Ok(Some(word)) => out.add(format_args!(
+            "No unit is begun: at the top of the file stands {} in place of unit.\nEach unit begins with a line [[unit]].\n",
+            Quoted(word)
+        )),
+    }
+    true
 }
 
 /// Tells a value of another type.
 pub(crate) fn tell_type(out: &mut Draft, doc: Doc<'_>, spot: Spot, key: Key) {
+    if key == Key::Unit && tell_unbegun(out, doc, spot) {
+        return;
+    }
     out.add(In(doc, spot));
     match doc.table(spot).value(key) {
         Some(value) => out.add(format_args!("{key} is {}.\n{}", Shown(value), type_of(key, value))),

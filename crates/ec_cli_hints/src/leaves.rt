@@ -5,7 +5,7 @@ use crate::inputs::Doc;
 use crate::periods::ticks_of;
 use ec_text_builder::Draft;
 
-/// The ticks of the hyperperiod of the units, if there are units and it has at most 19 digits.
+/// The ticks of the hyperperiod of the units, if there are units and 64 bits hold it.
 fn hyperperiod(doc: Doc<'_>) -> Option<u64> {
     match doc.units() {
         [] => None,

@@ -2,13 +2,11 @@
 
 use crate::headers::header_line;
 use crate::inputs::Doc;
-use crate::keys::{Kind, add_unknown, meaning, unknown_in};
+use crate::keys::{Kind, add_unknown, meaning, meant_for, unknown_in};
 use crate::label::{In, Named};
-use crate::nearest::nearest;
 use crate::quoted::Quoted;
 use ec_text_builder::Draft;
 use ec_unit_text::{Key, Spot};
-use std::alloc::AllocError;
 
 /// Which table a key belongs to.
 #[derive(Clone, Copy)]
@@ -84,21 +82,6 @@ fn add_other(out: &mut Draft, doc: Doc<'_>, spot: Spot, owner: Owner, other: Spo
         None => out.add("It stands at the top of the file"),
     }
     out.add(format_args!(": write it {}.\n", right_place(doc, spot, owner, other)));
-}
-
-/// The first key at a spot that isn't known there, and was meant for a missing one.
-fn meant_for<'a>(doc: Doc<'a>, spot: Spot, key: Key) -> Result<Option<&'a str>, AllocError> {
-    let kind = Kind::at(spot);
-    let Some(table) = doc.table(spot).0 else {
-        return Ok(None);
-    };
-    for word in table.keys() {
-        let word = word.as_str();
-        if !kind.has(word) && nearest(doc.alloc, word, kind.keys)? == Some(key) {
-            return Ok(Some(word));
-        }
-    }
-    Ok(None)
 }
 
 /// Adds a key that isn't known where one is missing: one that was meant for it, else the first.

@@ -16,6 +16,8 @@ fn key_for(word: &str) -> Option<Key> {
         "address" | "addr" | "id" | "node" => Some(Key::Station),
         "output" | "outputs" | "out" | "output_bytes" => Some(Key::OutBytes),
         "input" | "inputs" | "in" | "input_bytes" => Some(Key::InBytes),
+        "out_addr" | "out_address" | "out_start" => Some(Key::Area(false)),
+        "in_addr" | "in_address" | "in_start" => Some(Key::Area(true)),
         "tick" | "ticks" | "cycle_ns" | "period_ns" => Some(Key::TickNs),
         "label" | "title" => Some(Key::Name),
         "units" => Some(Key::Unit),
@@ -43,12 +45,23 @@ fn by_letters(alloc: Global, word: &str, keys: &[Key]) -> Result<Option<Key>, Al
     Ok(best)
 }
 
-/// The key of these that a word was meant for, if one is near.
+/// The key of these that a word has in front, before the unit of its value or what else, as `period_ms` has.
+fn by_front(word: &str, keys: &[Key]) -> Option<Key> {
+    let has_front = |key: &&Key| match word.strip_prefix(key.as_str()) {
+        Some(rest) => rest.starts_with('_'),
+        None => false,
+    };
+    keys.iter().find(has_front).copied()
+}
+
+/// The key of these that a word was meant for, if one is near, whatever letters are capital.
 pub(crate) fn nearest(alloc: Global, word: &str, keys: &[Key]) -> Result<Option<Key>, AllocError> {
     if word.len() > LONGEST {
         return Ok(None);
     }
-    match key_for(word) {
+    let small = word.to_ascii_lowercase(alloc)?;
+    let word = small.as_str();
+    match key_for(word).or_else(|| by_front(word, keys)) {
         Some(key) if keys.contains(&key) => Ok(Some(key)),
         _ => by_letters(alloc, word, keys),
     }

@@ -21,7 +21,7 @@ fn times(ticks: u64, period: u64) -> u64 {
     1
 }
 
-/// The least common multiple of the periods, if it has at most 19 digits.
+/// The least common multiple of the periods, if 64 bits hold it.
 pub(crate) fn ticks_of(units: &[Value]) -> Option<u64> {
     let mut ticks = 1u64;
     for period in 1..61u64 {

@@ -52,7 +52,7 @@ pub(crate) fn tell_half(out: &mut Draft, doc: Doc<'_>, spot: Spot) {
 /// Tells a unit without a place.
 pub(crate) fn tell_no_place(out: &mut Draft, doc: Doc<'_>, unit: usize) {
     out.add(format_args!(
-        "A unit has no place, that is no phase and no slot: {}.\nCosts and frames are those of places: write them for every unit, or let plan find them.\n",
+        "A unit has no place, that is no phase and no slot: {}.\nCosts and frames are those of places: write them for every unit, or let plan --places PATH write the text with those that it finds.\n",
         Named(doc, unit, None)
     ));
 }

@@ -41,7 +41,7 @@ fn is_shown(letter: char) -> bool {
 
 /// A character as it stands, or each of its bytes as `\xNN`.
 #[derive(Clone, Copy)]
-struct Letter(char);
+pub(crate) struct Letter(pub char);
 
 impl fmt::Display for Letter {
     fn fmt<W: fmt::Write>(&self, f: &mut fmt::Formatter<W>) -> fmt::Result {
@@ -140,14 +140,42 @@ impl fmt::Display for Word<'_> {
     }
 }
 
-/// A command as a piece: the words before a path, the path, and the words behind it.
+/// A command on a certificate, as a piece that a shell takes as it stands.
 #[derive(Clone, Copy)]
-pub(crate) struct Command<'a>(pub &'static str, pub &'a str, pub &'static str);
+pub(crate) enum Command<'a> {
+    /// The search goes on with the certificate, and writes its own to the same path.
+    Resume {
+        cert: &'a str,
+        units: Option<&'a str>,
+    },
+    /// The certificate is merged with others, whose paths are to be filled in.
+    Merge {
+        cert: &'a str,
+        units: Option<&'a str>,
+    },
+}
 
 impl fmt::Display for Command<'_> {
     fn fmt<W: fmt::Write>(&self, f: &mut fmt::Formatter<W>) -> fmt::Result {
-        let Command(front, path, behind) = *self;
-        write!(f, "{PIECE}{front}{}{behind}{PIECE}", Word(path))
+        let units = match *self {
+            Command::Resume { cert, units } => {
+                let cert = Word(cert);
+                write!(f, "{PIECE}ecplan resume --cert {cert} --out {cert}")?;
+                units
+            }
+            Command::Merge { cert, units } => {
+                write!(
+                    f,
+                    "{PIECE}ecplan merge --cert {} --cert PATH ..",
+                    Word(cert)
+                )?;
+                units
+            }
+        };
+        if let Some(units) = units {
+            write!(f, " {}", Word(units))?;
+        }
+        f.write_char(PIECE)
     }
 }
 
@@ -161,7 +189,7 @@ impl fmt::Display for Shown<'_> {
             Value::Integer(number) => write!(f, "{number}"),
             Value::String(text) => write!(f, "{}", Quoted(text.as_str())),
             Value::Boolean(is_set) => write!(f, "{is_set}"),
-            Value::Float(_) => f.write_str("a number with a fraction"),
+            Value::Float(_) => f.write_str("a number with a point or an exponent"),
             Value::Datetime(_) => f.write_str("a date or a time"),
             Value::Array(_) => f.write_str("an array"),
             Value::Table(_) => f.write_str("a table"),

@@ -20,7 +20,10 @@ pub(crate) const SLAVE_BYTES: Rule = Rule(
 
 pub(crate) const SLOTS: Rule = Rule(&[Key::Slots], "there are 1 to 8 slots");
 
-pub(crate) const TICK: Rule = Rule(&[Key::TickNs], "a tick is 80 to 1000000000 ns");
+pub(crate) const TICK: Rule = Rule(
+    &[Key::TickNs],
+    "a tick is 80 to 1000000000 ns, and 1 ms is 1000000",
+);
 
 /// Tells values out of their range: `In unit "a" (line 3): period = 90, but a period is 1 to 60 ticks.`
 pub(crate) fn tell_range(out: &mut Draft, doc: Doc<'_>, spot: Spot, rule: Rule) {

@@ -1,5 +1,7 @@
 //! What was likely meant by a line of a unit text at which the TOML reader stopped.
 
+use crate::headers::header_of;
+
 /// Where the reader stopped.
 #[derive(Clone, Copy)]
 pub(crate) struct Stop<'a> {
@@ -13,6 +15,16 @@ pub(crate) struct Stop<'a> {
 
 /// How a number is written.
 const NUMBER: &str = "A number is written 1000000 or 1_000_000.\n";
+
+/// How a number of base 16 is written.
+const BASE: &str = "A number of base 16 is written 0x3E9.\n";
+
+/// What is told of a number with a unit of measure.
+const MEASURE: &str =
+    "A number has no letters behind it: a period is in ticks, and tick_ns in ns, so 1 ms is 1000000.\n";
+
+/// What is told of a blank that TOML doesn't know.
+const BLANK: &str = "A blank stands there that looks like a space and is none: type it again.\n";
 
 /// What is told of a text whose quotes aren't whole.
 const QUOTES: &str =
@@ -83,20 +95,56 @@ fn has_zero(value: &str) -> bool {
     }
 }
 
+/// Whether a value is a number of base 16 as TOML doesn't write it, as `0X3E9` and `3E9h` are.
+fn is_other_base(value: &str) -> bool {
+    let marked = value.strip_suffix('h').or_else(|| value.strip_suffix('H'));
+    let Some(digits) = marked.or_else(|| value.strip_prefix("0X")) else {
+        return false;
+    };
+    digits.starts_with(|letter: char| letter.is_ascii_digit())
+        && digits.chars().all(|letter| letter.is_ascii_hexdigit())
+}
+
+/// Whether a value is digits, and letters behind them.
+fn has_measure(value: &str) -> bool {
+    let behind = value.trim_start_matches(|letter: char| letter.is_ascii_digit());
+    behind.len() < value.len()
+        && behind
+            .trim_start()
+            .starts_with(|letter: char| letter.is_alphabetic())
+}
+
 /// What was likely meant by something that is no value.
 fn hint_of_value(rest: &str) -> &'static str {
     let value = before_comment(rest);
-    if has_zero(value) {
+    if is_other_base(value) {
+        BASE
+    } else if has_zero(value) {
         "A number has no 0 in front.\n"
     } else if is_spaced_number(value) {
         NUMBER
+    } else if has_measure(value) {
+        MEASURE
     } else {
         "A value is a whole number, or a text in quotes, as name = \"press-4\".\n"
     }
 }
 
-/// What was likely meant by a header in single brackets.
+/// Whether a character is a blank that TOML doesn't know.
+fn is_strange_blank(letter: char) -> bool {
+    matches!(
+        letter,
+        '\u{a0}' | '\u{2000}'..='\u{200d}' | '\u{202f}' | '\u{2060}' | '\u{3000}' | '\u{feff}'
+    )
+}
+
+/// What was likely meant by a header in other brackets.
 fn hint_of_header(word: &str) -> Option<&'static str> {
+    if word.starts_with("[[unit") && header_of(word).is_none() {
+        return Some(
+            "A header is [[unit]] or [[unit.slave]], with two brackets side by side before and behind it.\n",
+        );
+    }
     if word.starts_with("[unit]") {
         return Some("Each unit begins with [[unit]], in double brackets.\n");
     }
@@ -108,6 +156,12 @@ fn hint_of_header(word: &str) -> Option<&'static str> {
 
 /// What was likely meant by a word, where the line has the signs of another language.
 fn hint_of_signs(stop: Stop<'_>, word: &str) -> Option<&'static str> {
+    if word.starts_with("```") {
+        return Some("This line is no part of the text: take it out.\n");
+    }
+    if stop.rest.starts_with(is_strange_blank) {
+        return Some(BLANK);
+    }
     if has_slashes(stop.line) || word.starts_with("/*") || word.starts_with(';') {
         return Some("A comment begins with #.\n");
     }
@@ -125,6 +179,11 @@ fn hint_behind(stop: Stop<'_>, word: &str) -> &'static str {
     let before = stop.line.strip_suffix(stop.rest).unwrap_or("").trim_end();
     if word.starts_with('[') {
         "A header stands alone on its line, without , or ; behind it.\n"
+    } else if before.ends_with(|letter: char| letter.is_ascii_digit())
+        && stop.rest.starts_with(|letter: char| letter.is_alphabetic())
+        && !stop.rest.contains('=')
+    {
+        MEASURE
     } else if before.ends_with(|letter: char| letter.is_ascii_digit()) {
         "A line has one key and its value, without , or ; behind it. A number is written 1000000 or 1_000_000.\n"
     } else {
@@ -145,6 +204,8 @@ fn hint_of_message(stop: Stop<'_>, word: &str) -> &'static str {
         NUMBER
     } else if message.starts_with("invalid string") && rest.trim().is_empty() {
         QUOTES
+    } else if stop.line.contains('{') {
+        "Between { and } stand key = value, with a comma between two.\n"
     } else {
         ""
     }

@@ -6,6 +6,9 @@ use crate::slips::{Stop, hint};
 use ec_text_builder::Draft;
 use toml::de::Error;
 
+/// The most bytes of a line that are shown.
+const SHOWN: usize = 120;
+
 /// The line and the column, both from 1, behind so many bytes of a text. A column counts characters.
 pub(crate) fn position_of(text: &[u8], count: usize) -> (usize, usize) {
     let before = text.get(..count).unwrap_or(text);
@@ -28,12 +31,31 @@ fn is_cert(text: &str) -> bool {
     }
 }
 
-/// Adds what was likely meant where the reader stopped with a message behind so many bytes, at a line, from 0.
-fn add_hint(out: &mut Draft, text: &str, line: usize, count: usize, message: &str) {
+/// What a text is that isn't one of units, as far as that is seen.
+fn kind_of(text: &str) -> Option<&'static str> {
     if is_cert(text) {
-        return out.add(
+        return Some(
             "It is a certificate, and the file of the units is wanted here. A command that reads a certificate takes it behind --cert.\n",
         );
+    }
+    if text.trim_start().starts_with('<') {
+        return Some(
+            "It is XML. Of the network description (ENI) of an engineering tool tools/units-from-eni of the sources makes a unit text.\n",
+        );
+    }
+    if text.starts_with("{\\rtf") {
+        return Some("It is a text with formats: save it as plain text.\n");
+    }
+    if text.contains('\r') && !text.contains('\n') {
+        return Some("Its lines end with a carriage return alone: save it with line feeds.\n");
+    }
+    None
+}
+
+/// Adds what was likely meant where the reader stopped with a message behind so many bytes, at a line, from 0.
+fn add_hint(out: &mut Draft, text: &str, line: usize, count: usize, message: &str) {
+    if let Some(kind) = kind_of(text) {
+        return out.add(kind);
     }
     let behind = text.get(count..).unwrap_or("");
     let stop = Stop {
@@ -44,6 +66,15 @@ fn add_hint(out: &mut Draft, text: &str, line: usize, count: usize, message: &st
     if !add_mixed(out, text, line, stop) {
         out.add(hint(stop));
     }
+}
+
+/// Adds a line as it stands, of a long one the part about a column, from 1.
+fn add_excerpt(out: &mut Draft, line: &[u8], column: usize) {
+    if line.len() <= SHOWN || column <= SHOWN {
+        return out.add(format_args!("    {}\n", Bytes(line, SHOWN)));
+    }
+    let from = column.saturating_sub(SHOWN / 2).min(line.len());
+    out.add(format_args!("    ...{}\n", Bytes(&line[from..], SHOWN)));
 }
 
 /// Tells that the file isn't TOML, and if it is known where its reader stopped: the line, the column and why, the line's text, and
@@ -61,7 +92,7 @@ pub(crate) fn tell_not_toml(out: &mut Draft, text: &[u8], error: Option<Error>) 
     let Some(bytes) = line_at(text, line) else {
         return;
     };
-    out.add(format_args!("    {}\n", Bytes(bytes.trim_ascii_end(), 120)));
+    add_excerpt(out, bytes.trim_ascii_end(), column);
     match std::str::from_utf8(text) {
         Ok(text) => add_hint(out, text, line, span.start, error.message()),
         Err(_) => out.add("The file is not UTF-8: save it as plain text in UTF-8.\n"),

@@ -2,22 +2,24 @@
 
 use crate::inputs::{Doc, Fields};
 use crate::label::{In, Named};
-use crate::quoted::Bytes;
+use crate::quoted::Letter;
 use ec_text_builder::Draft;
 use ec_unit_text::{Key, Spot};
 use ec_units::is_name_byte;
 use toml::Value;
+
+/// Whether a character may stand in a name.
+fn is_of_name(letter: char) -> bool {
+    letter.is_ascii() && is_name_byte(letter as u8)
+}
 
 /// Adds why a text is no name.
 fn add_name_cause(out: &mut Draft, name: &str) {
     let count = name.len();
     if count == 0 {
         out.add("This one is empty.\n");
-    } else if let Some(byte) = name.bytes().find(|byte| !is_name_byte(*byte)) {
-        out.add(format_args!(
-            "The character \"{}\" is none of these.\n",
-            Bytes(&[byte], 1)
-        ));
+    } else if let Some(letter) = name.chars().find(|letter| !is_of_name(*letter)) {
+        out.add(format_args!("The character \"{}\" is none of these.\n", Letter(letter)));
     } else {
         out.add(format_args!("This one has {count}.\n"));
     }

@@ -39,7 +39,7 @@ type Row = (
 );
 
 /// The options in the order of the help.
-const ROWS: [Row; 23] = [
+const ROWS: [Row; 24] = [
     (
         "cert",
         "PATH",
@@ -128,8 +128,14 @@ const ROWS: [Row; 23] = [
     (
         "nodes",
         "N",
-        &["plan", "resume"],
+        &["plan"],
         "The most nodes of the search tree to visit, 1 to 10000000; without it 1000000, with --minutes 10000000",
+    ),
+    (
+        "nodes",
+        "N",
+        &["resume"],
+        "The most nodes to visit beside those of the certificate, 1 to 10000000; without it 1000000, with --minutes 10000000",
     ),
     (
         "minutes",

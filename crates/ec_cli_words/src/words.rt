@@ -23,8 +23,11 @@ const OUT_OF_RANGE: &str = "error: a number is out of range\n";
 /// What is told of a word that says no part.
 const NO_PART: &str = "error: --part is I/N with 1 <= I <= N <= 10000, as 3/8\n";
 
-/// How a certificate is given.
+/// What is told of a path where the command needs a certificate, since there the certificate's may be meant.
 const CERT_TIP: &str = "\n  tip: the path of each certificate has --cert before it\n";
+
+/// What is told of a value that is no number.
+const NUMBER_TIP: &str = "\n  tip: a whole number is needed\n";
 
 /// Why words are no command line.
 #[derive(Debug, Drop)]
@@ -83,10 +86,24 @@ fn is_of_path(line: &str) -> bool {
     }
 }
 
-/// What is told of a word that is unexpected: of an option without how to give it as a path, since it is meant as none; of a path,
-/// where the command needs a certificate, how that is given. Between two paragraphs one line stays empty.
-fn with_other_tips(alloc: Global, text: &str) -> Result<String, AllocError> {
-    let needs_cert = text.contains(" --cert <PATH>");
+/// What is told beside what `clap` says, if anything is.
+fn tip_for(kind: ErrorKind, text: &str) -> Option<&'static str> {
+    let line = text.lines().next()?;
+    match kind {
+        ErrorKind::UnknownArgument if is_of_path(line) && text.contains(" --cert <PATH>") => {
+            Some(CERT_TIP)
+        }
+        ErrorKind::ValueValidation if line.ends_with(": invalid digit found in string") => {
+            Some(NUMBER_TIP)
+        }
+        _ => None,
+    }
+}
+
+/// The text with a tip behind its first line, and without how to give an option as a path, since it is meant as none. Between two
+/// paragraphs one line stays empty.
+fn with_tip(alloc: Global, text: &str, tip: Option<&str>) -> Result<String, AllocError> {
+    let mut tip = tip;
     let mut out = String::new(alloc);
     let mut was_empty = false;
     for line in text.lines() {
@@ -96,9 +113,7 @@ fn with_other_tips(alloc: Global, text: &str) -> Result<String, AllocError> {
             out.push('\n')?;
             was_empty = line.is_empty();
         }
-        if needs_cert && is_of_path(line) {
-            out.push_str(CERT_TIP)?;
-        }
+        out.push_str(tip.take().unwrap_or(""))?;
     }
     Ok(out)
 }
@@ -106,10 +121,12 @@ fn with_other_tips(alloc: Global, text: &str) -> Result<String, AllocError> {
 /// The text of an error.
 fn text_of(alloc: Global, error: Error) -> Result<String, AllocError> {
     let text = error.to_string(alloc)?;
-    if error.kind() == ErrorKind::UnknownArgument {
-        with_other_tips(alloc, text.as_str())
-    } else {
-        Ok(text)
+    match error.kind() {
+        ErrorKind::UnknownArgument | ErrorKind::ValueValidation => {
+            let tip = tip_for(error.kind(), text.as_str());
+            with_tip(alloc, text.as_str(), tip)
+        }
+        _ => Ok(text),
     }
 }
 

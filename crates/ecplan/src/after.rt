@@ -25,6 +25,12 @@ const UNPLACED: &str = "The places are not written to";
 const NO_FORM: &str =
     "Each unit of the text has to begin with a line [[unit]], and each key to have a line of its own";
 
+/// The most bytes of a unit text that are read.
+const MOST_TEXT: usize = 1_048_576;
+
+/// What is told of a text that would be too long to be read.
+const TOO_LONG: &str = "With them the text has more than the 1048576 bytes that are read";
+
 /// What is told where no plan gives places to fill in.
 const NO_PLAN: &str = "No plan was found";
 
@@ -95,6 +101,7 @@ fn placed_of(alloc: Global, units: &[u8], told: &Told) -> Result<String, AfterFa
         return Err(AfterFault::from(AllocError));
     }
     match place_text(alloc, units, plan.places.as_slice()) {
+        Ok(placed) if placed.len() > MOST_TEXT => Err(AfterFault::Unplaced(TOO_LONG)),
         Ok(placed) => Ok(placed),
         Err(PlacingFault::OutOfMemory) => Err(AfterFault::from(AllocError)),
         Err(_) => Err(AfterFault::Unplaced(NO_FORM)),

@@ -13,8 +13,11 @@ use ec_cli_explain::{Asked, Cycle, Filed, Found, Written, advice};
 use ec_cli_files::FileFault;
 use ec_cli_refusals::Refusal;
 use ec_cli_run::Report;
+use ec_cli_text::placed_plan;
+use ec_loads::{Plan, busiest, is_legal};
 use ec_outcome::Cut;
 use ec_unit_text::read_units;
+use ec_units::Units;
 use std::alloc::Global;
 use std::rt::Files;
 use std::{fs, io};
@@ -76,11 +79,44 @@ fn cycle_of(alloc: Global, units: &[u8]) -> Option<Cycle> {
     read_units(alloc, units).ok().map(|units| Cycle::of(&units))
 }
 
-/// What became of the certificate that was to be written, if one was; `nodes` are those that a search is asked for that goes on
+/// What the busiest tick of a plan costs, in wire bytes, if the plan is legal.
+fn legal_cost(units: &Units, plan: &Plan) -> Option<u64> {
+    is_legal(units, plan).ok()?;
+    Some(busiest(units, plan).0)
+}
+
+/// What the busiest tick costs, in wire bytes, of the plan of which a job tells that doesn't search; else that of the units' places.
+fn told_cost(alloc: Global, told: &Told, units: &Units) -> Option<u64> {
+    match told.plan() {
+        Some(plan) => legal_cost(units, plan),
+        None => legal_cost(units, &placed_plan(alloc, units).ok()?),
+    }
+}
+
+/// Tells that a plan whose busiest tick costs so many wire bytes doesn't fit into its ticks, if it doesn't.
+pub(crate) fn tell_unfit<R: AllocGlobal + Eprint>(rt: &R, cycle: Cycle, cost: u64) {
+    let given = Found::Given(cost);
+    if let Ok(text) = advice(rt.alloc(), given, Some(cycle), Filed::Unasked, Asked::Whole) {
+        let _ = rt.eprint(text.as_str());
+    }
+}
+
+/// Tells that the plan of which a job tells that doesn't search doesn't fit into its ticks, if it doesn't.
+fn tell_given<R: AllocGlobal + Eprint>(rt: &R, told: &Told, units: &[u8]) {
+    let Ok(units) = read_units(rt.alloc(), units) else {
+        return;
+    };
+    if let Some(cost) = told_cost(rt.alloc(), told, &units) {
+        tell_unfit(rt, Cycle::of(&units), cost);
+    }
+}
+
+/// What became of the certificate that was to be written, if one was, for units at a path; `nodes` are those that a search is asked for that goes on
 /// with it as before.
 fn filed_at<'x, R: Files>(
     files: &R,
     target: Option<Target<'x>>,
+    units: Option<&'x str>,
     fault: Option<&FileFault>,
     nodes: u32,
 ) -> Filed<'x> {
@@ -92,6 +128,7 @@ fn filed_at<'x, R: Files>(
         Some(_) => Filed::Missing,
         None => Filed::There(Written {
             path,
+            units,
             bytes: fs::metadata(files, path).map_or(0, |found| found.len()),
             nodes,
         }),
@@ -129,7 +166,13 @@ pub(crate) fn tell_end<R: Files + AllocGlobal + Eprint, E>(
         let _ = rt.eprint("What was found:\n");
         let _ = rt.eprint(told.answer.text.as_str());
     }
-    let filed = filed_at(rt, done.target, report.fault.as_ref(), nodes);
+    let filed = filed_at(
+        rt,
+        done.target,
+        done.left.path,
+        report.fault.as_ref(),
+        nodes,
+    );
     let (alloc, units) = (rt.alloc(), done.left.units);
     if let Ok(text) = advice(alloc, found_of(told), cycle_of(alloc, units), filed, asked) {
         let _ = rt.eprint(text.as_str());
@@ -147,7 +190,15 @@ pub(crate) fn tell_line<R: Files + AllocGlobal + Eprint>(
 ) {
     tell_untold(rt, done.untold);
     match &report.told {
-        Ok(told) => tell_end(rt, told, report, done, wanted_of(line, told)),
+        Ok(told) => {
+            tell_end(rt, told, report, done, wanted_of(line, told));
+            if matches!(
+                line,
+                Line::Cost { .. } | Line::Frames { .. } | Line::Play { .. }
+            ) {
+                tell_given(rt, told, done.left.units);
+            }
+        }
         Err(refusal) => tell_refusal(rt, refusal, line.cert(), line.out(), done.left),
     }
 }

@@ -2,6 +2,7 @@
 
 use crate::progress::BLANKS;
 use crate::telling::tell;
+use ec_cli_explain::shown_text;
 use ec_cli_refusals::Refusal;
 use ec_cli_run::{refuse, refuse_words};
 use ec_unit_text::UnitFault;
@@ -59,9 +60,29 @@ impl<'a, H: Eprint + Print> io::Write for Output<'a, H> {
     }
 }
 
+/// The system's number of the error that a stream takes no bytes since it is closed, or opened for reading.
+const NOT_FOR_WRITING: i32 = 9;
+
 /// That a text isn't written, and why.
 fn untold_text(alloc: Global, why: io::Error) -> Result<String, AllocError> {
+    if why.raw_os_error() == Some(NOT_FOR_WRITING) {
+        return String::from_str(
+            alloc,
+            "The text cannot be written to standard output: it is closed, or opened for reading alone.\n",
+        );
+    }
     format!(in alloc; "The text cannot be written to standard output: {why}.\n")
+}
+
+/// A text, with a sign in place of each of its control characters, if it has some.
+fn plain_words(alloc: Global, text: &str) -> Result<String, AllocError> {
+    let has_control = text
+        .chars()
+        .any(|letter| letter.is_control() && letter != '\n');
+    if has_control {
+        return shown_text(alloc, text);
+    }
+    String::from_str(alloc, text)
 }
 
 /// Tells why a text isn't written, if it isn't.
@@ -84,10 +105,14 @@ pub(crate) fn refuse_line<H: AllocGlobal + Eprint + Print>(rt: &H, refusal: Refu
     status.code
 }
 
-/// Says by this text why words are no command line; tells why, where it can't. The status.
+/// Says by this text why words are no command line; tells why, where it can't. What a terminal would take as a command isn't
+/// told as it stands. The status.
 pub(crate) fn refuse_text<H: AllocGlobal + Eprint + Print>(rt: &H, text: &str) -> u8 {
+    let Ok(text) = plain_words(rt.alloc(), text) else {
+        return refuse_memory(rt);
+    };
     let mut output = Output::new(rt, false);
-    let status = refuse_words(&mut Io::new(&mut output), text);
+    let status = refuse_words(&mut Io::new(&mut output), text.as_str());
     tell_untold(rt, output.fault());
     status.code
 }

@@ -1,6 +1,6 @@
 //! What is told of a refusal.
 
-use crate::telling::tell_path;
+use crate::telling::{reason_at, tell_unread};
 use crate::units::Left;
 use ec_cert_text::CertFault;
 use ec_checker::CheckFault;
@@ -71,7 +71,7 @@ fn refusal_text<'x, R: Files + AllocGlobal>(
     left: Left<'x>,
 ) -> Result<String, AllocError> {
     let reason = match reason_for(rt, refusal, cert_path, left.fault) {
-        Some(error) => Some(error.to_string(rt.alloc())?),
+        Some(error) => Some(reason_at(rt, cert_path.map_or("", |path| path.as_str()), error)?),
         None => None,
     };
     let cert = cert_path.and_then(|path| cert_for(rt, refusal, path.as_str()));
@@ -98,7 +98,7 @@ pub(crate) fn tell_refusal<'x, R: Files + AllocGlobal + Eprint>(
     left: Left<'x>,
 ) {
     if let (Some(path), Some(error)) = (left.path, left.fault) {
-        return tell_path(rt, "The units cannot be read from", path, error);
+        return tell_unread(rt, path, error);
     }
     // Where standard input couldn't be read, the certificate has no part in it.
     let cert = if left.fault.is_some() { None } else { cert };

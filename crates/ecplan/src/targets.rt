@@ -1,6 +1,6 @@
 //! What the words write to paths, looked at before the job.
 
-use crate::telling::tell;
+use crate::telling::{more_on, tell};
 use ec_cli_command::Line;
 use ec_cli_explain::quoted_path;
 use ec_cli_files::{Content, KeepReason, Late, are_one, are_same_file, reason_to_keep};
@@ -169,8 +169,9 @@ fn unwritable_text(
     why: io::Error,
 ) -> Result<String, AllocError> {
     let (name, path) = (target.content.as_str(), quoted_path(alloc, target.path)?);
+    let more = more_on(why);
     format!(in alloc;
-        "The search goes on and tells its plan, but the {name} cannot be written to {path}.\n{why}.\n"
+        "The search goes on and tells its plan, but the {name} cannot be written to {path}.\n{why}.\n{more}"
     )
 }
 

@@ -2,11 +2,20 @@
 
 use crate::targets::Target;
 use ec_cli_explain::{quoted_path, shown_text};
-use ec_cli_files::{Content, FileFault};
+use ec_cli_files::{Content, FileFault, KeepReason};
 use std::alloc::{AllocError, Global};
 use std::fmt::Display;
-use std::fs;
+use std::io::ErrorKind;
 use std::rt::Files;
+use std::{fs, io};
+
+/// The system's numbers of errors: to give a file to another user isn't permitted, a folder or a file gives no access, and a name is
+/// too long.
+const NOT_PERMITTED: i32 = 1;
+
+const NO_ACCESS: i32 = 13;
+
+const LONG_NAME: i32 = 36;
 
 /// Tells some sentences, with nothing in them but what a terminal shows as it stands.
 pub(crate) fn tell<R: AllocGlobal + Eprint>(rt: &R, sentences: Result<String, AllocError>) {
@@ -27,6 +36,37 @@ fn path_text<W: Display + Drop>(
 ) -> Result<String, AllocError> {
     let path = quoted_path(alloc, path)?;
     format!(in alloc; "{words} {path}.\n{why}.\n")
+}
+
+/// Why the system refuses to read a path; of a link that leads nowhere that it is one.
+pub(crate) fn reason_at<R: Files + AllocGlobal>(
+    rt: &R,
+    path: &str,
+    why: io::Error,
+) -> Result<String, AllocError> {
+    if why.kind() == ErrorKind::NotFound && fs::symlink_metadata(rt, path).is_ok() {
+        return String::from_str(rt.alloc(), "It is a link to a file that isn't there");
+    }
+    why.to_string(rt.alloc())
+}
+
+/// Tells that the units at a path can't be read, and why.
+pub(crate) fn tell_unread<R: Files + AllocGlobal + Eprint>(rt: &R, path: &str, why: io::Error) {
+    if let Ok(reason) = reason_at(rt, path, why) {
+        tell_path(rt, "The units cannot be read from", path, reason);
+    }
+}
+
+/// What is told beside why the system refuses to write a path, where its words alone don't say what to do.
+pub(crate) fn more_on(why: io::Error) -> &'static str {
+    match why.raw_os_error() {
+        Some(NOT_PERMITTED) =>
+            "The file that stands there is another user's: only that user or root can replace it.\n",
+        Some(NO_ACCESS) =>
+            "It is made beside its path first, so its folder has to take new files.\n",
+        Some(LONG_NAME) => "While it is made .part stands behind its name: give a shorter one.\n",
+        _ => "",
+    }
 }
 
 /// Tells a sentence that ends with a path, and why.
@@ -56,20 +96,33 @@ pub(crate) fn tell_whole<R: Files + AllocGlobal + Eprint>(rt: &R, target: Target
     }
 }
 
+/// Why a new file, which is whole, doesn't take the place of what stands at its path.
+fn kept_since(why: KeepReason) -> &'static str {
+    match why {
+        KeepReason::HoldsElse =>
+            "That holds something else: move the new one over it, if nothing of it is needed",
+        KeepReason::Unreadable => {
+            "What that holds cannot be read: move the new one over it, if nothing of it is needed"
+        }
+        _ => why.as_str(),
+    }
+}
+
 /// Why a file isn't at its path, and where it lies.
 fn fault_text(alloc: Global, target: Target<'_>, fault: &FileFault) -> Result<String, AllocError> {
     let Target { path, content, .. } = target;
     let (name, path) = (content.as_str(), quoted_path(alloc, path)?);
     match fault {
         FileFault::Unwritten { why } => {
-            format!(in alloc; "The {name} cannot be written to {path}.\n{why}.\n")
+            let more = more_on(*why);
+            format!(in alloc; "The {name} cannot be written to {path}.\n{why}.\n{more}")
         }
         FileFault::Aside { at, why } => {
-            let lies = whole_text(alloc, content, at.as_str())?;
-            format!(in alloc; "{lies}It cannot take the place of {path}: {why}.\n")
+            let (lies, more) = (whole_text(alloc, content, at.as_str())?, more_on(*why));
+            format!(in alloc; "{lies}It cannot take the place of {path}: {why}.\n{more}")
         }
         FileFault::Kept { at, why } => {
-            let (lies, why) = (whole_text(alloc, content, at.as_str())?, why.as_str());
+            let (lies, why) = (whole_text(alloc, content, at.as_str())?, kept_since(*why));
             format!(in alloc; "{lies}It does not take the place of {path}.\n{why}.\n")
         }
         FileFault::TooLarge { at, bytes } => {

@@ -3,6 +3,7 @@
 ghost use Rattle.std.specs.Prelude.{◌≡◌};
 ghost use Rattle.ec_cli_command.specs.Words.{JobFits, job_of};
 
+use crate::ending::tell_unfit;
 use crate::output::{Output, refuse_line, refuse_text, tell_untold};
 use crate::progress::{Progress, Telling};
 use crate::refusal::tell_refusal;
@@ -10,13 +11,14 @@ use crate::targets::Target;
 use crate::telling::{tell_fault, tell_whole};
 use crate::units::Kept;
 use ec_cli_answers::Told;
+use ec_cli_explain::Cycle;
 use ec_cli_files::{FileFault, write_whole};
 use ec_cli_refusals::Refusal;
 use ec_cli_run::do_line;
 use ec_cli_words::Words;
 use ec_fmmu::layout;
 use ec_frame_text::stations_of;
-use ec_loads::{Plan, is_legal};
+use ec_loads::{Plan, busiest, is_legal};
 use ec_outcome::PlayFault;
 use ec_play_trial::{trial_capture, trial_text, try_plan};
 use ec_unit_text::{UnitFault, read_units};
@@ -52,6 +54,9 @@ struct Played {
     text: String,
     /// The capture file, if one is to be written.
     capture: Option<Vec<u8>>,
+    /// What is known of its line, and what the busiest tick of its plan costs, in wire bytes.
+    cycle: Cycle,
+    cost: u64,
 }
 
 /// Whether a play is told or written otherwise than by its job.
@@ -107,7 +112,12 @@ fn try_words(
         Some(_) => Some(trial_capture(alloc, units, &trial)?),
         None => None,
     };
-    Ok(Played { text, capture })
+    Ok(Played {
+        text,
+        capture,
+        cycle: Cycle::of(units),
+        cost: busiest(units, plan).0,
+    })
 }
 
 /// Plays the plan of which a job told once more, as the words say. Of units and plan, which were found right, only memory may be
@@ -197,7 +207,11 @@ pub(crate) fn do_trial<
         &progress,
     );
     match try_told(rt.alloc(), words, units.left().units, report.told) {
-        Ok(played) => write_played(rt, target, &played),
+        Ok(played) => {
+            let code = write_played(rt, target, &played);
+            tell_unfit(rt, played.cycle, played.cost);
+            code
+        }
         Err(TrialFault::Station(text)) => refuse_text(rt, text.as_str()),
         Err(TrialFault::Refused(refusal)) => {
             let code = refuse_line(rt, refusal);

@@ -1,7 +1,7 @@
 //! The units that a job reads: opened first, and kept for what is told afterwards.
 
 use crate::output::refuse_line;
-use crate::telling::tell_path;
+use crate::telling::tell_unread;
 use ec_cli_refusals::Refusal;
 use std::alloc::Global;
 use std::io::Read;
@@ -114,7 +114,7 @@ pub(crate) fn open_units<H: Files + AllocGlobal + Eprint + Print>(
         Ok(file) => Ok(Some(file)),
         Err(error) => {
             let code = refuse_line(rt, Refusal::Read);
-            tell_path(rt, "The units cannot be read from", path.as_str(), error);
+            tell_unread(rt, path.as_str(), error);
             Err(code)
         }
     }

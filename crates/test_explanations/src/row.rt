@@ -1,9 +1,9 @@
 //! A row of the table.
 //!
 //! Its head is the line of a refusal, and below it `cert PATH`, `out PATH` and `reason WORDS` where the job had them. Or it is
-//! the first line of a search's text: `optimal V`, `no plan`, or of one without a proof `unproved V`, below it `cut WHY` and
+//! the first line of a search's text: `optimal V`, `no plan`, `given V` of a plan that no search found, or of one without a proof `unproved V`, below it `cut WHY` and
 //! `at least L`, and `strong` of a search by the strong rules, `most` of one that took as much as may be asked for, `merged` of
-//! merged certificates; and where a certificate was wanted, `out PATH`, `bytes N` and `nodes N`, and `missing` where it isn't there, or
+//! merged certificates; and where a certificate was wanted, `out PATH`, `units PATH`, `bytes N` and `nodes N`, and `missing` where it isn't there, or
 //! `beside` where it is too large to be there. Its units are those of the search; where they can't be read, they aren't known.
 
 use crate::refusals::refusal_of;
@@ -33,6 +33,7 @@ fn filed_of(head: &str) -> Filed<'_> {
         Some(_) if part(head, "beside").is_some() => Filed::TooLarge,
         Some(path) => Filed::There(Written {
             path,
+            units: part(head, "units "),
             bytes,
             nodes: part(head, "nodes ")
                 .unwrap_or("1000000")
@@ -74,7 +75,10 @@ fn found_of(head: &str) -> Found {
     match (ending_of(head), least) {
         (Some(ending), _) => Found::Unproved(ending),
         (None, Ok(least)) => Found::Least(least),
-        (None, Err(_)) => Found::NoPlan,
+        (None, Err(_)) => match part(head, "given ").unwrap_or("").parse::<u64>() {
+            Ok(cost) => Found::Given(cost),
+            Err(_) => Found::NoPlan,
+        },
     }
 }
 

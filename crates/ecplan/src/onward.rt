@@ -1,9 +1,10 @@
-//! What is told before a search goes on with a certificate that is large.
+//! What is told before a search goes on with a certificate: that its own may be too large, or takes the place of one of which parts
+//! are to be made.
 
 use crate::telling::tell;
 use ec_cli_command::Line;
 use ec_cli_explain::{quoted_path, room_beside};
-use ec_cli_files::read_file;
+use ec_cli_files::{are_one, read_file};
 use std::alloc::{AllocError, Global};
 use std::fs;
 use std::rt::Files;
@@ -41,12 +42,22 @@ fn room_text(alloc: Global, room: Room<'_>) -> Result<String, AllocError> {
     )
 }
 
-/// Tells, before a search goes on with a certificate and writes its own, that this may have more bytes than are read.
-pub(crate) fn tell_room<H: Files + AllocGlobal + Eprint>(rt: &H, line: &Line) {
+/// That a part of a certificate takes its place.
+fn replaced_text(alloc: Global, cert: &str) -> Result<String, AllocError> {
+    let path = quoted_path(alloc, cert)?;
+    format!(in alloc;
+        "Parts are those of the open leaves of {path}, and what this part finds is written over it.\nThe other parts can be made only of a copy of it: give each part an --out of its own.\n"
+    )
+}
+
+/// Tells, before a search goes on with a certificate and writes its own, that this may have more bytes than are read, and that
+/// it is a part of the one whose place it takes.
+pub(crate) fn tell_onward<H: Files + AllocGlobal + Eprint>(rt: &H, line: &Line) {
     let Line::Resume {
         cert,
         effort,
-        out: Some(_),
+        part,
+        out: Some(out),
         ..
     } = line
     else {
@@ -55,5 +66,8 @@ pub(crate) fn tell_room<H: Files + AllocGlobal + Eprint>(rt: &H, line: &Line) {
     match room_at(rt, cert.as_str()) {
         Some(room) if room.nodes < u64::from(effort.nodes) => tell(rt, room_text(rt.alloc(), room)),
         _ => {}
+    }
+    if part.count > 1 && are_one(rt, rt.alloc(), cert.as_str(), out.as_str()) {
+        tell(rt, replaced_text(rt.alloc(), cert.as_str()));
     }
 }
