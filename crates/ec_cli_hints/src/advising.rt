@@ -3,7 +3,7 @@
 
 use crate::cycle::{Cycle, USE};
 use crate::help::{help, other_rules};
-use crate::quoted::{Command, PathPiece};
+use crate::quoted::{Command, PathPiece, is_told_whole};
 use ec_outcome::{Cut, Ending};
 use ec_text_builder::Draft;
 use std::alloc::{AllocError, Global};
@@ -29,7 +29,7 @@ pub struct Written<'a> {
 pub enum Filed<'a> {
     /// None was asked for.
     Unasked,
-    /// It isn't at its path, which was told.
+    /// It isn't at its path, which was told, or went to what is no file.
     Missing,
     /// It has so many bytes that no command reads it, and lies beside its path, which was told.
     TooLarge,
@@ -125,17 +125,27 @@ impl Search<'_> {
     /// Adds how one goes on from a certificate that was written.
     fn add_onward(self, out: &mut Draft, written: Written<'_>) {
         let (cert, units) = (written.path, written.units);
+        if !is_told_whole(cert) || !units.is_none_or(is_told_whole) {
+            return out.add(
+                "The command resume or merge goes on with its certificate, whose path, or that of the units, has characters that aren't told as they are.\n",
+            );
+        }
+        let on_input = if units.is_none() {
+            " with its units on standard input"
+        } else {
+            ""
+        };
         let resume = Command::Resume { cert, units };
         let merge = Command::Merge { cert, units };
         match self.asked {
             Asked::Whole | Asked::Most => out.add(format_args!(
-                "The command {resume} goes on with this search, and counts new nodes alone.\n"
+                "The command {resume}{on_input} goes on with this search, and counts new nodes alone.\n"
             )),
             Asked::Part => out.add(format_args!(
-                "The command {merge} merges it with the others, and tells what they show together.\n"
+                "The command {merge}{on_input} merges it with the others, and tells what they show together.\n"
             )),
             Asked::Merged => out.add(format_args!(
-                "The command {resume} goes on with these leaves; on many machines each has --part I/N and an --out of its own.\n"
+                "The command {resume}{on_input} goes on with these leaves; on many machines each has --part I/N and an --out of its own.\n"
             )),
         }
     }

@@ -76,7 +76,7 @@ impl Cycle {
             ));
         } else if self.is_beyond(self.largest) {
             out.add(format_args!(
-                "A frame with its largest unit alone takes {largest} ns: a longer tick, fewer bytes in that unit, or two units in its place would help.\n"
+                "A frame with its largest unit alone takes {largest} ns already: a longer tick or fewer bytes would help, and longer periods alone would not.\n"
             ));
         } else {
             out.add("A longer tick, longer periods or fewer bytes would help.\n");

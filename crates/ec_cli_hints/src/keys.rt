@@ -89,7 +89,7 @@ pub(crate) fn unknown_in<'a>(table: Fields<'a>, kind: Kind) -> Option<&'a str> {
 
 /// What is told of a key that belongs to a table of another kind.
 fn place_of(word: &str) -> Option<&'static str> {
-    if word == "slave" {
+    if matches!(word, "slave" | "unit_slave" | "unit-slave") {
         return Some("A slave begins with [[unit.slave]], below the [[unit]] that it belongs to.\n");
     }
     for kind in [SLAVE, UNIT, TOP] {
@@ -155,9 +155,29 @@ fn type_of(key: Key, value: &Value) -> &'static str {
     }
 }
 
+/// The key at the top of the file that stands in place of `unit` above its units, where slaves alone begin that.
+fn unit_meant<'a>(doc: Doc<'a>, spot: Spot) -> Result<Option<&'a str>, AllocError> {
+    let top = doc.top();
+    let Some(Value::Table(begun)) = top.value(Key::Unit) else {
+        return Ok(None);
+    };
+    let is_of_slaves = begun.keys().all(|key| key.as_str() == Key::Slave.as_str());
+    match meant_for(doc, spot, Key::Unit)? {
+        Some(word) if is_of_slaves && top.0.is_some_and(|table| is_array(table.get(word))) => {
+            Ok(Some(word))
+        }
+        _ => Ok(None),
+    }
+}
+
+/// Whether a value is there and an array.
+fn is_array(value: Option<&Value>) -> bool {
+    matches!(value, Some(Value::Array(_)))
+}
+
 /// Tells that no unit is begun, but by its slaves, where another key was meant for `unit`; says whether one was.
 fn tell_unbegun(out: &mut Draft, doc: Doc<'_>, spot: Spot) -> bool {
-    match meant_for(doc, spot, Key::Unit) {
+    match unit_meant(doc, spot) {
         Err(_) => out.give_up(),
         Ok(None) => return false,
         Ok(Some(word)) => out.add(format_args!(

@@ -80,6 +80,13 @@ fn line_begun(text: &str, end: usize, array: Array) -> Option<usize> {
     found
 }
 
+/// The first line, from 1, of those before a line, from 0, that begins an array which is none of a unit text.
+fn other_header(text: &str, end: usize) -> Option<usize> {
+    let is_other = |line: &str| line.trim().starts_with("[[") && header_of(line).is_none();
+    let at = text.lines().take(end).position(is_other)?;
+    Some(at.saturating_add(1))
+}
+
 /// Adds that `unit` or `slave` was begun otherwise before the line, from 0, at which the reader stopped, and says whether it was.
 pub(crate) fn add_mixed(out: &mut Draft, text: &str, at: usize, stop: Stop<'_>) -> bool {
     let Some(array) = array_at(stop) else {
@@ -88,5 +95,10 @@ pub(crate) fn add_mixed(out: &mut Draft, text: &str, at: usize, stop: Stop<'_>) 
     let Array { key, rule, .. } = array;
     let line = AtLine(line_begun(text, at, array));
     out.add(format_args!("Before this line {key} was begun otherwise{line}: {rule}"));
+    if let Some(other) = other_header(text, at) {
+        out.add(format_args!(
+            "Line {other} begins something else: was [[unit]] or [[unit.slave]] meant there?\n"
+        ));
+    }
     true
 }

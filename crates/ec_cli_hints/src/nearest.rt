@@ -48,7 +48,7 @@ fn by_letters(alloc: Global, word: &str, keys: &[Key]) -> Result<Option<Key>, Al
 /// The key of these that a word has in front, before the unit of its value or what else, as `period_ms` has.
 fn by_front(word: &str, keys: &[Key]) -> Option<Key> {
     let has_front = |key: &&Key| match word.strip_prefix(key.as_str()) {
-        Some(rest) => rest.starts_with('_'),
+        Some(rest) => rest.starts_with('_') && !matches!(key, Key::Unit | Key::Slave),
         None => false,
     };
     keys.iter().find(has_front).copied()

@@ -39,6 +39,11 @@ fn is_shown(letter: char) -> bool {
     !letter.is_control() && !matches!(letter, '\u{2028}'..='\u{202e}' | '\u{2066}'..='\u{2069}')
 }
 
+/// Whether a path is told as it stands, so that it can be given again.
+pub(crate) fn is_told_whole(path: &str) -> bool {
+    path.chars().all(is_shown)
+}
+
 /// A character as it stands, or each of its bytes as `\xNN`.
 #[derive(Clone, Copy)]
 pub(crate) struct Letter(pub char);

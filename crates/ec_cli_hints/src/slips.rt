@@ -21,7 +21,7 @@ const BASE: &str = "A number of base 16 is written 0x3E9.\n";
 
 /// What is told of a number with a unit of measure.
 const MEASURE: &str =
-    "A number has no letters behind it: a period is in ticks, and tick_ns in ns, so 1 ms is 1000000.\n";
+    "A number has no letters behind it. A period is in ticks, and tick_ns in ns: 1 ms is 1000000.\n";
 
 /// What is told of a blank that TOML doesn't know.
 const BLANK: &str = "A blank stands there that looks like a space and is none: type it again.\n";
@@ -95,23 +95,37 @@ fn has_zero(value: &str) -> bool {
     }
 }
 
-/// Whether a value is a number of base 16 as TOML doesn't write it, as `0X3E9` and `3E9h` are.
-fn is_other_base(value: &str) -> bool {
-    let marked = value.strip_suffix('h').or_else(|| value.strip_suffix('H'));
-    let Some(digits) = marked.or_else(|| value.strip_prefix("0X")) else {
-        return false;
-    };
-    digits.starts_with(|letter: char| letter.is_ascii_digit())
-        && digits.chars().all(|letter| letter.is_ascii_hexdigit())
+/// What is left of a value without the marks of base 16 in other languages, and without one that TOML has in small letters.
+fn without_marks(value: &str) -> &str {
+    for mark in ["0X", "#x", "$", "16#"] {
+        if let Some(rest) = value.strip_prefix(mark) {
+            return rest;
+        }
+    }
+    match value.strip_suffix('h').or_else(|| value.strip_suffix('H')) {
+        Some(rest) => rest.trim_end(),
+        None => value,
+    }
 }
 
-/// Whether a value is digits, and letters behind them.
+/// Whether a value is a number of base 16 as TOML doesn't write it, as `1A00`, `0X3E9` and `3E9h` are.
+fn is_other_base(value: &str) -> bool {
+    let digits = without_marks(value);
+    let is_marked = digits.len() < value.len();
+    digits.contains(|letter: char| letter.is_ascii_digit())
+        && digits.chars().all(|letter| letter.is_ascii_hexdigit())
+        && (is_marked || digits.contains(|letter: char| letter.is_ascii_alphabetic()))
+}
+
+/// Whether a word is letters alone.
+fn is_letters(word: &str) -> bool {
+    !word.is_empty() && word.chars().all(char::is_alphabetic)
+}
+
+/// Whether a value is digits, and a word of letters behind them.
 fn has_measure(value: &str) -> bool {
     let behind = value.trim_start_matches(|letter: char| letter.is_ascii_digit());
-    behind.len() < value.len()
-        && behind
-            .trim_start()
-            .starts_with(|letter: char| letter.is_alphabetic())
+    behind.len() < value.len() && !value.starts_with('0') && is_letters(behind.trim_start())
 }
 
 /// What was likely meant by something that is no value.
@@ -177,12 +191,12 @@ fn hint_of_signs(stop: Stop<'_>, word: &str) -> Option<&'static str> {
 /// What was likely meant by what stands behind the value or the header of a line: behind a digit, perhaps the rest of a number.
 fn hint_behind(stop: Stop<'_>, word: &str) -> &'static str {
     let before = stop.line.strip_suffix(stop.rest).unwrap_or("").trim_end();
+    let behind = before_comment(stop.rest);
     if word.starts_with('[') {
         "A header stands alone on its line, without , or ; behind it.\n"
-    } else if before.ends_with(|letter: char| letter.is_ascii_digit())
-        && stop.rest.starts_with(|letter: char| letter.is_alphabetic())
-        && !stop.rest.contains('=')
-    {
+    } else if matches!(behind, "h" | "H") {
+        BASE
+    } else if before.ends_with(|letter: char| letter.is_ascii_digit()) && is_letters(behind) {
         MEASURE
     } else if before.ends_with(|letter: char| letter.is_ascii_digit()) {
         "A line has one key and its value, without , or ; behind it. A number is written 1000000 or 1_000_000.\n"
@@ -205,7 +219,7 @@ fn hint_of_message(stop: Stop<'_>, word: &str) -> &'static str {
     } else if message.starts_with("invalid string") && rest.trim().is_empty() {
         QUOTES
     } else if stop.line.contains('{') {
-        "Between { and } stand key = value, with a comma between two.\n"
+        "Within { } and [ ] a comma stands between two, and a value is a whole number, or a text in quotes.\n"
     } else {
         ""
     }

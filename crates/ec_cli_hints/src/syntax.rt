@@ -38,12 +38,18 @@ fn kind_of(text: &str) -> Option<&'static str> {
             "It is a certificate, and the file of the units is wanted here. A command that reads a certificate takes it behind --cert.\n",
         );
     }
-    if text.trim_start().starts_with('<') {
+    let front = text.trim_start_matches('\u{feff}').trim_start();
+    if front.contains("<EtherCATInfo") {
+        return Some(
+            "It is a device description (ESI). Have the engineering tool export the network (ENI), of which tools/units-from-eni of the sources makes a unit text.\n",
+        );
+    }
+    if front.starts_with("<?xml") || front.starts_with("<EtherCAT") {
         return Some(
             "It is XML. Of the network description (ENI) of an engineering tool tools/units-from-eni of the sources makes a unit text.\n",
         );
     }
-    if text.starts_with("{\\rtf") {
+    if front.starts_with("{\\rtf") {
         return Some("It is a text with formats: save it as plain text.\n");
     }
     if text.contains('\r') && !text.contains('\n') {

@@ -31,7 +31,7 @@ fn tell_units(out: &mut Draft, inputs: &Inputs<'_>, doc: Doc<'_>, fault: UnitFau
             "The file has no unit.\nEach unit is a table that begins with a line [[unit]], in double brackets.\n",
         ),
         UnitFault::TooManyUnits => out.add(format_args!(
-            "The file has {} units, and a line has at most 48.\n",
+            "The file has {} units, and a line has at most 48.\nNeighbours of one period can be one unit, with up to 8 slaves.\n",
             doc.units().len()
         )),
         UnitFault::BadName(spot) => units::tell_name(out, doc, spot),

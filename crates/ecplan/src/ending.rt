@@ -111,8 +111,14 @@ fn tell_given<R: AllocGlobal + Eprint>(rt: &R, told: &Told, units: &[u8]) {
     }
 }
 
-/// What became of the certificate that was to be written, if one was, for units at a path; `nodes` are those that a search is asked for that goes on
-/// with it as before.
+/// The bytes of the file at a path; none where there is no file, or what is none, as a pipe.
+fn file_bytes<R: Files>(files: &R, path: &str) -> Option<u64> {
+    let found = fs::metadata(files, path).ok()?;
+    Some(found.len()).filter(|_| found.is_file())
+}
+
+/// What became of the certificate of units at a path, if one was to be written; `nodes` are those that a search is asked for that goes
+/// on with it as before.
 fn filed_at<'x, R: Files>(
     files: &R,
     target: Option<Target<'x>>,
@@ -126,12 +132,15 @@ fn filed_at<'x, R: Files>(
     match fault {
         Some(FileFault::TooLarge { .. }) => Filed::TooLarge,
         Some(_) => Filed::Missing,
-        None => Filed::There(Written {
-            path,
-            units,
-            bytes: fs::metadata(files, path).map_or(0, |found| found.len()),
-            nodes,
-        }),
+        None => match file_bytes(files, path) {
+            Some(bytes) => Filed::There(Written {
+                path,
+                units: units.filter(|path| file_bytes(files, path).is_some()),
+                bytes,
+                nodes,
+            }),
+            None => Filed::Missing,
+        },
     }
 }
 

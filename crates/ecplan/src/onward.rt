@@ -46,7 +46,7 @@ fn room_text(alloc: Global, room: Room<'_>) -> Result<String, AllocError> {
 fn replaced_text(alloc: Global, cert: &str) -> Result<String, AllocError> {
     let path = quoted_path(alloc, cert)?;
     format!(in alloc;
-        "Parts are those of the open leaves of {path}, and what this part finds is written over it.\nThe other parts can be made only of a copy of it: give each part an --out of its own.\n"
+        "Parts are those of the open leaves of {path}, and what this part finds is written over it.\nThe other parts can be made only of a copy from before: give each part an --out of its own.\n"
     )
 }
 

@@ -63,7 +63,7 @@ pub(crate) fn more_on(why: io::Error) -> &'static str {
         Some(NOT_PERMITTED) =>
             "The file that stands there is another user's: only that user or root can replace it.\n",
         Some(NO_ACCESS) =>
-            "It is made beside its path first, so its folder has to take new files.\n",
+            "It is made beside its path first: its folder has to take new files, and a file that stands there to be writable.\n",
         Some(LONG_NAME) => "While it is made .part stands behind its name: give a shorter one.\n",
         _ => "",
     }
