@@ -1,10 +1,11 @@
 //! A row of the table.
 //!
 //! Its head is the line of a refusal, and below it `cert PATH`, `out PATH` and `reason WORDS` where the job had them. Or it is
-//! the first line of a search's text: `optimal V`, `no plan`, `given V` of a plan that no search found, or of one without a proof `unproved V`, below it `cut WHY` and
+//! the first line of a search's text: `optimal V`, `no plan`, or of one without a proof `unproved V`, below it `cut WHY` and
 //! `at least L`, and `strong` of a search by the strong rules, `most` of one that took as much as may be asked for, `merged` of
-//! merged certificates; and where a certificate was wanted, `out PATH`, `units PATH`, `bytes N` and `nodes N`, and `missing` where it isn't there, or
-//! `beside` where it is too large to be there. Its units are those of the search; where they can't be read, they aren't known.
+//! merged certificates; and where a certificate was wanted, `out PATH`, `units PATH`, `bytes N` and `nodes N`, and `missing` where
+//! it isn't there, or `beside` where it is too large to be there. Or it is `given V` of a plan that no search found. Its units are
+//! those of the job; where they can't be read, they aren't known.
 
 use crate::refusals::refusal_of;
 use ec_cli_explain::{Asked, Cycle, Filed, Found, Inputs, Written, advice, explain};
