@@ -286,7 +286,8 @@ impl Book {
         } = cert;
         let order = order.into_vec();
         let loads = Loads::new(alloc, units)?;
-        let prefixes = opened_by(alloc, &loads, order.as_slice(), rules, &[], &given)?;
+        let opened = opened_by(alloc, &loads, order.as_slice(), rules, &[], &given)?;
+        let prefixes = opened.places;
         let count = prefixes.len();
         let mut pieces = Vec::with_capacity(alloc, count)?;
         let leaves = Vec::with_capacity(alloc, count)?;

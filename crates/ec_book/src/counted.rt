@@ -8,7 +8,7 @@ ghost use Rattle.ec_symmetry.specs.Orders.{IsOrder};
 ghost use Rattle.ec_symmetry.specs.Ruled.{line_rules};
 ghost use Rattle.ec_book.specs.Open.{AreOpened};
 
-use crate::open::opened_by;
+use crate::open::{Opened, opened_by};
 use ec_cert::{Subtree, node_count};
 use ec_loads::{Loads, Places};
 use ec_symmetry::Rules;
@@ -41,13 +41,17 @@ impl Counted {
         ensures sub { result.sub ≡ sub }
         ensures opened { AreOpened (line_of (line_rules rules) loads.now) order.now (shape_of sub.tree) prefix.now result.opened }
     {
-        let nodes = node_count(&sub.tree);
-        let opened = if prefix.len() <= order.len() {
-            opened_by(alloc, loads, order, rules, prefix, &sub.tree).ok()
-        } else {
-            None
-        };
-        Counted { sub, nodes, opened }
+        if prefix.len() > order.len() {
+            return Counted::unopened(sub);
+        }
+        match opened_by(alloc, loads, order, rules, prefix, &sub.tree) {
+            Ok(Opened { nodes, places }) => Counted {
+                sub,
+                nodes,
+                opened: Some(places),
+            },
+            Err(_) => Counted::unopened(sub),
+        }
     }
 
     /// Counts the nodes alone. Takes no memory; the report is judged, and then refused for want of memory.

@@ -16,7 +16,7 @@ mod tree;
 mod weights;
 
 pub use cert::{Best, Cert, Subtree};
-pub use closed::is_closed;
+pub use closed::{closed_count, is_closed};
 pub use copying::copy_of;
 pub use kinds::{Kinds, kinds_of};
 pub use lists::{UnitLine, UnitLines};

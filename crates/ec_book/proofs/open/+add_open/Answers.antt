@@ -1,13 +1,15 @@
-use Rattle.std.proofs.Common.{◌≡◌, rules, refl, ◌+◌, ◌<◌, ◌++◌, ◌∷◌, [], length, vec_len, drop, get_or, arith, ap, ◌∙◌, sym}
+use Rattle.ec_loads.specs.Search.{node_count, node_counts}
+use Rattle.ec_cert.specs.Shapes.{shapes_of}
+use Rattle.std.proofs.Common.{◌≡◌, take_all, refl, ◌+◌, ◌<◌, ◌++◌, ◌∷◌, [], length, vec_len, drop, get_or, arith, ap, ◌∙◌, sym}
 use Rattle.ec_loads.specs.Line.{line_by}
 use Rattle.ec_cert.specs.Shapes.{shape_of}
-use Rattle.ec_cert.proofs.TreeLemmas.{shape_of-trees}
+use Rattle.ec_cert.proofs.TreeLemmas.{shape_of-trees, nodes_step}
 use Rattle.ec_symmetry.specs.Orders.{prefix_of}
 use Rattle.ec_symmetry.specs.Ruled.{line_rules}
 use Rattle.ec_book.specs.Open.{leaf_places, open_places}
 use Rattle.ec_book.proofs.DrawLemmas.{shape_of-OpenLeaf}
 use Rattle.ec_book.proofs.OpenLemmas.{closed_places, opened_from, opened_all, opened_short, opened_first, split_opened, child_opened, opened_end, no_kids, append_none, opened_step, path_back}
-use Rattle.ec_book.proofs.open.+add_open.Goals.{then-not-is_closed+in_ok-push-in-Split+in_ok-add_open-in-Split, else-not-is_closed}
+use Rattle.ec_book.proofs.open.+add_open.Goals.{in-Some-closed_count, in-None+in_ok-push-in-None+in_ok-below-in-None}
 use Rattle.ec_book.proofs.open.+add_open.Goals as goal
 
 pub returns-then-len-order-clause-out : goal.returns-then-len-order-clause-out
@@ -35,6 +37,7 @@ loop-i-init t c =
       out =
           opened_first (line_by (line_rules c.args.rules) loads.loads loads.slots) order c.as_ref-trees.result.now.items u _ path c.as_slice.result.now c.next_children-places.result c.args.out.now.items
           c.as_slice.ensures.value next c.next_children-places.ensures;
+      count = refl;
     }
 
 pub returns-in_default-next-clause-out : goal.returns-in_default-next-clause-out
@@ -80,27 +83,38 @@ loop-i-preserved t c =
     let all = opened_from line order (drop i ts) u q c.loop-i.places in
     let whole = c.args.out.now.items ++ opened_all line order ts u q in
     let within : i < length ts = omega (arith, c.loop-i-test.true, c.len-i-end.ensures) in
-    elim c.if-not-is_closed.branch [
-      | then-not-is_closed+in_ok-push-in-Split+in_ok-add_open-in-Split w ↦
-          let longer : w.push.new.self.items ≡ q ++ p ∷ [] = w.in_ok-push-in-Split.ensures.items ∙ ap (λ v. v ++ p ∷ []) c.loop-i.invariant.path in
-          let x = w.index-then-not-is_closed.result.now in
-          let child = child_opened line order ts u q c.loop-i.places c.next.new.self p i x short at within w.index-then-not-is_closed.ensures c.in-Some.ensures.steps in
-          let made = w.in_ok-add_open-in-Split.ensures.out ∙ ap (λ v. c.loop-i.out.items ++ open_places line order (shape_of x) v) longer in
-          record {
-            path = (λ j. (w.path-is j).items) ∙ path_back q w.add_open.new.path.items w.pop.new.self.items p (vec_len w.add_open.new.path) (w.in_ok-add_open-in-Split.ensures.path ∙ longer) (omega (arith, w.add_open.new.path.ok.0)) w.pop.ensures.rest;
-            out = (λ j. (w.out-is j).items ++ rest) ∙ opened_step c.loop-i.out.items w.add_open.new.out.items (open_places line order (shape_of x) (q ++ p ∷ [])) rest all whole made child c.loop-i.invariant.out;
-          }
-      | else-not-is_closed w ↦
+    elim c.match-closed_count.branch [
+      | in-Some-closed_count w ↦
           let x = c.index.result.now in
-          let closed = w.if-not-is_closed.ensures.0 (search rules) in
+          let is = w.in-Some-closed_count.ensures in
           let child = child_opened line order ts u q c.loop-i.places c.next.new.self p i x short at within c.index.ensures c.in-Some.ensures.steps in
+          let step = nodes_step ts i x within c.index.ensures in
           record {
             path = (λ j. (w.path-is j).items) ∙ c.loop-i.invariant.path;
             out =
                 (λ j. (w.out-is j).items ++ rest)
-                ∙ opened_step c.loop-i.out.items c.loop-i.out.items [] rest all whole (sym (append_none c.loop-i.out.items)) (child ∙ ap (λ v. v ++ rest) (closed_places line (shape_of x) (prefix_of loads.loads order (q ++ p ∷ [])) (drop (length (q ++ p ∷ [])) order) (q ++ p ∷ []) closed)) c.loop-i.invariant.out;
+                ∙ opened_step c.loop-i.out.items c.loop-i.out.items [] rest all whole (sym (append_none c.loop-i.out.items)) (child ∙ ap (λ v. v ++ rest) (closed_places line (shape_of x) (prefix_of loads.loads order (q ++ p ∷ [])) (drop (length (q ++ p ∷ [])) order) (q ++ p ∷ []) is.0)) c.loop-i.invariant.out;
+            count = omega (arith, step, is.1, w.more-is, c.loop-i.invariant.count, c.saturating_add-count.ensures);
+          }
+      | in-None+in_ok-push-in-None+in_ok-below-in-None w ↦
+          let longer : w.push.new.self.items ≡ q ++ p ∷ [] = w.in_ok-push-in-None.ensures.items ∙ ap (λ v. v ++ p ∷ []) c.loop-i.invariant.path in
+          let x = w.index-in-None.result.now in
+          let child = child_opened line order ts u q c.loop-i.places c.next.new.self p i x short at within w.index-in-None.ensures c.in-Some.ensures.steps in
+          let made = w.in_ok-below-in-None.ensures.out ∙ ap (λ v. c.loop-i.out.items ++ open_places line order (shape_of x) v) longer in
+          let step = nodes_step ts i x within w.index-in-None.ensures in
+          record {
+            path = (λ j. (w.path-is j).items) ∙ path_back q w.add_open.new.path.items w.pop.new.self.items p (vec_len w.add_open.new.path) (w.in_ok-below-in-None.ensures.path ∙ longer) (omega (arith, w.add_open.new.path.ok.0)) w.pop.ensures.rest;
+            out = (λ j. (w.out-is j).items ++ rest) ∙ opened_step c.loop-i.out.items w.add_open.new.out.items (open_places line order (shape_of x) (q ++ p ∷ [])) rest all whole made child c.loop-i.invariant.out;
+            count = omega (arith, step, w.in_ok-below-in-None.ensures.nodes, w.more-is, c.loop-i.invariant.count, c.saturating_add-count.ensures);
           }
     ]
+
+pub returns-after-loop-i-clause-nodes : goal.returns-after-loop-i-clause-nodes
+returns-after-loop-i-clause-nodes t c =
+    let ts = c.as_ref-trees.result.now.items in
+    let all = ap (λ w. node_counts (shapes_of w)) (take_all c.loop-i.i ts (omega (arith, c.loop-i-test.false, c.len-i-end.ensures))) in
+    let whole = ap node_count (shape_of-trees c.args.tree.now c.in-Split.trees c.as_ref-trees.result.now c.in-Split.is c.as_ref-trees.ensures) in
+    omega (arith, all, whole, c.loop-i.invariant.count)
 
 pub returns-in_ok-push-in-OpenLeaf-clause-out : goal.returns-in_ok-push-in-OpenLeaf-clause-out
 returns-in_ok-push-in-OpenLeaf-clause-out t c =

@@ -1,4 +1,6 @@
-use Rattle.std.proofs.Common.{◌≡◌, ◌++◌, length, drop, ◌-◌}
+use Rattle.std.proofs.Common.{◌≡◌, ◌+◌, ◌++◌, length, drop, take, min, ◌-◌}
+use Rattle.ec_loads.specs.Search.{node_counts}
+use Rattle.ec_cert.specs.Shapes.{shapes_of}
 use Rattle.ec_loads.specs.Line.{line_by}
 use Rattle.ec_symmetry.specs.Ruled.{line_rules}
 use Rattle.ec_book.proofs.OpenLemmas.{opened_from, opened_all}
@@ -13,4 +15,5 @@ invariant-loop-i l =
       path : l.path.items ≡ l.initial.path.items;
       out : l.out.items ++ opened_from (line_by (line_rules l.rules) l.loads.loads l.loads.slots) l.order (drop l.i l.trees.items) l.unit l.initial.path.items l.places
           ≡ l.initial.out.items ++ opened_all (line_by (line_rules l.rules) l.loads.loads l.loads.slots) l.order l.trees.items l.unit l.initial.path.items;
+      count : l.count ≡ min (1 + node_counts (shapes_of (take l.i l.trees.items))) 18446744073709551615;
     }
