@@ -432,7 +432,27 @@ def of_longer_searches(outputs):
         try_older_that_says_more, cert.rival, cert.fewer)
 
 
+def try_better_places(units, trial):
+    """Places of a plan that costs more don't take the place of better ones for the same units; others do."""
+    trial.put("units.toml", example("assembly-line.toml"))
+    trial.holds(trial.run("plan", "--strong", "--places", "placed.toml", "units.toml").code == 0, "no best plan")
+    before = trial.seen()
+    worse = trial.run("plan", "--nodes", "1", "units.toml")
+    done = trial.run("plan", "--nodes", "1", "--places", "placed.toml", units)
+    trial.ends(done, 4, worse.text)
+    trial.tells(done, "placed.toml", "costs less")
+    trial.left(before)
+    again = trial.run("plan", "--strong", "--places", "placed.toml", units)
+    trial.holds(again.code == 0, f"places of the same cost: {again.said}")
+
+
+def better_places(_outputs):
+    """`--places` where better places for the same units stand."""
+    yield "plan --places p, over better places of another text for the same units", partial(try_better_places, "units.toml")
+    yield "plan --places p p, over better places of its own", partial(try_better_places, "placed.toml")
+
+
 def at_rest(outputs):
     """All of these ways."""
-    for kind in (beside, read_and_written, linked, modes, one_path, refused, kept, unwritable, of_longer_searches):
+    for kind in (beside, read_and_written, linked, modes, one_path, refused, kept, unwritable, of_longer_searches, better_places):
         yield from kind(outputs)

@@ -9,7 +9,7 @@ import signal
 from functools import partial
 
 from losing import NOTES, UNWRITABLE, put_all_paths
-from trials import NOBODY, Done, Skipped, stop_once_begun
+from trials import NOBODY, REFUSED_WRITE, Done, Skipped, stop_once_begun
 
 NOTE = b"# a note of mine\n"
 # How often two runs are started at one time.
@@ -305,7 +305,33 @@ def two_runs(outputs):
         yield f"{output.name}: two runs with one path, {ROUNDS} times", partial(try_two, output, output.rival)
 
 
+def try_resumed(output, put, newer, trial):
+    """A search goes on with a certificate and writes over it, while another run puts a certificate there: one that says more stays,
+    and what was found lies beside it."""
+    output.put(trial)
+    trial.put("c", output.older)
+    before = trial.seen()
+    with search_begun(trial, output, "resume", "--cert", "c", "--nodes", "150000", "--out", "c", "units.toml") as child:
+        change(trial, before, lambda it: put(it, "c", newer), "c")
+        done = go_on(trial, child)
+    if newer == output.older:
+        trial.holds(done.code == 2 and trial.get("c") not in (None, newer), f"status {done.code}, and the file isn't a new one")
+        trial.left(before, free=["c"])
+        return
+    trial.ends(done, 4, REFUSED_WRITE)
+    trial.tells(done, "c.part", "says more")
+    trial.left(before, free=["c.part"])
+
+
+def resumed(searches):
+    """A certificate that is gone on with, and written over, during the search."""
+    output, *_ = searches
+    for how, put in (("in its place", lambda it, name, text: it.put(name, text)), ("by another file that takes its name", replace_by_edited)):
+        yield f"resume --cert c --out c, and c says more by then, {how}", partial(try_resumed, output, put, output.whole)
+        yield f"resume --cert c --out c, and c is written again, {how}", partial(try_resumed, output, put, output.older)
+
+
 def while_at_work(searches):
     """All of these ways that need a search."""
-    for kind in (edits, becomes, told_before):
+    for kind in (edits, becomes, told_before, resumed):
         yield from kind(searches)

@@ -151,7 +151,7 @@ static void check(const struct ecplan_frame *plan, const uint8_t *frame, const u
     int is_same = got == plan->bytes && memcmp(back + 12, frame + 12, 4) == 0;
     for (unsigned k = 0; is_same && k < plan->groups; k++) {
         is_same = memcmp(back + at, frame + at, 8) == 0;
-        at += HEAD + ecplan_groups[ecplan_sent[plan->first + k]].bytes + TAIL;
+        at += (size_t)HEAD + ecplan_groups[ecplan_sent[plan->first + k]].bytes + TAIL;
     }
     if (!is_same) {
         changed++;
@@ -165,7 +165,7 @@ static void check(const struct ecplan_frame *plan, const uint8_t *frame, const u
             take_inputs(group, back + at + HEAD);
         else
             fallen[group]++, fallen_to[group] = counter;
-        at += HEAD + ecplan_groups[group].bytes + TAIL;
+        at += (size_t)HEAD + ecplan_groups[group].bytes + TAIL;
     }
 }
 

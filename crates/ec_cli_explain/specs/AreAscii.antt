@@ -8,7 +8,7 @@ use Rattle.ec_cli_hints.specs.declared.inputs.Inputs.{Inputs}
 abbrev pub AreAscii : Inputs → Type 0
 AreAscii inputs = IsAscii inputs.units.now × IfSome inputs.cert_path (λ path. IsAscii path.now) × IfSome inputs.out_path (λ path. IsAscii path.now)
 
--- the paths of a certificate and of its units are, if they are told
+-- the paths of a certificate, of its units and of their places are, if they are told
 abbrev pub HasAsciiPath : Filed → Type 0
-HasAsciiPath (filed.There cert) = IsAscii cert.path.now × IfSome cert.units (λ path. IsAscii path.now)
+HasAsciiPath (filed.There cert) = IsAscii cert.path.now × IfSome cert.units (λ path. IsAscii path.now) × IfSome cert.again.places (λ path. IsAscii path.now)
 HasAsciiPath _ = ⊤

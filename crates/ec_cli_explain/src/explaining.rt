@@ -27,12 +27,14 @@ fn are_ascii(inputs: &Inputs<'_>) -> bool
     inputs.units.is_ascii() && is_ascii(inputs.cert_path) && is_ascii(inputs.out_path)
 }
 
-/// Whether the paths of a certificate and of its units, if they are told, are ASCII.
+/// Whether the paths of a certificate, of its units and of their places, if they are told, are ASCII.
 fn has_ascii_path(filed: Filed<'_>) -> bool
     ensures { IsTrue result ↔ HasAsciiPath filed.entry }
 {
     match filed {
-        Filed::There(cert) => cert.path.is_ascii() && is_ascii(cert.units),
+        Filed::There(cert) => {
+            cert.path.is_ascii() && is_ascii(cert.units) && is_ascii(cert.again.places)
+        }
         Filed::Unasked | Filed::Missing | Filed::TooLarge => true,
     }
 }

@@ -5,6 +5,8 @@ mod explaining;
 mod plain;
 mod sheet;
 
-pub use ec_cli_hints::{Asked, Cycle, Filed, Found, Inputs, Written, quoted_path, room_beside};
+pub use ec_cli_hints::{
+    Again, Asked, Cycle, Filed, Found, Inputs, Written, quoted_path, room_beside,
+};
 pub use explaining::{advice, explain};
 pub use plain::{plain_text, shown_text};

@@ -18,6 +18,14 @@ const CAPTURE: &[u8] = b"\x4D\x3C\xB2\xA1\x02\0\x04\0\0\0\0\0\0\0\0\0\xFF\xFF\0\
 /// How its first frame begins, behind the head of its record: to all, from the master, EtherCAT.
 const FRAME: &[u8] = b"\xFF\xFF\xFF\xFF\xFF\xFF\x02\0\0\0\0\x01\x88\xA4";
 
+/// How a map begins: its header row, to which a person who goes on with it may add a column.
+const MAP: &[u8] =
+    b"unit,station,direction,slot,period_ticks,phase_ticks,logical_address,image_offset_bytes,bytes,\
+physical_address,group,group_counter\r\n";
+
+/// The most bytes of how a content begins.
+const MOST_FRONT: usize = 256;
+
 /// What a path is written with.
 #[derive(Clone, Copy, Debug, PartialEq, Eq)]
 pub enum Content {
@@ -51,8 +59,8 @@ impl Content {
             Content::Capture => CAPTURE,
             Content::Picture => b"<svg xmlns=\"http://www.w3.org/2000/svg\" role=\"img\" ",
             Content::Units => b"",
-            Content::Header => b"/* A plan of ecplan",
-            Content::Map => b"unit,station,direction,",
+            Content::Header => b"/* A plan of ecplan: tables for an EtherCAT master, in C99.\n",
+            Content::Map => MAP,
             Content::Report => b"<!DOCTYPE html>\n<!-- A report of ecplan -->",
         }
     }
@@ -73,6 +81,8 @@ pub enum KeepReason {
     IsProof,
     /// It holds another unit text than the one that the run began with.
     Changed,
+    /// It holds the same units with places whose busiest tick costs less.
+    Cheaper,
     /// Other runs write to it at the same time.
     Changing,
 }
@@ -96,6 +106,9 @@ impl KeepReason {
             }
             KeepReason::Changed => {
                 "It isn't the text any more that the search began with, and is left as it is. The plan was told"
+            }
+            KeepReason::Cheaper => {
+                "Its places make a busiest tick that costs less than that of this plan, as cost tells: give another path"
             }
             KeepReason::Changing =>
                 "Other runs write to it at this time: give each a path of its own",
@@ -121,7 +134,7 @@ fn is_capture(front: &[u8]) -> bool {
 
 /// Whether the file at a path begins as the content does.
 fn begins<F: Files>(files: &F, path: &str, content: Content) -> io::Result<bool> {
-    let mut front = [0u8; 64];
+    let mut front = [0u8; MOST_FRONT];
     let count = fs::open(files, path)?.read(&mut front)?;
     let front = &front[..count];
     Ok(match content {

@@ -17,4 +17,4 @@ pub use guard::{Content, KeepReason, reason_to_keep};
 pub use late::{Late, make_whole, write_whole};
 pub use place::{are_one, are_same_file};
 pub use reading::read_file;
-pub use whole::Whole;
+pub use whole::{Seen, Whole};

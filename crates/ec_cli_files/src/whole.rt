@@ -2,7 +2,6 @@
 
 use crate::fault::FileFault;
 use crate::guard::{Content, KeepReason, reason_to_keep};
-use crate::place::are_one;
 use crate::reading::read_front;
 use crate::settling::sync_folder;
 use std::alloc::Global;
@@ -17,14 +16,29 @@ const MOST_CERT: u64 = 67_108_864;
 /// How often what stands at a path is judged, where other runs write to it.
 const MOST_LOOKS: usize = 8;
 
-/// Which file stands at a path, how long it is, and when it was written last.
+/// Which file stands at a path, how long it is in bytes, and when it was written last: one that is equal is the same file with the
+/// same bytes.
 #[derive(Clone, Copy, Debug, PartialEq, Eq)]
-struct Seen {
+pub struct Seen {
     dev: u64,
     ino: u64,
     bytes: u64,
     seconds: i64,
     nanoseconds: i64,
+}
+
+impl Seen {
+    /// What stands at a path; none where nothing does (own profile).
+    pub fn at<F: Files>(files: &F, path: &str) -> Option<Seen> {
+        let found = fs::metadata(files, path).ok()?;
+        Some(Seen {
+            dev: found.dev(),
+            ino: found.ino(),
+            bytes: found.len(),
+            seconds: found.mtime(),
+            nanoseconds: found.mtime_nsec(),
+        })
+    }
 }
 
 /// A file that is whole and on the disk, under a name beside the path where it is to be. What may take long is done: so what stands
@@ -45,16 +59,9 @@ fn is_filled<F: Files>(files: &F, path: &str) -> bool {
 }
 
 impl<'a, F: Files> Whole<'a, F> {
-    /// Which file stands at the path; none where none does.
-    fn seen(&self) -> Option<Seen> {
-        let found = fs::metadata(self.files, self.path.as_str()).ok()?;
-        Some(Seen {
-            dev: found.dev(),
-            ino: found.ino(),
-            bytes: found.len(),
-            seconds: found.mtime(),
-            nanoseconds: found.mtime_nsec(),
-        })
+    /// What stands at the path now; none where nothing does.
+    pub fn seen(&self) -> Option<Seen> {
+        Seen::at(self.files, self.path.as_str())
     }
 
     /// The bytes of the file that stands at the path, up to so many; none where no file stands there.
@@ -68,11 +75,6 @@ impl<'a, F: Files> Whole<'a, F> {
             Err(error) if error.kind() == ErrorKind::NotFound => Ok(None),
             Err(error) => Err(error),
         }
-    }
-
-    /// Whether another path leads to the file that stands at the path.
-    pub fn is_at(&self, other: &str) -> bool {
-        are_one(self.files, self.alloc, self.path.as_str(), other)
     }
 
     /// Lets the file take its place, unless what stands there is kept: for a reason of its own, or for one that `judge` has. Where

@@ -1,6 +1,7 @@
 //! What to do after a search: whether its plan fits, what would help one without a proof, and whether its certificate can be read
 //! again.
 
+use crate::again::Again;
 use crate::cycle::{Cycle, USE};
 use crate::help::{help, other_rules};
 use crate::quoted::{Command, PathPiece, is_told_whole};
@@ -20,8 +21,8 @@ pub struct Written<'a> {
     pub units: Option<&'a str>,
     /// How many bytes it has.
     pub bytes: u64,
-    /// How many nodes a search that goes on with it is asked for, if it is for as many as before.
-    pub nodes: u32,
+    /// What its search was asked for, as one that goes on with it is asked again.
+    pub again: Again<'a>,
 }
 
 /// What became of the certificate of a search or of a merge.
@@ -44,6 +45,14 @@ impl Filed<'_> {
             Filed::TooLarge => true,
             Filed::There(cert) => cert.bytes > MOST_READ,
             Filed::Unasked | Filed::Missing => false,
+        }
+    }
+
+    /// Whether it is there, and leaves no room for a search by such rules that goes on with it.
+    fn is_full(self, strong: bool) -> bool {
+        match self {
+            Filed::There(cert) => room_beside(cert.bytes, strong) == 0,
+            Filed::Unasked | Filed::Missing | Filed::TooLarge => false,
         }
     }
 }
@@ -106,15 +115,16 @@ impl Search<'_> {
         }
     }
 
-    /// Adds how many nodes one may go on with, where as many as before may make a certificate that can't be read.
-    fn add_room(self, out: &mut Draft, bytes: u64, nodes: u32) {
+    /// Adds how many nodes one may go on with, where as many as before, or as are usual, may make a certificate that can't be read.
+    fn add_room(self, out: &mut Draft, written: Written<'_>) {
+        let Written { bytes, again, .. } = written;
         let room = room_beside(bytes, self.ending.strong);
-        if room >= u64::from(nodes) || self.asked == Asked::Part {
+        if room >= u64::from(again.within(u64::MAX).nodes) || self.asked == Asked::Part {
             return;
         }
         out.add(format_args!("It has {bytes} bytes, and at most {MOST_READ} are read: "));
         if room == 0 {
-            out.add("what goes on with it may have more.\n");
+            out.add("what goes on with it may have more, and is then refused.\n");
         } else if self.asked == Asked::Merged {
             out.add(format_args!("go on with {room} nodes or less, in all parts together.\n"));
         } else {
@@ -122,10 +132,25 @@ impl Search<'_> {
         }
     }
 
-    /// Adds how one goes on from a certificate that was written.
+    /// What a search is asked for that goes on from a certificate that was written: as before, within the room that it leaves.
+    fn again_from(self, written: Written<'_>) -> Again<'_> {
+        let again = written
+            .again
+            .within(room_beside(written.bytes, self.ending.strong));
+        if self.ending.cut == Cut::Journal {
+            return Again {
+                workers: 1,
+                ..again
+            };
+        }
+        again
+    }
+
+    /// Adds how one goes on from a certificate that was written and leaves room.
     fn add_onward(self, out: &mut Draft, written: Written<'_>) {
         let (cert, units) = (written.path, written.units);
-        if !is_told_whole(cert) || !units.is_none_or(is_told_whole) {
+        let again = self.again_from(written);
+        if !is_told_whole(cert) || !units.is_none_or(is_told_whole) || !again.is_told_whole() {
             return out.add(
                 "The command resume or merge goes on with its certificate, whose path, or that of the units, has characters that aren't told as they are.\n",
             );
@@ -135,14 +160,14 @@ impl Search<'_> {
         } else {
             ""
         };
-        let resume = Command::Resume { cert, units };
+        let resume = Command::Resume { cert, units, again };
         let merge = Command::Merge { cert, units };
         match self.asked {
             Asked::Whole | Asked::Most => out.add(format_args!(
                 "The command {resume}{on_input} goes on with this search, and counts new nodes alone.\n"
             )),
             Asked::Part => out.add(format_args!(
-                "The command {merge}{on_input} merges it with the others, and tells what they show together.\n"
+                "The command {merge}{on_input} merges it: add a --cert for each of the others, and an --out for what they show together.\n"
             )),
             Asked::Merged => out.add(format_args!(
                 "The command {resume}{on_input} goes on with these leaves; on many machines each has --part I/N and an --out of its own.\n"
@@ -171,15 +196,18 @@ impl Search<'_> {
             asked,
         } = self;
         let is_too_large = filed.is_too_large();
+        let is_full = filed.is_full(ending.strong) && asked != Asked::Part;
         self.add_level(out);
-        if !is_too_large || asked == Asked::Merged || ending.cut == Cut::Journal {
+        if !(is_too_large || is_full) || asked == Asked::Merged || ending.cut == Cut::Journal {
             out.add(help(ending, asked));
         }
         out.add(other_rules(ending, asked));
         match filed {
             Filed::There(cert) if !is_too_large => {
-                self.add_onward(out, cert);
-                self.add_room(out, cert.bytes, cert.nodes);
+                if !is_full {
+                    self.add_onward(out, cert);
+                }
+                self.add_room(out, cert);
             }
             Filed::Unasked => self.add_unasked(out),
             Filed::There(_) | Filed::Missing | Filed::TooLarge => {}
@@ -215,7 +243,8 @@ impl Search<'_> {
             return self.add_unproved(out);
         };
         if cycle.is_overfull() {
-            return cycle.add_none(out);
+            cycle.add_none(out);
+            return out.add("It is not told as no plan, since its search is not closed.\n");
         }
         if let Some(best) = self.ending.best {
             cycle.add_use(out, best);

@@ -4,6 +4,7 @@
 #![tactic(auto)]
 
 mod advising;
+mod again;
 mod certs;
 mod checks;
 mod cycle;
@@ -29,6 +30,7 @@ mod telling;
 mod units;
 
 pub use advising::{Asked, Filed, Found, Written, counsel, room_beside};
+pub use again::Again;
 pub use cycle::Cycle;
 pub use inputs::Inputs;
 pub use quoted::{PIECE, quoted_path};

@@ -32,15 +32,60 @@ fn cert_unit(cert: CertText<'_>, unit: usize) -> Option<CertUnit<'_>> {
     })
 }
 
+/// Whether the certificate has a unit of this name.
+fn is_in_cert(cert: CertText<'_>, name: &str) -> bool {
+    (0..cert.units).any(|unit| cert_unit(cert, unit).is_some_and(|it| it.name == name))
+}
+
+/// Whether the file has a unit of this name.
+fn is_in_file(doc: Doc<'_>, name: &str) -> bool {
+    (0..doc.units().len()).any(|unit| doc.unit(Some(unit)).text(Key::Name) == Some(name))
+}
+
+/// Adds that the certificate has a unit which the file has not.
+fn add_missing(out: &mut Draft, name: &str) {
+    let name = Quoted(name);
+    out.add(format_args!("The certificate has another unit {name}, which the file has not.\n"));
+}
+
+/// Adds that a unit of the file, of this name if it has one, is another than that of the certificate: one is new or gone, or each is
+/// elsewhere or has another name.
+fn add_other(
+    out: &mut Draft,
+    doc: Doc<'_>,
+    unit: usize,
+    name: Option<&str>,
+    cert: CertText<'_>,
+    theirs: &str,
+) {
+    let is_new = !name.is_some_and(|name| is_in_cert(cert, name));
+    let is_gone = !is_in_file(doc, theirs);
+    let ours = Named(doc, unit, None);
+    match (is_new, is_gone) {
+        (true, false) => out.add(format_args!("{ours} is not in the certificate.\n")),
+        (false, true) => add_missing(out, theirs),
+        _ => {
+            let theirs = Quoted(theirs);
+            out.add(format_args!("{ours} stands where the certificate has unit {theirs}.\n"));
+        }
+    }
+}
+
 /// Adds how a unit of the file differs from that of the certificate, and says whether it does.
-fn add_difference(out: &mut Draft, doc: Doc<'_>, unit: usize, theirs: CertUnit<'_>) -> bool {
+fn add_difference(
+    out: &mut Draft,
+    doc: Doc<'_>,
+    unit: usize,
+    cert: CertText<'_>,
+    theirs: CertUnit<'_>,
+) -> bool {
     let table = doc.unit(Some(unit));
     let ours = Named(doc, unit, None);
     let bytes = bytes_of(doc.slaves(Some(unit)));
     let period = table.number(Key::Period).unwrap_or(0);
-    if table.text(Key::Name) != Some(theirs.name) {
-        let name = Quoted(theirs.name);
-        out.add(format_args!("{ours} stands where the certificate has unit {name}.\n"));
+    let name = table.text(Key::Name);
+    if name != Some(theirs.name) {
+        add_other(out, doc, unit, name, cert, theirs.name);
     } else if bytes != i128::from(theirs.bytes) {
         let other = theirs.bytes;
         out.add(format_args!("{ours} has {bytes} bytes, in the certificate {other}.\n"));
@@ -60,13 +105,12 @@ fn add_first(out: &mut Draft, doc: Doc<'_>, cert: CertText<'_>) {
         let Some(theirs) = cert_unit(cert, unit) else {
             return out.add(format_args!("{} is not in the certificate.\n", Named(doc, unit, None)));
         };
-        if add_difference(out, doc, unit, theirs) {
+        if add_difference(out, doc, unit, cert, theirs) {
             return;
         }
     }
     if let Some(theirs) = cert_unit(cert, count) {
-        let name = Quoted(theirs.name);
-        out.add(format_args!("The certificate has another unit {name}, which the file has not.\n"));
+        add_missing(out, theirs.name);
     }
 }
 

@@ -41,6 +41,9 @@ pub(crate) fn tell_range(out: &mut Draft, doc: Doc<'_>, spot: Spot) {
     if unit.number(Key::Slot).unwrap_or(0) > last_slot {
         add_more_slots(out, doc);
     }
+    out.add(
+        "Write one of these, or leave both out: plan --places PATH finds places for all units.\n",
+    );
 }
 
 /// Tells which half of a place is missing.
@@ -55,6 +58,13 @@ pub(crate) fn tell_no_place(out: &mut Draft, doc: Doc<'_>, unit: usize) {
         "A unit has no place, that is no phase and no slot: {}.\nCosts and frames are those of places: write them for every unit, or let plan --places PATH write the text with those that it finds.\n",
         Named(doc, unit, None)
     ));
+    if doc
+        .units()
+        .iter()
+        .any(|unit| Fields::of(unit).has(Key::Phase))
+    {
+        out.add("It may move units that have places, too.\n");
+    }
 }
 
 /// Whether a unit with this place travels in a tick and a slot.

@@ -1,5 +1,6 @@
 //! Bytes and values that were read, and paths, as they stand in a sentence.
 
+use crate::again::Again;
 use ec_text_builder::Draft;
 use std::alloc::{AllocError, Global};
 use std::fmt;
@@ -125,7 +126,7 @@ fn is_plain(letter: char) -> bool {
 
 /// A path as a word of a shell, in single quotes where it needs them, and so that it isn't taken for an option.
 #[derive(Clone, Copy)]
-struct Word<'a>(&'a str);
+pub(crate) struct Word<'a>(pub &'a str);
 
 impl fmt::Display for Word<'_> {
     fn fmt<W: fmt::Write>(&self, f: &mut fmt::Formatter<W>) -> fmt::Result {
@@ -152,8 +153,9 @@ pub(crate) enum Command<'a> {
     Resume {
         cert: &'a str,
         units: Option<&'a str>,
+        again: Again<'a>,
     },
-    /// The certificate is merged with others, whose paths are to be filled in.
+    /// The certificate is merged with others, whose paths are to be added.
     Merge {
         cert: &'a str,
         units: Option<&'a str>,
@@ -163,17 +165,13 @@ pub(crate) enum Command<'a> {
 impl fmt::Display for Command<'_> {
     fn fmt<W: fmt::Write>(&self, f: &mut fmt::Formatter<W>) -> fmt::Result {
         let units = match *self {
-            Command::Resume { cert, units } => {
+            Command::Resume { cert, units, again } => {
                 let cert = Word(cert);
-                write!(f, "{PIECE}ecplan resume --cert {cert} --out {cert}")?;
+                write!(f, "{PIECE}ecplan resume --cert {cert} --out {cert}{again}")?;
                 units
             }
             Command::Merge { cert, units } => {
-                write!(
-                    f,
-                    "{PIECE}ecplan merge --cert {} --cert PATH ..",
-                    Word(cert)
-                )?;
+                write!(f, "{PIECE}ecplan merge --cert {}", Word(cert))?;
                 units
             }
         };

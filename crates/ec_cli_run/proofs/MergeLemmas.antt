@@ -1,11 +1,12 @@
 -- What is told of certificates that were merged is true, from what is made of them.
-use Rattle.std.proofs.Common.{◌≡◌, ◌∙◌, ℕ, List, Option, Some, None, Result, Ok, Err, ap, subst, sym, arith}
-use Rattle.std.specs.Prelude.{IfOk, IfSome}
+use Rattle.std.proofs.Common.{◌≡◌, ◌∙◌, ◌⊎◌, inl, inr, refl, ℕ, List, Option, Some, None, Result, Ok, Err, ap, subst, sym, arith}
+use Rattle.std.specs.Prelude.{IfOk, IfErr, IfSome}
 use Rattle.ec_tree.specs.Trees.{LevelsBound}
 use Rattle.ec_cli_files.specs.declared.fault.FileFault.{FileFault}
+use Rattle.ec_cli_refusals.specs.declared.refusal.Refusal.{Refusal}
 use Rattle.ec_cli_refusals.specs.declared.refusal.Refusal.TheVariants as refusal
 use Rattle.ec_cert_merge.specs.declared.fault.Misfit.{Misfit}
-use Rattle.ec_cli_inputs.specs.Input.{AnswersUnits, AreRead}
+use Rattle.ec_cli_inputs.specs.Input.{AnswersUnits, AreRead, ReadsUpTo}
 use Rattle.ec_cli_inputs.specs.declared.input.Inputs.{Inputs}
 use Rattle.ec_cli_inputs.specs.Use.{Use, before, IsSound}
 use Rattle.ec_cli_text.specs.Output.{Written, shown}
@@ -14,11 +15,11 @@ use Rattle.ec_cli_answers.specs.Told.{file_bytes}
 use Rattle.ec_cli_answers.specs.declared.told.Told.{Told}
 use Rattle.ec_cli_run.specs.declared.merging.MergeFault.{MergeFault}
 use Rattle.ec_cli_run.specs.declared.merging.MergeFault.TheVariants as fault
-use Rattle.ec_cli_run.specs.Merging.{IsTrueMerge, MergeTellsTruth, misfit_output, unmerged}
+use Rattle.ec_cli_run.specs.Merging.{IsMergeFault, IsTrueMerge, IsUnmerged, MergeTellsTruth, misfit_output, unmerged}
 use Rattle.ec_cli_run.specs.Runs.{Tells, reported}
 use Rattle.ec_cli_run.specs.Sound.{TellsTruth}
 use Rattle.ec_cli_run.proofs.PlanSound.{merge_true, refusal_true}
-use Rattle.ec_cli_run.proofs.RunLemmas.{tells_more}
+use Rattle.ec_cli_run.proofs.RunLemmas.{reads_more, tells_more}
 
 -- what is told of a merged certificate is true of the units that were read
 pub merge_truth : LevelsBound → (left : Option (List ℕ)) (i : Inputs) (t : Result Told MergeFault) → IfSome left (λ bytes. AreRead bytes None (Ok i))
@@ -56,3 +57,25 @@ all_true (Some bytes) w t file is true = written_true bytes w t file is true
 pub merge_tells : {R W : Type 0} (units : Use R) (text : Use W) (code : ℕ) (t s : Result Told MergeFault) (file : Option FileFault) → s ≡ t → (IsSound units → IfSome (before units) (λ bytes. IsTrueMerge bytes t))
     → Tells (λ w. w ≡ reported unmerged s file) text code → Tells (MergeTellsTruth units) text code
 merge_tells units text code t s file same true told = tells_more (λ w is sound. all_true (before units) w t file (is ∙ ap (λ (x : Result Told MergeFault). reported unmerged x file) same) (true sound)) told
+
+-- why nothing is told of units that can't be read
+pub unread_fault : (left : Option (List ℕ)) (r : Refusal) (t : Result Told MergeFault) (count : ℕ) → t ≡ Err (fault.Refused r) → IfSome left (λ bytes. AreRead bytes None (Err r)) → IfSome left (λ bytes. IfErr t (IsMergeFault bytes count))
+unread_fault None r t count is read = tt
+unread_fault (Some bytes) r t count is read = rw is (inl (r, refl, read))
+
+-- and of certificates that aren't merged for units that were read
+pub unmerged_fault : (left : Option (List ℕ)) (i : Inputs) (t : Result Told MergeFault) (count : ℕ) → IfSome left (λ bytes. AreRead bytes None (Ok i)) → IfErr t (IsUnmerged i.units count) → IfSome left (λ bytes. IfErr t (IsMergeFault bytes count))
+unmerged_fault None i t count read why = tt
+unmerged_fault (Some bytes) i (Ok a) count read why = tt
+unmerged_fault (Some bytes) i (Err f) count read why = inr (i.units, read.0, why)
+
+-- a refusal of the units is told
+abbrev Unreads : Result Inputs Refusal → Result Told MergeFault → Type 0
+Unreads (Ok i) t = Unit {0}
+Unreads (Err r) t = t ≡ Err (fault.Refused r)
+
+same_unread : (read : Result Inputs Refusal) (t : Result Told MergeFault) → Unreads read t → read ≡ Err refusal.Read → t ≡ Err (fault.Refused refusal.Read)
+same_unread read t told is = subst (λ x. Unreads x t) is told
+
+pub unread_read : {X : Type 0} {u : Use X} {most : ℕ} (units : Result Inputs Refusal) (r : Refusal) (t : Result Told MergeFault) → units ≡ Err r → t ≡ Err (fault.Refused r) → ReadsUpTo u most (units ≡ Err refusal.Read) → ReadsUpTo u most (t ≡ Err (fault.Refused refusal.Read))
+unread_read units r t is told read = reads_more (λ _. same_unread units t (subst (λ x. Unreads x t) (sym is) told)) read

@@ -73,7 +73,7 @@ tells_some j bytes read t has a (inl e) = inl (same_read j read t a e)
 tells_some j bytes read t has a (inr h) = inr (h.0, tells_one j bytes (Some h.0) read t (some_input j h.0 has) a h.1)
 
 -- another refusal follows from the one
-reads_more : {X : Type 0} {s : Use X} {most : ℕ} {P Q : Type 0} → (HasFailed s → P → Q) → ReadsUpTo s most P → ReadsUpTo s most Q
+pub reads_more : {X : Type 0} {s : Use X} {most : ℕ} {P Q : Type 0} → (HasFailed s → P → Q) → ReadsUpTo s most P → ReadsUpTo s most Q
 reads_more more r = record { known = r.known; any = r.any; failed = λ f. more f (r.failed f) }
 
 both_more : {R C : Type 0} {u : Use R} {c : Use C} {P Q : Type 0} → (HasFailed u → P → Q) → (HasFailed c → P → Q) → ReadsBoth u c P → ReadsBoth u c Q

@@ -16,7 +16,7 @@ use crate::older::reason_to_stay;
 use crate::reporting::{Report, deliver_report};
 use ec_cli_answers::{File, Told};
 use ec_cli_command::{Job, Line};
-use ec_cli_files::{Content, FileFault, KeepReason, Late, Whole};
+use ec_cli_files::{Content, FileFault, KeepReason, Late, Seen, Whole};
 use ec_cli_inputs::{read_alone, read_both};
 use ec_cli_refusals::Refusal;
 use ec_tree::{law_levels_bound, law_trees_bound};
@@ -88,32 +88,32 @@ fn content_of(line: &Line) -> Content {
     }
 }
 
-/// Why what stands at the path of a file makes no room for it: a certificate that says more does so, but for the one that
-/// the search went on with, than which nothing that goes on with it says less.
+/// Why what stands at the path of a file makes no room for it: a certificate that says more does so. The one that the search went
+/// on with, where that stands there as it was, isn't read again: nothing that goes on with it says less.
 fn reason_to_leave<F: Files>(
     alloc: Global,
-    from: Option<&String>,
+    from: Option<Seen>,
     file: &File,
     whole: &Whole<'_, F>,
 ) -> Option<KeepReason> {
     let File::Cert(cert) = file else {
         return None;
     };
-    match from {
-        Some(from) if whole.is_at(from.as_str()) => None,
-        _ => reason_to_stay(alloc, whole, cert),
+    if from.is_some() && whole.seen() == from {
+        return None;
     }
+    reason_to_stay(alloc, whole, cert)
 }
 
-/// Writes a file, if there is one, of what went on with the certificate `from` if it did with one, and lets it take its
-/// place.
+/// Writes a file, if there is one, of what went on with the certificate that was seen as `from` if it did with one, and lets it
+/// take its place.
 ///
 /// # Errors
 ///
 /// Why it isn't there, and where it lies.
 fn settle_file<F: Files>(
     alloc: Global,
-    from: Option<&String>,
+    from: Option<Seen>,
     file: &File,
     mut late: Late<'_, F>,
 ) -> Result<(), FileFault>
@@ -131,11 +131,11 @@ fn settle_file<F: Files>(
     }
 }
 
-/// Writes the file of what is told, if there is one, of what went on with the certificate `from` if it did with one, and lets it
-/// take its place. Why it isn't there.
+/// Writes the file of what is told, if there is one, of what went on with the certificate that was seen as `from` if it did with
+/// one, and lets it take its place. Why it isn't there.
 pub(crate) fn write_late<E, F: Files>(
     alloc: Global,
-    from: Option<&String>,
+    from: Option<Seen>,
     told: &Result<Told, E>,
     late: Late<'_, F>,
 ) -> Option<FileFault>
@@ -145,6 +145,11 @@ pub(crate) fn write_late<E, F: Files>(
         Ok(told) => settle_file(alloc, from, &told.file, late).err(),
         Err(_) => None,
     }
+}
+
+/// What stands at the path of the certificate that a line reads, before it is read; none of a line that reads none.
+fn seen_of<F: Files>(files: &F, line: &Line) -> Option<Seen> {
+    Seen::at(files, line.cert()?.as_str())
 }
 
 /// Does what a command line says, on these units and to this text.
@@ -166,10 +171,11 @@ fn report_line<R: Read, W: Write, F: Files, T: Threads + Wait + Sync, G: Gate + 
         let told = tell_line(wait, files, alloc, line, units, gate);
         return deliver_report(told, None, text);
     };
+    let from = seen_of(files, line);
     match Late::new(files, alloc, path.as_str(), content_of(line)) {
         Ok(late) => {
             let told = tell_line(wait, files, alloc, line, units, gate);
-            let fault = write_late(alloc, line.cert(), &told, late);
+            let fault = write_late(alloc, from, &told, late);
             deliver_report(told, fault, text)
         }
         Err(AllocError) => {

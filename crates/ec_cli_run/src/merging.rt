@@ -1,17 +1,17 @@
 //! Merges certificates, with the paths that are named.
 
-ghost use Rattle.std.specs.Prelude.{◌≡◌, ◌≤◌, ℕ, List, false, length, IfOk, IfSome, Ok as OkOf};
+ghost use Rattle.std.specs.Prelude.{◌≡◌, ◌≤◌, ℕ, List, false, length, IfOk, IfErr, IfSome, Ok as OkOf};
 ghost use Rattle.ec_wire.specs.Stream.{has_failed, stream};
 ghost use Rattle.ec_units.specs.Load.{loads_of};
 ghost use Rattle.ec_loads.specs.Held.{no_places};
 ghost use Rattle.ec_cert.specs.Shapes.{cert_view};
-ghost use Rattle.ec_cli_inputs.specs.Input.{AnswersUnits};
+ghost use Rattle.ec_cli_inputs.specs.Input.{AnswersUnits, ReadsUpTo, most_of_units};
 ghost use Rattle.ec_cli_inputs.specs.Use.{used};
 ghost use Rattle.ec_cli_text.specs.Output.{shown};
 ghost use Rattle.ec_cli_answers.specs.Merged.{IsMergeWritten};
 ghost use Rattle.ec_cert_merge.specs.Certs.{IsProven};
 ghost use Rattle.ec_cli_answers.specs.Told.{HasText, file_bytes};
-ghost use Rattle.ec_cli_run.specs.Merging.{IsTrueMerge, MergeTellsTruth, unmerged};
+ghost use Rattle.ec_cli_run.specs.Merging.{IsMergeFault, IsNoCert, IsTrueMerge, IsUnmerged, MergeTellsTruth, unmerged};
 ghost use Rattle.ec_cli_run.specs.Runs.{Tells, reported};
 
 use crate::doing::write_late;
@@ -47,6 +47,11 @@ pub enum MergeFault {
 }
 
 impl From<Refusal> for MergeFault {
+    ghost use Rattle.std.specs.Prelude.{◌≡◌};
+    ghost use Rattle.ec_cli_run.specs.declared.merging.MergeFault.TheVariants.{Refused};
+
+    ghost from_gives = { λ r why. why ≡ Refused r };
+
     fn from(why: Refusal) -> MergeFault {
         MergeFault::Refused(why)
     }
@@ -75,6 +80,7 @@ fn cert_at<F: Files>(
     requires empty { loads.old ≡ record { loads = loads_of units.now.units; slots = units.now.slots; places = no_places (loads_of units.now.units) } }
     ensures same { loads.new ≡ loads.old }
     ensures right { IfOk result (λ cert. IsProven units.now.units units.now.slots (cert_view cert)) }
+    ensures err { IfErr result (IsNoCert units.now) }
 {
     let Ok(file) = fs::open(files, path) else {
         return Err(Refusal::Read);
@@ -95,8 +101,10 @@ fn merge_at<F: Files>(
 ) -> Result<Cert, MergeFault>
     requires empty { loads.old ≡ record { loads = loads_of units.now.units; slots = units.now.slots; places = no_places (loads_of units.now.units) } }
     requires merged { IsProven units.now.units units.now.slots (cert_view merged) }
+    requires number { 2 ≤ number }
     ensures same { loads.new ≡ loads.old }
     ensures right { IfOk result (λ cert. IsProven units.now.units units.now.slots (cert_view cert)) }
+    ensures err { (count : ℕ) → number ≤ count → IfErr result (IsUnmerged units.now count) }
 {
     let next = match cert_at(files, alloc, loads, units, path) {
         Ok(next) => next,
@@ -120,6 +128,7 @@ fn merge_all<F: Files>(
     requires empty { loads.old ≡ record { loads = loads_of units.now.units; slots = units.now.slots; places = no_places (loads_of units.now.units) } }
     ensures same { loads.new ≡ loads.old }
     ensures right { IfOk result (λ cert. IsProven units.now.units units.now.slots (cert_view cert)) }
+    ensures err { IfErr result (IsUnmerged units.now (length paths.now)) }
 {
     let mut merged = match cert_at(files, alloc, loads, units, paths[0].as_str()) {
         Ok(first) => first,
@@ -149,6 +158,7 @@ fn merge_for<F: Files>(
     requires some { 1 ≤ length paths.now }
     ensures told { (bytes : List ℕ) → AnswersUnits (OkOf units.now) bytes → IfOk result (λ t. IsMergeWritten bytes (shown t.answer) (file_bytes t.file)) }
     ensures text { IfOk result (λ t. HasText t.file) }
+    ensures err { IfErr result (IsUnmerged units.now (length paths.now)) }
 {
     let Ok(mut loads) = Loads::new(alloc, units) else {
         return Err(MergeFault::Refused(Refusal::Check(CheckFault::OutOfMemory)));
@@ -167,6 +177,8 @@ fn tell_merge<R: Read, F: Files>(
     requires some { 1 ≤ length paths.now }
     requires units { has_failed units.old ≡ false }
     ensures truth { has_failed units.new ≡ false → IfSome (R.remaining (stream units.old)) (λ bytes. IsTrueMerge bytes result) }
+    ensures err { has_failed units.new ≡ false → IfSome (R.remaining (stream units.old)) (λ bytes. IfErr result (IsMergeFault bytes (length paths.now))) }
+    ensures read { ReadsUpTo (used R.remaining units.old units.new) most_of_units (result ≡ Err (MergeFault.Refused Refusal.Read)) }
     ensures text { IfOk result (λ t. HasText t.file) }
 {
     law_levels_bound();
@@ -178,6 +190,11 @@ fn tell_merge<R: Read, F: Files>(
 /// together, as a search tells it. The units are read first, then each certificate in turn, and only the units and what was merged so far
 /// are held. The merged certificate is at the path `out`, if there is one, whole, before a byte of the text is written, so it may take the
 /// place of one of the others; where it can't be there, the text is the refusal of a failed write.
+///
+/// # Errors
+///
+/// In the report: that the units are refused, or that a read of them failed; a certificate that can't be read or that a check refuses,
+/// with its number, from 1; one that doesn't fit with what those before it show; or that memory ran out.
 pub fn do_merge<R: Read, W: Write, F: Files>(
     files: &F,
     alloc: Global,
@@ -191,6 +208,8 @@ pub fn do_merge<R: Read, W: Write, F: Files>(
     requires text { has_failed text.old ≡ false }
     ensures does { Tells (λ w. w ≡ reported unmerged result.told result.fault) (used W.contents text.old text.new) result.status.code }
     ensures truth { Tells (MergeTellsTruth (used R.remaining units.old units.new)) (used W.contents text.old text.new) result.status.code }
+    ensures err { has_failed units.new ≡ false → IfSome (R.remaining (stream units.old)) (λ bytes. IfErr result.told (IsMergeFault bytes (length paths.now))) }
+    ensures read { ReadsUpTo (used R.remaining units.old units.new) most_of_units (result.told ≡ Err (MergeFault.Refused Refusal.Read)) }
 {
     let Some(path) = out else {
         let told = tell_merge(files, alloc, paths, units);

@@ -4,6 +4,7 @@ ghost use Rattle.ec_units.specs.Load.{loads_of};
 ghost use Rattle.ec_loads.specs.Legal.{IsLegal};
 ghost use Rattle.ec_frame_builder.specs.Frames.{HasLayout};
 
+use crate::cells::time_of;
 use crate::laid::{Laid, laid_of};
 use crate::tables::{
     add_frames, add_groups, add_numbers, add_slaves, add_start_bytes, add_starts, add_ticks,
@@ -22,8 +23,13 @@ fn add_line_numbers(text: &mut Draft, units: &Units, mapping: &Mapping, laid: &L
     let ticks = laid.loads.ticks();
     let (tick_ns, slots) = (units.tick_ns, units.slots);
     let bytes = mapping.total;
+    let (most, _tick) = laid.loads.top();
+    let busiest = time_of(most);
     text.add(format_args!("#define ECPLAN_TICKS {ticks} /* ticks, after which all repeats */\n"));
     text.add(format_args!("#define ECPLAN_TICK_NS {tick_ns} /* ns of a tick */\n"));
+    text.add(format_args!(
+        "#define ECPLAN_BUSIEST_NS {busiest} /* ns that the frames of the busiest tick take */\n"
+    ));
     text.add(format_args!("#define ECPLAN_SLOTS {slots} /* frames in a tick at most */\n"));
     text.add(format_args!("#define ECPLAN_IMAGE_BYTES {bytes} /* bytes of the process image */\n"));
     text.add(format_args!(
@@ -85,7 +91,7 @@ fn header_in(
 }
 
 /// A legal plan as a C header for a master: C99, without code, with tables and numbers alone, whose names begin `ecplan_` and
-/// `ECPLAN_`. It has the ticks, their length in ns, the slots and the bytes of the process image; of each slave its unit,
+/// `ECPLAN_`. It has the ticks, their length and the time that the busiest one takes in ns, the slots and the bytes of the process image; of each slave its unit,
 /// station, the bytes of outputs and inputs in the image and in its memory, and its FMMU records; of each group its slot,
 /// period and phase in ticks, address, bytes and expected working counter; the frames of each tick with their groups; and the
 /// frames before the first tick with their working counters. Only want of memory is an error (own profile).

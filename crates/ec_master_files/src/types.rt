@@ -9,7 +9,11 @@ pub(crate) const HEAD: &str = "/* A plan of ecplan: tables for an EtherCAT maste
 #ifndef ECPLAN_PLAN_H
 #define ECPLAN_PLAN_H
 
+#ifdef __KERNEL__
+#include <linux/types.h>
+#else
 #include <stdint.h>
+#endif
 
 #define ECPLAN_VERSION 1
 ";

@@ -1,6 +1,7 @@
 //! What is written after the text of a job: the picture of costs, the units with the places of a plan, and what is handed over
 //! with frames.
 
+use crate::costs::has_cheaper;
 use crate::ending::Done;
 use crate::targets::Target;
 use crate::telling::{tell_fault, tell_path, tell_whole};
@@ -137,16 +138,34 @@ fn holds_still<R: Files + AllocGlobal>(rt: &R, path: &str, units: &[u8]) -> bool
     }
 }
 
-/// Why the units' own file is kept: it doesn't hold their text any more. None of another file.
+/// Whether the file at a path, to which the units of a search are to be written, has better places for them than its plan.
+fn is_better<R: Files + AllocGlobal>(
+    rt: &R,
+    target: Target<'_>,
+    units: &[u8],
+    told: &Told,
+) -> bool {
+    if target.content != Content::Units {
+        return false;
+    }
+    match (read_units(rt.alloc(), units), told.plan()) {
+        (Ok(units), Some(plan)) => has_cheaper(rt, rt.alloc(), target.path, &units, plan),
+        _ => false,
+    }
+}
+
+/// Why what stands at a path is kept: it is the units' own file, and doesn't hold their text any more; or it has better places for
+/// them.
 fn reason_to_leave<R: Files + AllocGlobal>(
     rt: &R,
     target: Target<'_>,
     units: &[u8],
+    told: &Told,
 ) -> Option<KeepReason> {
     if target.is_own && !holds_still(rt, target.path, units) {
         return Some(KeepReason::Changed);
     }
-    None
+    Some(KeepReason::Cheaper).filter(|_| is_better(rt, target, units, told))
 }
 
 /// Why what is written after the job isn't at its path. Places for another text than the one that stands there are taken away.
@@ -162,8 +181,8 @@ fn after_fault<R: Files>(files: &R, fault: FileFault) -> AfterFault {
     AfterFault::File(fault)
 }
 
-/// Writes to a path what is to be there. The units' own file must hold their text still, and once more when the new one, which is whole
-/// by then, takes its place.
+/// Writes to a path what is to be there. The units' own file must hold their text still, and no unit text better places for them; so
+/// once more when the new one, which is whole by then, takes its place.
 fn write_to<R: Files + AllocGlobal>(
     rt: &R,
     target: Target<'_>,
@@ -172,11 +191,11 @@ fn write_to<R: Files + AllocGlobal>(
 ) -> Result<(), AfterFault> {
     let Target { path, content, .. } = target;
     let text = text_of(rt.alloc(), content, units, told)?;
-    if let Some(why) = reason_to_leave(rt, target, units) {
+    if let Some(why) = reason_to_leave(rt, target, units, told) {
         return Err(AfterFault::Unplaced(why.as_str()));
     }
     match make_whole(rt, rt.alloc(), path, content, text.as_bytes())? {
-        Some(whole) => match whole.settle(|_| reason_to_leave(rt, target, units)) {
+        Some(whole) => match whole.settle(|_| reason_to_leave(rt, target, units, told)) {
             Ok(()) => Ok(()),
             Err(fault) => Err(after_fault(rt, fault)),
         },

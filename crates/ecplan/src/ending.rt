@@ -1,5 +1,6 @@
 //! What is told on standard error at the end of a job.
 
+use crate::costs::{legal_cost, placed_cost};
 use crate::output::tell_untold;
 use crate::progress::effort_of;
 use crate::refusal::tell_refusal;
@@ -9,12 +10,10 @@ use crate::units::Left;
 use ec_cert::Cert;
 use ec_cli_answers::{File, Told};
 use ec_cli_command::{Effort, Line};
-use ec_cli_explain::{Asked, Cycle, Filed, Found, Written, advice};
+use ec_cli_explain::{Again, Asked, Cycle, Filed, Found, Written, advice};
 use ec_cli_files::FileFault;
 use ec_cli_refusals::Refusal;
 use ec_cli_run::Report;
-use ec_cli_text::placed_plan;
-use ec_loads::{Plan, busiest, is_legal};
 use ec_outcome::Cut;
 use ec_unit_text::read_units;
 use ec_units::Units;
@@ -37,25 +36,36 @@ fn is_most(effort: &Effort, cut: Cut) -> bool {
     }
 }
 
-/// What was asked of a search or a merge, and how many nodes a search is asked for that goes on as before.
+/// What was asked of a search or a merge, and what a search is asked for that goes on as before.
 #[derive(Clone, Copy)]
-pub(crate) struct Wanted {
+pub(crate) struct Wanted<'a> {
     pub asked: Asked,
-    pub nodes: u32,
+    pub again: Again<'a>,
+}
+
+/// The path to which a search writes the units with the places of its plan, if it writes them.
+fn places_of(line: &Line) -> Option<&str> {
+    match line {
+        Line::Plan { places, .. } | Line::Resume { places, .. } => places.as_deref(),
+        _ => None,
+    }
 }
 
 /// What a search was asked for; none of a line that searches for nothing.
-fn wanted_of(line: &Line, told: &Told) -> Option<Wanted> {
+fn wanted_of<'a>(line: &'a Line, told: &Told) -> Option<Wanted<'a>> {
     let effort = effort_of(line)?;
     let asked = match (line, &told.ending) {
         (Line::Resume { part, .. }, _) if part.count > 1 => Asked::Part,
         (_, Some(ending)) if is_most(&effort, ending.cut) => Asked::Most,
         _ => Asked::Whole,
     };
-    Some(Wanted {
-        asked,
+    let again = Again {
+        workers: effort.workers,
         nodes: effort.nodes,
-    })
+        minutes: effort.minutes,
+        places: places_of(line),
+    };
+    Some(Wanted { asked, again })
 }
 
 /// What a search or a merge found.
@@ -79,17 +89,11 @@ fn cycle_of(alloc: Global, units: &[u8]) -> Option<Cycle> {
     read_units(alloc, units).ok().map(|units| Cycle::of(&units))
 }
 
-/// What the busiest tick of a plan costs, in wire bytes, if the plan is legal.
-fn legal_cost(units: &Units, plan: &Plan) -> Option<u64> {
-    is_legal(units, plan).ok()?;
-    Some(busiest(units, plan).0)
-}
-
 /// What the busiest tick costs, in wire bytes, of the plan of which a job tells that doesn't search; else that of the units' places.
 fn told_cost(alloc: Global, told: &Told, units: &Units) -> Option<u64> {
     match told.plan() {
         Some(plan) => legal_cost(units, plan),
-        None => legal_cost(units, &placed_plan(alloc, units).ok()?),
+        None => placed_cost(alloc, units),
     }
 }
 
@@ -117,14 +121,14 @@ fn file_bytes<R: Files>(files: &R, path: &str) -> Option<u64> {
     Some(found.len()).filter(|_| found.is_file())
 }
 
-/// What became of the certificate of units at a path, if one was to be written; `nodes` are those that a search is asked for that goes
-/// on with it as before.
+/// What became of the certificate of units at a path, if one was to be written; `again` is what a search is asked for that goes on
+/// with it as before.
 fn filed_at<'x, R: Files>(
     files: &R,
     target: Option<Target<'x>>,
     units: Option<&'x str>,
     fault: Option<&FileFault>,
-    nodes: u32,
+    again: Again<'x>,
 ) -> Filed<'x> {
     let Some(Target { path, .. }) = target else {
         return Filed::Unasked;
@@ -137,7 +141,7 @@ fn filed_at<'x, R: Files>(
                 path,
                 units: units.filter(|path| file_bytes(files, path).is_some()),
                 bytes,
-                nodes,
+                again,
             }),
             None => Filed::Missing,
         },
@@ -161,14 +165,14 @@ pub(crate) fn tell_end<R: Files + AllocGlobal + Eprint, E>(
     told: &Told,
     report: &Report<E>,
     done: Done<'_>,
-    wanted: Option<Wanted>,
+    wanted: Option<Wanted<'_>>,
 ) {
     match (done.target, &report.fault, done.untold) {
         (Some(target), Some(fault), _) => tell_fault(rt, target, fault),
         (Some(target), None, Some(_)) => tell_whole(rt, target),
         _ => {}
     }
-    let Some(Wanted { asked, nodes }) = wanted else {
+    let Some(Wanted { asked, again }) = wanted else {
         return;
     };
     if report.status.code == 4 {
@@ -180,7 +184,7 @@ pub(crate) fn tell_end<R: Files + AllocGlobal + Eprint, E>(
         done.target,
         done.left.path,
         report.fault.as_ref(),
-        nodes,
+        again,
     );
     let (alloc, units) = (rt.alloc(), done.left.units);
     if let Ok(text) = advice(alloc, found_of(told), cycle_of(alloc, units), filed, asked) {

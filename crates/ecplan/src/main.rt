@@ -6,6 +6,7 @@ ghost use Rattle.std.specs.Prelude.{IfOk};
 ghost use Rattle.ec_cli_words.specs.Merges.{AskedFits};
 
 mod after;
+mod costs;
 mod ending;
 mod job;
 mod merging;

@@ -11,7 +11,7 @@ use crate::targets::{Target, may_write, target_at};
 use crate::telling::tell;
 use crate::units::{Kept, open_units};
 use ec_cert_merge::Misfit;
-use ec_cli_explain::{Asked, quoted_path};
+use ec_cli_explain::{Again, Asked, quoted_path};
 use ec_cli_files::Content;
 use ec_cli_refusals::Refusal;
 use ec_cli_run::{MergeFault, Report, do_merge};
@@ -24,9 +24,6 @@ use std::rt::Files;
 /// What to do with certificates that don't fit together.
 const ONE_LINE_OF_DESCENT: &str =
     "Merge only certificates that come from one certificate: go on from one, with resume --cert PATH --part I/N.\n";
-
-/// The nodes that a search visits where no number is asked for.
-const USUAL_NODES: u32 = 1_000_000;
 
 /// The path of the certificate of this number, from 1.
 fn path_of(merging: &Merging, number: usize) -> Option<&String> {
@@ -76,7 +73,7 @@ fn tell_merge<H: Files + AllocGlobal + Eprint>(
         Ok(told) => {
             let wanted = Wanted {
                 asked: Asked::Merged,
-                nodes: USUAL_NODES,
+                again: Again::usual(),
             };
             tell_end(rt, told, report, done, Some(wanted));
         }

@@ -9,8 +9,8 @@ use std::io::ErrorKind;
 use std::rt::Files;
 use std::{fs, io};
 
-/// The system's numbers of errors: to give a file to another user isn't permitted, a folder or a file gives no access, and a name is
-/// too long.
+/// The system's numbers of errors: to give a file to another user or group isn't permitted, a folder or a file gives no access, and a
+/// name is too long.
 const NOT_PERMITTED: i32 = 1;
 
 const NO_ACCESS: i32 = 13;
@@ -61,7 +61,7 @@ pub(crate) fn tell_unread<R: Files + AllocGlobal + Eprint>(rt: &R, path: &str, w
 pub(crate) fn more_on(why: io::Error) -> &'static str {
     match why.raw_os_error() {
         Some(NOT_PERMITTED) =>
-            "The file that stands there is another user's: only that user or root can replace it.\n",
+            "The file that stands there has an owner or a group that this user cannot give to a new one, or it may not be replaced at all.\n",
         Some(NO_ACCESS) =>
             "It is made beside its path first: its folder has to take new files, and a file that stands there to be writable.\n",
         Some(LONG_NAME) => "While it is made .part stands behind its name: give a shorter one.\n",

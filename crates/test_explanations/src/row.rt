@@ -8,7 +8,7 @@
 //! those of the job; where they can't be read, they aren't known.
 
 use crate::refusals::refusal_of;
-use ec_cli_explain::{Asked, Cycle, Filed, Found, Inputs, Written, advice, explain};
+use ec_cli_explain::{Again, Asked, Cycle, Filed, Found, Inputs, Written, advice, explain};
 use ec_outcome::{Cut, Ending};
 use ec_unit_text::read_units;
 use std::alloc::{AllocError, Global};
@@ -23,12 +23,25 @@ fn part<'a>(head: &'a str, word: &str) -> Option<&'a str> {
     None
 }
 
+/// The number behind a word of the head, if it is there.
+fn number(head: &str, word: &str) -> Option<u32> {
+    part(head, word)?.parse::<u32>().ok()
+}
+
+/// What a search of the head was asked for.
+fn again_of(head: &str) -> Again<'_> {
+    let usual = Again::usual();
+    Again {
+        workers: number(head, "workers ").map_or(1, |count| count as usize),
+        nodes: number(head, "nodes ").unwrap_or(usual.nodes),
+        minutes: number(head, "minutes "),
+        places: part(head, "places "),
+    }
+}
+
 /// What became of the certificate of a search of the head.
 fn filed_of(head: &str) -> Filed<'_> {
-    let bytes = part(head, "bytes ")
-        .unwrap_or("0")
-        .parse::<u64>()
-        .unwrap_or(0);
+    let bytes = u64::from(number(head, "bytes ").unwrap_or(0));
     match part(head, "out ") {
         Some(_) if part(head, "missing").is_some() => Filed::Missing,
         Some(_) if part(head, "beside").is_some() => Filed::TooLarge,
@@ -36,10 +49,7 @@ fn filed_of(head: &str) -> Filed<'_> {
             path,
             units: part(head, "units "),
             bytes,
-            nodes: part(head, "nodes ")
-                .unwrap_or("1000000")
-                .parse::<u32>()
-                .unwrap_or(0),
+            again: again_of(head),
         }),
         None => Filed::Unasked,
     }

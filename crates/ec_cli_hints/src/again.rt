@@ -1,0 +1,64 @@
+//! How a search goes on as the last one did.
+
+use crate::quoted::{Word, is_told_whole};
+use std::fmt;
+
+/// The nodes that a search visits where no number is asked for.
+const USUAL_NODES: u32 = 1_000_000;
+
+/// What a search that goes on is asked for, beside its certificate and its units. It is told as the options of a command.
+#[derive(Clone, Copy)]
+pub struct Again<'a> {
+    /// How many workers search.
+    pub workers: usize,
+    /// How many nodes it may visit.
+    pub nodes: u32,
+    /// After how many minutes it ends; none where time doesn't end it.
+    pub minutes: Option<u32>,
+    /// Where the units with the places of its plan are written, if anywhere.
+    pub places: Option<&'a str>,
+}
+
+impl<'a> Again<'a> {
+    /// One worker, and the usual nodes.
+    pub fn usual() -> Again<'a> {
+        Again {
+            workers: 1,
+            nodes: USUAL_NODES,
+            minutes: None,
+            places: None,
+        }
+    }
+
+    /// The same for as many nodes as before, and at least the usual ones, but for no more than there is room for.
+    pub(crate) fn within(self, room: u64) -> Again<'a> {
+        let room = u32::try_from(room).unwrap_or(u32::MAX);
+        Again {
+            nodes: self.nodes.max(USUAL_NODES).min(room),
+            ..self
+        }
+    }
+
+    /// Whether its path is told as it stands, so that it can be given again.
+    pub(crate) fn is_told_whole(self) -> bool {
+        self.places.is_none_or(is_told_whole)
+    }
+}
+
+impl fmt::Display for Again<'_> {
+    fn fmt<W: fmt::Write>(&self, f: &mut fmt::Formatter<W>) -> fmt::Result {
+        if self.workers > 1 {
+            write!(f, " --workers {}", self.workers)?;
+        }
+        if self.nodes != USUAL_NODES {
+            write!(f, " --nodes {}", self.nodes)?;
+        }
+        if let Some(minutes) = self.minutes {
+            write!(f, " --minutes {minutes}")?;
+        }
+        match self.places {
+            Some(places) => write!(f, " --places {}", Word(places)),
+            None => Ok(()),
+        }
+    }
+}
