@@ -446,8 +446,22 @@ def try_better_places(units, trial):
     trial.holds(again.code == 0, f"places of the same cost: {again.said}")
 
 
+def try_other_places(change, trial):
+    """Better places of a text that says something else, or that no command reads, are replaced."""
+    trial.put("units.toml", example("assembly-line.toml"))
+    trial.run("plan", "--strong", "--places", "placed.toml", "units.toml")
+    other = change(trial.get("placed.toml"))
+    trial.put("placed.toml", other)
+    done = trial.run("plan", "--nodes", "1", "--places", "placed.toml", "units.toml")
+    trial.holds(done.code == 2 and trial.get("placed.toml") != other, f"status {done.code}: {done.said}")
+
+
 def better_places(_outputs):
-    """`--places` where better places for the same units stand."""
+    """`--places` where better places for the same units stand, or for others."""
+    for what, change in (("another station", lambda text: text.replace(b"station = 2001", b"station = 2999")),
+                         ("another tick", lambda text: text.replace(b"tick_ns = ", b"tick_ns = 1")),
+                         ("a text that is too long", lambda text: text + b"#" * 1200000)):
+        yield f"plan --places p, over better places with {what}", partial(try_other_places, change)
     yield "plan --places p, over better places of another text for the same units", partial(try_better_places, "units.toml")
     yield "plan --places p p, over better places of its own", partial(try_better_places, "placed.toml")
 

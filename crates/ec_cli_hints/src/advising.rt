@@ -21,6 +21,8 @@ pub struct Written<'a> {
     pub units: Option<&'a str>,
     /// How many bytes it has.
     pub bytes: u64,
+    /// How many of them each of its nodes takes.
+    pub each: u64,
     /// What its search was asked for, as one that goes on with it is asked again.
     pub again: Again<'a>,
 }
@@ -38,6 +40,14 @@ pub enum Filed<'a> {
     There(Written<'a>),
 }
 
+impl Written<'_> {
+    /// How many nodes a search by such rules may go on with, so that its certificate can be read in most cases: where a node takes more
+    /// bytes of this one than is usual, as many as they leave room for.
+    fn room(self, strong: bool) -> u64 {
+        room_for(self.bytes, self.each.max(bytes_each(strong)))
+    }
+}
+
 impl Filed<'_> {
     /// Whether it is there, or beside its path, with so many bytes that no command reads it.
     fn is_too_large(self) -> bool {
@@ -51,7 +61,7 @@ impl Filed<'_> {
     /// Whether it is there, and leaves no room for a search by such rules that goes on with it.
     fn is_full(self, strong: bool) -> bool {
         match self {
-            Filed::There(cert) => room_beside(cert.bytes, strong) == 0,
+            Filed::There(cert) => cert.room(strong) == 0,
             Filed::Unasked | Filed::Missing | Filed::TooLarge => false,
         }
     }
@@ -86,8 +96,17 @@ pub enum Asked {
 /// How many nodes a search may go on with from a certificate of so many bytes, so that its own can be read in most cases: a node takes
 /// at most 13 bytes of it by the strong rules, and else 10, but for few searches. In thousands (own profile).
 pub fn room_beside(bytes: u64, strong: bool) -> u64 {
-    let each = if strong { 13 } else { 10 };
-    MOST_READ.saturating_sub(bytes) / each / 1000 * 1000
+    room_for(bytes, bytes_each(strong))
+}
+
+/// The most bytes that a node takes in most certificates, by the strong rules or others.
+fn bytes_each(strong: bool) -> u64 {
+    if strong { 13 } else { 10 }
+}
+
+/// How many nodes of so many bytes each fit beside so many bytes, in thousands.
+fn room_for(bytes: u64, each: u64) -> u64 {
+    MOST_READ.saturating_sub(bytes) / each.max(1) / 1000 * 1000
 }
 
 /// A search, or a merge, that ended without a proof.
@@ -118,7 +137,7 @@ impl Search<'_> {
     /// Adds how many nodes one may go on with, where as many as before, or as are usual, may make a certificate that can't be read.
     fn add_room(self, out: &mut Draft, written: Written<'_>) {
         let Written { bytes, again, .. } = written;
-        let room = room_beside(bytes, self.ending.strong);
+        let room = written.room(self.ending.strong);
         if room >= u64::from(again.within(u64::MAX).nodes) || self.asked == Asked::Part {
             return;
         }
@@ -134,9 +153,7 @@ impl Search<'_> {
 
     /// What a search is asked for that goes on from a certificate that was written: as before, within the room that it leaves.
     fn again_from(self, written: Written<'_>) -> Again<'_> {
-        let again = written
-            .again
-            .within(room_beside(written.bytes, self.ending.strong));
+        let again = written.again.within(written.room(self.ending.strong));
         if self.ending.cut == Cut::Journal {
             return Again {
                 workers: 1,
@@ -152,7 +169,7 @@ impl Search<'_> {
         let again = self.again_from(written);
         if !is_told_whole(cert) || !units.is_none_or(is_told_whole) || !again.is_told_whole() {
             return out.add(
-                "The command resume or merge goes on with its certificate, whose path, or that of the units, has characters that aren't told as they are.\n",
+                "The command resume or merge goes on with its certificate, whose path, or that of the units or of their places, has characters that aren't told as they are.\n",
             );
         }
         let on_input = if units.is_none() {

@@ -6,6 +6,9 @@ use std::fmt;
 /// The nodes that a search visits where no number is asked for.
 const USUAL_NODES: u32 = 1_000_000;
 
+/// The same where a time is asked for.
+const TIMED_NODES: u32 = 10_000_000;
+
 /// What a search that goes on is asked for, beside its certificate and its units. It is told as the options of a command.
 #[derive(Clone, Copy)]
 pub struct Again<'a> {
@@ -39,6 +42,14 @@ impl<'a> Again<'a> {
         }
     }
 
+    /// The nodes that it visits where its number isn't told.
+    fn usual_nodes(self) -> u32 {
+        match self.minutes {
+            Some(_) => TIMED_NODES,
+            None => USUAL_NODES,
+        }
+    }
+
     /// Whether its path is told as it stands, so that it can be given again.
     pub(crate) fn is_told_whole(self) -> bool {
         self.places.is_none_or(is_told_whole)
@@ -50,7 +61,7 @@ impl fmt::Display for Again<'_> {
         if self.workers > 1 {
             write!(f, " --workers {}", self.workers)?;
         }
-        if self.nodes != USUAL_NODES {
+        if self.nodes != self.usual_nodes() {
             write!(f, " --nodes {}", self.nodes)?;
         }
         if let Some(minutes) = self.minutes {

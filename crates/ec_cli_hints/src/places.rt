@@ -38,12 +38,12 @@ pub(crate) fn tell_range(out: &mut Draft, doc: Doc<'_>, spot: Spot) {
     out.add(format_args!(
         ", but with its period its phase is 0 to {last_phase}, and with the slots of the file its slot is 0 to {last_slot}.\n"
     ));
-    if unit.number(Key::Slot).unwrap_or(0) > last_slot {
-        add_more_slots(out, doc);
-    }
     out.add(
         "Write one of these, or leave both out: plan --places PATH finds places for all units.\n",
     );
+    if unit.number(Key::Slot).unwrap_or(0) > last_slot {
+        add_more_slots(out, doc);
+    }
 }
 
 /// Tells which half of a place is missing.

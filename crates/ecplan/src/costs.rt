@@ -4,7 +4,7 @@ use ec_cli_files::read_file;
 use ec_cli_text::placed_plan;
 use ec_loads::{Plan, busiest, is_legal};
 use ec_unit_text::read_units;
-use ec_units::{Unit, Units, bytes_of};
+use ec_units::{Slave, Unit, Units};
 use std::alloc::Global;
 use std::rt::Files;
 
@@ -22,17 +22,29 @@ pub(crate) fn placed_cost(alloc: Global, units: &Units) -> Option<u64> {
     legal_cost(units, &placed_plan(alloc, units).ok()?)
 }
 
-/// Whether two units have one name, and as many bytes in as many ticks.
-fn is_same(one: &Unit, other: &Unit) -> bool {
-    one.name.as_str() == other.name.as_str()
-        && one.period == other.period
-        && bytes_of(one) == bytes_of(other)
+/// Whether two slaves are the same, with the same areas.
+fn is_same_slave(one: &Slave, other: &Slave) -> bool {
+    one.station == other.station
+        && (one.out_bytes, one.in_bytes) == (other.out_bytes, other.in_bytes)
+        && (one.out_at, one.in_at) == (other.out_at, other.in_at)
 }
 
-/// Whether two unit texts have the same slots and the same units, whatever their places.
+/// Whether two units are the same, wherever their places are.
+fn is_same(one: &Unit, other: &Unit) -> bool {
+    let (these, those) = (one.slaves.as_slice(), other.slaves.as_slice());
+    one.name.as_str() == other.name.as_str()
+        && one.period == other.period
+        && these.len() == those.len()
+        && these
+            .iter()
+            .zip(those)
+            .all(|(one, other)| is_same_slave(one, other))
+}
+
+/// Whether two unit texts say the same but for places.
 fn are_same(one: &Units, other: &Units) -> bool {
     let (these, those) = (one.units.as_slice(), other.units.as_slice());
-    one.slots == other.slots
+    (one.tick_ns, one.slots) == (other.tick_ns, other.slots)
         && these.len() == those.len()
         && these
             .iter()
@@ -51,6 +63,9 @@ pub(crate) fn has_cheaper<F: Files>(
     let Ok(Some(text)) = read_file(files, alloc, path, MOST_READ) else {
         return false;
     };
+    if text.len() as u64 == MOST_READ {
+        return false;
+    }
     let Ok(held) = read_units(alloc, text.as_slice()) else {
         return false;
     };

@@ -7,7 +7,7 @@ use crate::refusal::tell_refusal;
 use crate::targets::Target;
 use crate::telling::{tell_fault, tell_whole};
 use crate::units::Left;
-use ec_cert::Cert;
+use ec_cert::{Cert, node_count};
 use ec_cli_answers::{File, Told};
 use ec_cli_command::{Effort, Line};
 use ec_cli_explain::{Again, Asked, Cycle, Filed, Found, Written, advice};
@@ -23,6 +23,9 @@ use std::{fs, io};
 
 /// The most nodes that a search may be asked to visit.
 const MOST_NODES: u32 = 10_000_000;
+
+/// From so many nodes on a certificate shows how many bytes a node takes.
+const MANY_NODES: u64 = 100_000;
 
 /// The most minutes that a search may be asked to take.
 const MOST_MINUTES: u32 = 10_000;
@@ -121,13 +124,30 @@ fn file_bytes<R: Files>(files: &R, path: &str) -> Option<u64> {
     Some(found.len()).filter(|_| found.is_file())
 }
 
-/// What became of the certificate of units at a path, if one was to be written; `again` is what a search is asked for that goes on
-/// with it as before.
+/// How many bytes a node takes of a certificate of so many bytes and nodes; none where there are so few that its other lines count.
+fn bytes_each(bytes: u64, nodes: u64) -> u64 {
+    if nodes < MANY_NODES {
+        return 0;
+    }
+    bytes.div_ceil(nodes.max(1))
+}
+
+/// The nodes of the certificate that is told; none of what has none.
+fn nodes_of(told: &Told) -> u64 {
+    match &told.file {
+        File::Cert(cert) => node_count(&cert.tree),
+        _ => 0,
+    }
+}
+
+/// What became of the certificate of units at a path, if one was to be written, which has so many nodes; `again` is what a search is
+/// asked for that goes on with it as before.
 fn filed_at<'x, R: Files>(
     files: &R,
     target: Option<Target<'x>>,
     units: Option<&'x str>,
     fault: Option<&FileFault>,
+    nodes: u64,
     again: Again<'x>,
 ) -> Filed<'x> {
     let Some(Target { path, .. }) = target else {
@@ -141,6 +161,7 @@ fn filed_at<'x, R: Files>(
                 path,
                 units: units.filter(|path| file_bytes(files, path).is_some()),
                 bytes,
+                each: bytes_each(bytes, nodes),
                 again,
             }),
             None => Filed::Missing,
@@ -184,6 +205,7 @@ pub(crate) fn tell_end<R: Files + AllocGlobal + Eprint, E>(
         done.target,
         done.left.path,
         report.fault.as_ref(),
+        nodes_of(told),
         again,
     );
     let (alloc, units) = (rt.alloc(), done.left.units);

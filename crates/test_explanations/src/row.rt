@@ -49,6 +49,7 @@ fn filed_of(head: &str) -> Filed<'_> {
             path,
             units: part(head, "units "),
             bytes,
+            each: u64::from(number(head, "each ").unwrap_or(0)),
             again: again_of(head),
         }),
         None => Filed::Unasked,
