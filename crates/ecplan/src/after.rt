@@ -5,6 +5,7 @@ use crate::costs::has_cheaper;
 use crate::ending::Done;
 use crate::targets::Target;
 use crate::telling::{tell_fault, tell_path, tell_whole};
+use crate::units::MOST_TEXT;
 use ec_checker::Verdict;
 use ec_cli_answers::Told;
 use ec_cli_files::{Content, FileFault, KeepReason, make_whole, read_file};
@@ -25,9 +26,6 @@ const UNPLACED: &str = "The places are not written to";
 /// What is told of a text into which no places can be filled.
 const NO_FORM: &str =
     "Each unit of the text has to begin with a line [[unit]], and each key to have a line of its own";
-
-/// The most bytes of a unit text that are read.
-const MOST_TEXT: usize = 1_048_576;
 
 /// What is told of a text that would be too long to be read.
 const TOO_LONG: &str = "With them the text has more than the 1048576 bytes that are read";
@@ -102,7 +100,7 @@ fn placed_of(alloc: Global, units: &[u8], told: &Told) -> Result<String, AfterFa
         return Err(AfterFault::from(AllocError));
     }
     match place_text(alloc, units, plan.places.as_slice()) {
-        Ok(placed) if placed.len() > MOST_TEXT => Err(AfterFault::Unplaced(TOO_LONG)),
+        Ok(placed) if placed.len() >= MOST_TEXT => Err(AfterFault::Unplaced(TOO_LONG)),
         Ok(placed) => Ok(placed),
         Err(PlacingFault::OutOfMemory) => Err(AfterFault::from(AllocError)),
         Err(_) => Err(AfterFault::Unplaced(NO_FORM)),

@@ -1,5 +1,6 @@
 //! What plans cost, and whether a unit text that stands has a better one.
 
+use crate::units::MOST_TEXT;
 use ec_cli_files::read_file;
 use ec_cli_text::placed_plan;
 use ec_loads::{Plan, busiest, is_legal};
@@ -7,9 +8,6 @@ use ec_unit_text::read_units;
 use ec_units::{Slave, Unit, Units};
 use std::alloc::Global;
 use std::rt::Files;
-
-/// The most bytes of a unit text that are read, and one.
-const MOST_READ: u64 = 1_048_577;
 
 /// What the busiest tick of a plan costs, in wire bytes, if the plan is legal.
 pub(crate) fn legal_cost(units: &Units, plan: &Plan) -> Option<u64> {
@@ -60,10 +58,10 @@ pub(crate) fn has_cheaper<F: Files>(
     units: &Units,
     plan: &Plan,
 ) -> bool {
-    let Ok(Some(text)) = read_file(files, alloc, path, MOST_READ) else {
+    let Ok(Some(text)) = read_file(files, alloc, path, MOST_TEXT as u64) else {
         return false;
     };
-    if text.len() as u64 == MOST_READ {
+    if text.len() == MOST_TEXT {
         return false;
     }
     let Ok(held) = read_units(alloc, text.as_slice()) else {

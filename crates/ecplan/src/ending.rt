@@ -124,30 +124,27 @@ fn file_bytes<R: Files>(files: &R, path: &str) -> Option<u64> {
     Some(found.len()).filter(|_| found.is_file())
 }
 
-/// How many bytes a node takes of a certificate of so many bytes and nodes; none where there are so few that its other lines count.
-fn bytes_each(bytes: u64, nodes: u64) -> u64 {
+/// How many bytes a node takes of the certificate of a search without a proof, which has so many; none where it has so few nodes that
+/// its other lines count.
+fn bytes_each(told: &Told, bytes: u64) -> u64 {
+    let (File::Cert(cert), Some(_)) = (&told.file, told.ending) else {
+        return 0;
+    };
+    let nodes = node_count(&cert.tree);
     if nodes < MANY_NODES {
         return 0;
     }
     bytes.div_ceil(nodes.max(1))
 }
 
-/// The nodes of the certificate that is told; none of what has none.
-fn nodes_of(told: &Told) -> u64 {
-    match &told.file {
-        File::Cert(cert) => node_count(&cert.tree),
-        _ => 0,
-    }
-}
-
-/// What became of the certificate of units at a path, if one was to be written, which has so many nodes; `again` is what a search is
-/// asked for that goes on with it as before.
+/// What became of the certificate of units that is told, if one was to be written; `again` is what a search is asked for that goes on
+/// with it as before.
 fn filed_at<'x, R: Files>(
     files: &R,
     target: Option<Target<'x>>,
     units: Option<&'x str>,
+    told: &Told,
     fault: Option<&FileFault>,
-    nodes: u64,
     again: Again<'x>,
 ) -> Filed<'x> {
     let Some(Target { path, .. }) = target else {
@@ -161,7 +158,7 @@ fn filed_at<'x, R: Files>(
                 path,
                 units: units.filter(|path| file_bytes(files, path).is_some()),
                 bytes,
-                each: bytes_each(bytes, nodes),
+                each: bytes_each(told, bytes),
                 again,
             }),
             None => Filed::Missing,
@@ -204,8 +201,8 @@ pub(crate) fn tell_end<R: Files + AllocGlobal + Eprint, E>(
         rt,
         done.target,
         done.left.path,
+        told,
         report.fault.as_ref(),
-        nodes_of(told),
         again,
     );
     let (alloc, units) = (rt.alloc(), done.left.units);

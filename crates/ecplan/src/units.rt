@@ -9,7 +9,7 @@ use std::rt::Files;
 use std::{fs, io};
 
 /// The most bytes of a unit text that are read, and one, by which a longer one shows.
-const MOST_TEXT: usize = 1_048_577;
+pub(crate) const MOST_TEXT: usize = 1_048_577;
 
 /// What is told where the units come on standard input and that is closed.
 const CLOSED: &str = "The units cannot be read: standard input is closed.\n";
