@@ -232,6 +232,8 @@ int main(int count, char **words)
     int line = socket(AF_PACKET, SOCK_RAW, htons(ETHERCAT));
     if (line < 0 || bind(line, (struct sockaddr *)&place, sizeof place) != 0)
         return perror(words[1]), 2;
+    printf("plan %s tick_ns %d\n", ECPLAN_ID, ECPLAN_TICK_NS);
+    fflush(stdout);
     for (unsigned i = 0; i < ECPLAN_STARTS; i++)
         if (!start(line, i))
             return 1;

@@ -10,5 +10,6 @@ pub mod KeepLemmas
 pub mod ShareLemmas
 pub mod ClosedLemmas
 pub mod FinishLemmas
+pub mod PrefixLemmas
 pub mod OpenLemmas
 pub mod GivenLemmas

@@ -85,11 +85,11 @@ path_back q longer popped p k is count back =
     let less : k - 1 ≡ length q = omega (arith, long, count) in
     back ∙ (λ j. take (less j) (is j)) ∙ take-front q p
 
--- what is added of known places are the tree's, and so many
-pub added : (line : Line) (order : List ℕ) (t : Shape) (q : List Place) (known : Option (Vec (List Place) Global)) (n : ℕ) (old new : List (List Place))
+-- what is added of known prefixes are the tree's, and so many
+pub added : (line : Line) (order : List ℕ) (t : Shape) (q : List Place) (known : Option (List (List Place))) (n : ℕ) (old new : List (List Place))
     → AreOpened line order t q known → IsAddedTo known n old new → (n ≡ length (open_places line order t q)) × (new ≡ old ++ open_places line order t q)
-added line order t q known n old new are (v, is, count, stand) =
-    let these : v.items ≡ open_places line order t q = rw is at are in
+added line order t q known n old new are (qs, is, count, stand) =
+    let these : qs ≡ open_places line order t q = rw is at are in
     (count ∙ ap length these, stand ∙ ap (λ w. old ++ w) these)
 
 -- a tree with no open leaf has none

@@ -1,5 +1,6 @@
 pub mod Steps
 pub mod Numbered
+pub mod Prefixes
 pub mod Open
 pub mod Grown
 pub mod Parts

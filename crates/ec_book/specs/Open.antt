@@ -1,6 +1,5 @@
 -- The prefixes of a tree's open leaves.
 use Rattle.std.specs.Prelude.{◌≡◌, ℕ, List, [], ◌∷◌, ◌++◌, length, drop, set, slice_get, Option, Some, IfSome}
-use Rattle.std.proofs.Common.{Vec, Global}
 use Rattle.ec_units.specs.declared.slave.Place.{Place}
 use Rattle.ec_units.specs.declared.unit.Load.{Load}
 use Rattle.ec_loads.specs.Line.{Line}
@@ -26,13 +25,13 @@ abbrev mutual
 abbrev pub open_places : Line → List ℕ → Shape → List Place → List (List Place)
 open_places line order t q = leaf_places line t (prefix_of line.loads order q) (drop (length q) order) q
 
--- where places are known, they are those that lead to each open leaf of the tree to which `q` leads
-abbrev pub AreOpened : Line → List ℕ → Shape → List Place → Option (Vec (List Place) Global) → Type 0
-AreOpened line order t q known = IfSome known (λ v. v.items ≡ open_places line order t q)
+-- where prefixes are known, they are those of each open leaf of the tree to which `q` leads
+abbrev pub AreOpened : Line → List ℕ → Shape → List Place → Option (List (List Place)) → Type 0
+AreOpened line order t q known = IfSome known (λ qs. qs ≡ open_places line order t q)
 
--- the places are known, so many, and they stand behind those that were there
-abbrev pub IsAddedTo : Option (Vec (List Place) Global) → ℕ → List (List Place) → List (List Place) → Type 0
-IsAddedTo known n old new = (v : Vec (List Place) Global) × (known ≡ Some v) × (n ≡ length v.items) × (new ≡ old ++ v.items)
+-- the prefixes are known, so many, and they stand behind those that were there
+abbrev pub IsAddedTo : Option (List (List Place)) → ℕ → List (List Place) → List (List Place) → Type 0
+IsAddedTo known n old new = (qs : List (List Place)) × (known ≡ Some qs) × (n ≡ length qs) × (new ≡ old ++ qs)
 
 -- the prefix and the units that are left are those to which `q` leads
 abbrev pub LeadsTo : List Load → List ℕ → List Place → Prefix → List ℕ → Type 0

@@ -31,6 +31,7 @@ use crate::judge::{grant_of, judged, not_below};
 use crate::open::opened_by;
 use crate::ours::is_of_part;
 use crate::piece::Piece;
+use crate::prefixes::Prefixes;
 use crate::report::Report;
 use crate::step::{Step, Steps};
 use crate::taken::{Taken, Took};
@@ -56,7 +57,7 @@ pub struct Book {
     rules: Rules,
     nodes: u64,
     pieces: Vec<Piece>,
-    prefixes: Vec<Places>,
+    prefixes: Prefixes,
     leaves: Vec<Tree>,
     reports: Vec<Report>,
     best: Option<Best>,
@@ -85,9 +86,9 @@ impl Model for Book {
 
     ghost coded = { Prim.hlevel (codes, shape_code, rules_code) };
 
-    ghost view = { λ b. book_view b.loads.loads b.loads.slots b.order.items (line_rules b.rules) b.nodes b.pieces.items b.prefixes.items b.best b.spent b.log.items (shape_of b.given) b.given_value b.part };
+    ghost view = { λ b. book_view b.loads.loads b.loads.slots b.order.items (line_rules b.rules) b.nodes b.pieces.items b.prefixes b.best b.spent b.log.items (shape_of b.given) b.given_value b.part };
 
-    ghost invariant = { λ b. IsKept b.loads b.order.items (line_rules b.rules) b.nodes b.pieces.items b.prefixes.items b.reports.items b.best b.spent b.held b.taken b.low b.log.items (shape_of b.given) b.given_value (vec_capacity b.log) b.leaves.items (vec_capacity b.leaves) b.part b.first };
+    ghost invariant = { λ b. IsKept b.loads b.order.items (line_rules b.rules) b.nodes b.pieces.items b.prefixes b.reports.items b.best b.spent b.held b.taken b.low b.log.items (shape_of b.given) b.given_value (vec_capacity b.log) b.leaves.items (vec_capacity b.leaves) b.part b.first };
 }
 
 /// A finished search: the best plan, if one is known, the tree that its reports make of the tree that it was given,
@@ -171,39 +172,31 @@ fn value_in(best: &Option<Best>) -> Option<u64>
     }
 }
 
-/// Takes in the places that lead to new pieces, and makes room for these, for their leaves and for one more report; gives
-/// how many they are. Where the places aren't known or memory is refused they come back, and the lists are as before.
+/// Takes in the prefixes of new pieces, and makes room for these, for their leaves and for one more report; gives how many they
+/// are. `AllocError` where the prefixes aren't known or memory is refused: pieces, reports and prefixes are as before then.
 fn add_opened(
     pieces: &mut Vec<Piece>,
     reports: &mut Vec<Report>,
-    prefixes: &mut Vec<Places>,
+    prefixes: &mut Prefixes,
     leaves: &mut Vec<Tree>,
-    opened: Option<Vec<Places>>,
-) -> Result<usize, Option<Vec<Places>>>
+    opened: &Option<Prefixes>,
+) -> Result<usize, AllocError>
     ensures same { (pieces.new.items ≡ pieces.old.items) × (reports.new.items ≡ reports.old.items) }
     ensures leaves { leaves.new.items ≡ leaves.old.items }
     ensures stays { vec_capacity leaves.old ≤ vec_capacity leaves.new }
     ensures leaf { IfOk result (λ n. vec_len pieces.new + n ≤ vec_capacity leaves.new) }
-    ensures known { IfOk result (λ n. IsAddedTo opened n prefixes.old.items prefixes.new.items) }
+    ensures known { IfOk result (λ n. IsAddedTo opened.now n prefixes.old prefixes.new) }
     ensures room { IfOk result (λ n. (vec_len pieces.new + n ≤ vec_capacity pieces.new) × (vec_len reports.new + 1 ≤ vec_capacity reports.new)) }
-    ensures kept { OnErr result (prefixes.new.items ≡ prefixes.old.items) }
+    ensures kept { OnErr result (prefixes.new ≡ prefixes.old) }
 {
-    let Some(mut opened) = opened else {
-        return Err(None);
+    let Some(opened) = opened else {
+        return Err(AllocError);
     };
     let count = opened.len();
-    let Ok(()) = pieces.reserve(count) else {
-        return Err(Some(opened));
-    };
-    let Ok(()) = reports.reserve(1) else {
-        return Err(Some(opened));
-    };
-    let Ok(()) = leaves.reserve(pieces.capacity()) else {
-        return Err(Some(opened));
-    };
-    let Ok(()) = prefixes.append(&mut opened) else {
-        return Err(Some(opened));
-    };
+    pieces.reserve(count)?;
+    reports.reserve(1)?;
+    leaves.reserve(pieces.capacity())?;
+    prefixes.append(opened)?;
     Ok(count)
 }
 
@@ -234,8 +227,7 @@ impl Book {
         let order = Vec::from_slice(alloc, order)?;
         let mut pieces = Vec::new(alloc);
         pieces.push(Piece::Free)?;
-        let mut prefixes = Vec::new(alloc);
-        prefixes.push(Places::new(Vec::new(alloc)))?;
+        let prefixes = Prefixes::root(alloc)?;
         let leaves = Vec::with_capacity(alloc, 1)?;
         let loads = Loads::new(alloc, units)?;
         Ok(Book {
@@ -287,7 +279,7 @@ impl Book {
         let order = order.into_vec();
         let loads = Loads::new(alloc, units)?;
         let opened = opened_by(alloc, &loads, order.as_slice(), rules, &[], &given)?;
-        let prefixes = opened.places;
+        let prefixes = opened.prefixes;
         let count = prefixes.len();
         let mut pieces = Vec::with_capacity(alloc, count)?;
         let leaves = Vec::with_capacity(alloc, count)?;
@@ -353,7 +345,7 @@ impl Book {
     {
         let grant = self.left().min(u64::from(most)) as u32;
         let alloc = *self.log.allocator();
-        let Ok(prefix) = Vec::from_slice(alloc, self.prefixes[at].as_slice()) else {
+        let Ok(prefix) = self.prefixes.places(alloc, at) else {
             return Err(BookFault::OutOfMemory);
         };
         let Some(more) = self.taken.checked_add(2) else {
@@ -521,9 +513,9 @@ impl Book {
         }
     }
 
-    /// Reports a subtree that was counted before. Nothing in it takes time in proportion to the nodes of the subtree; the
-    /// pieces that it opens are added, and where the lists of pieces, of their prefixes and of reports are full, these
-    /// grow. Where the open leaves aren't known it is refused for want of memory, unless for another reason.
+    /// Reports a subtree that was counted before. It copies the nodes of the new prefixes, one for each split above an open leaf and
+    /// for each open leaf, and adds the pieces; where a list is full, it grows. Nothing else in it takes time in proportion to the
+    /// subtree. Where the open leaves aren't known it is refused for want of memory, unless for another reason.
     pub fn report_counted(
         &mut self,
         worker: usize,
@@ -542,23 +534,23 @@ impl Book {
     {
         let value = value_in(&self.best);
         let pieces = self.pieces.as_slice();
-        let prefixes = self.prefixes.as_slice();
+        let prefixes = &self.prefixes;
         let grant = match judged(pieces, prefixes, value, worker, piece, prefix, &counted) {
             Ok(grant) => grant,
             Err(fault) => return Err((fault, counted)),
         };
-        let Counted { sub, nodes, opened } = counted;
         let first = self.pieces.len();
         let count = match add_opened(
             &mut self.pieces,
             &mut self.reports,
             &mut self.prefixes,
             &mut self.leaves,
-            opened,
+            &counted.opened,
         ) {
             Ok(count) => count,
-            Err(opened) => return Err((BookFault::OutOfMemory, Counted { sub, nodes, opened })),
+            Err(_) => return Err((BookFault::OutOfMemory, counted)),
         };
+        let Counted { sub, nodes, .. } = counted;
         self.log.push_reserved(Step::Reported {
             worker,
             piece,

@@ -9,26 +9,27 @@ ghost use Rattle.ec_symmetry.specs.Ruled.{line_rules};
 ghost use Rattle.ec_book.specs.Open.{AreOpened};
 
 use crate::open::{Opened, opened_by};
+use crate::prefixes::Prefixes;
 use ec_cert::{Subtree, node_count};
-use ec_loads::{Loads, Places};
+use ec_loads::Loads;
 use ec_symmetry::Rules;
 use ec_units::Place;
 use std::alloc::Global;
 
 /// A subtree with what takes time in proportion to it, worked out before its report: its nodes (or the greatest number,
-/// where that is smaller), and the places that lead to each of its open leaves, in preorder. None where these places
-/// aren't known, as where memory was refused.
+/// where that is smaller), and the prefixes of its open leaves, in preorder. None where these aren't known, as where memory
+/// was refused.
 #[derive(Drop)]
 pub struct Counted {
     pub sub: Subtree,
     pub nodes: u64,
-    pub opened: Option<Vec<Places>>,
+    pub opened: Option<Prefixes>,
     pub ghost nodes_is: { nodes ≡ min (node_count_of (shape_of sub.tree)) 18446744073709551615 },
 }
 
 impl Counted {
     /// Counts a subtree by these rules, to which `prefix` leads. Its time and memory are in proportion to the subtree and what it leaves
-    /// open; where memory is refused, the places aren't known.
+    /// open; where memory is refused, the prefixes aren't known.
     pub fn of(
         alloc: Global,
         loads: &Loads,
@@ -45,10 +46,10 @@ impl Counted {
             return Counted::unopened(sub);
         }
         match opened_by(alloc, loads, order, rules, prefix, &sub.tree) {
-            Ok(Opened { nodes, places }) => Counted {
+            Ok(Opened { nodes, prefixes }) => Counted {
                 sub,
                 nodes,
-                opened: Some(places),
+                opened: Some(prefixes),
             },
             Err(_) => Counted::unopened(sub),
         }

@@ -9,23 +9,8 @@ ghost use Rattle.ec_book.specs.Steps.{IsBelow};
 use crate::counted::Counted;
 use crate::fault::BookFault;
 use crate::piece::Piece;
-use ec_loads::Places;
+use crate::prefixes::Prefixes;
 use ec_units::Place;
-
-/// Whether two lists of places are one.
-fn are_same(these: &[Place], those: &[Place]) -> bool
-    ensures { IsTrue result ↔ (these.now ≡ those.now) }
-{
-    if these.len() != those.len() {
-        return false;
-    }
-    for i in 0..these.len() {
-        if these[i] != those[i] {
-            return false;
-        }
-    }
-    true
-}
 
 /// Whether one value is at most another; none is above every number.
 fn is_at_most(value: Option<u64>, other: Option<u64>) -> bool
@@ -63,7 +48,7 @@ pub(crate) fn grant_of(pieces: &[Piece], worker: usize, piece: u64) -> Result<u3
 /// The grant of the piece, where the subtree is welcome.
 pub(crate) fn judged(
     pieces: &[Piece],
-    prefixes: &[Places],
+    prefixes: &Prefixes,
     value: Option<u64>,
     worker: usize,
     piece: u64,
@@ -79,7 +64,7 @@ pub(crate) fn judged(
         Ok(grant) => grant,
         Err(fault) => return Err(fault),
     };
-    if !are_same(prefixes[piece as usize].as_slice(), prefix) {
+    if !prefixes.has_places(piece as usize, prefix) {
         return Err(BookFault::Stranger);
     }
     if !is_at_most(value, counted.sub.threshold) {

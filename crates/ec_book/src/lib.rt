@@ -10,6 +10,7 @@ mod law;
 mod open;
 mod ours;
 mod piece;
+mod prefixes;
 mod report;
 mod step;
 mod taken;
@@ -23,5 +24,6 @@ pub use law::{
 };
 pub use ours::is_of_part;
 pub use piece::Piece;
+pub use prefixes::Prefixes;
 pub use step::{Step, Steps};
 pub use taken::{Taken, Took};

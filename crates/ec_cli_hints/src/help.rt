@@ -72,6 +72,8 @@ pub(crate) fn help(ending: Ending, asked: Asked) -> &'static str {
             "The time was over before the leaves of this part were closed: what it closed stays closed when it is merged.\n",
         (Asked::Part, Cut::Memory) =>
             "Memory ran out before the leaves of this part were closed: what it closed stays closed when it is merged.\n",
+        (Asked::Whole | Asked::Most, Cut::Parts) =>
+            "No leaf of this part is open. Those that are open were left to the other parts, and its certificate has them still.\n",
         (Asked::Merged, _) =>
             "Some leaves are still open: none of these certificates closes them.\n",
         (Asked::Whole | Asked::Most | Asked::Part, _) => help_whole(ending),

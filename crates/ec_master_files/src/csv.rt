@@ -4,7 +4,7 @@ ghost use Rattle.ec_units.specs.Load.{loads_of};
 ghost use Rattle.ec_loads.specs.Legal.{IsLegal};
 
 use crate::seats::{Seat, Side, seats_of};
-use ec_fmmu::{Group, layout};
+use ec_fmmu::{Group, Mapping, layout};
 use ec_loads::Plan;
 use ec_text_builder::Draft;
 use ec_units::Units;
@@ -58,6 +58,20 @@ fn add_seats(table: &mut Draft, groups: &[Group], seats: &[Seat<'_>]) {
     }
 }
 
+/// The table of a plan with this layout.
+pub(crate) fn map_in(
+    alloc: Global,
+    units: &Units,
+    plan: &Plan,
+    mapping: &Mapping,
+) -> Result<String, AllocError> {
+    let seats = seats_of(alloc, units, plan.places.as_slice(), mapping)?;
+    let mut table = Draft::new(alloc);
+    table.add(HEAD);
+    add_seats(&mut table, mapping.groups.as_slice(), seats.as_slice());
+    table.finish()
+}
+
 /// Where the process bytes of a legal plan lie, as a table: CSV (RFC 4180) with a header row, and two rows for each slave in
 /// file order, of its outputs and of its inputs. Offsets, lengths and the expected working counter are decimal numbers,
 /// addresses hexadecimal ones; of a direction without bytes the logical address and the offset are left out. Only want of
@@ -66,9 +80,5 @@ pub fn map_of(alloc: Global, units: &Units, plan: &Plan) -> Result<String, Alloc
     requires { IsLegal (loads_of units.now.units) units.now.slots plan.now.places }
 {
     let mapping = layout(alloc, units, plan)?;
-    let seats = seats_of(alloc, units, plan.places.as_slice(), &mapping)?;
-    let mut table = Draft::new(alloc);
-    table.add(HEAD);
-    add_seats(&mut table, mapping.groups.as_slice(), seats.as_slice());
-    table.finish()
+    map_in(alloc, units, plan, &mapping)
 }

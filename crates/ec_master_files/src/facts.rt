@@ -9,6 +9,17 @@ use ec_text_builder::Draft;
 use ec_units::Units;
 use ec_wire::{BYTE_NS, fits};
 
+/// Adds the identity of the plan.
+pub(crate) fn add_identity(page: &mut Draft, identity: u64) {
+    add_fact(
+        page,
+        "Identity",
+        format_args!(
+            "{identity:016x}: ECPLAN_ID of its header, the first digits of the SHA-256 of its map"
+        ),
+    );
+}
+
 /// Adds how many units, slaves, bytes, groups and frames there are.
 fn add_counts(page: &mut Draft, units: &Units, mapping: &Mapping, laid: &Laid<'_>) {
     add_fact(page, "Units", units.units.as_slice().len());

@@ -8,6 +8,7 @@ mod claim;
 mod csv;
 mod facts;
 mod frame_rows;
+mod identity;
 mod laid;
 mod page;
 mod seats;

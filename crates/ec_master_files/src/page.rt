@@ -4,8 +4,9 @@ ghost use Rattle.ec_units.specs.Load.{loads_of};
 ghost use Rattle.ec_loads.specs.Legal.{IsLegal};
 
 use crate::claim::Claim;
-use crate::facts::{add_claim, add_facts};
+use crate::facts::{add_claim, add_facts, add_identity};
 use crate::frame_rows::add_ticks;
+use crate::identity::identity_of;
 use crate::laid::{Laid, laid_of};
 use crate::slave_rows::add_slaves;
 use crate::style::{CLAIM, END, FACTS, FRAMES, GROUPS, HEAD, PICTURE, SLAVES, UNITS};
@@ -31,9 +32,10 @@ fn add_tables(page: &mut Draft, units: &Units, plan: &Plan, mapping: &Mapping, l
 }
 
 /// A legal plan as a page for who brings the line into service: one HTML document without scripts and without anything from
-/// outside. It tells the limits, the busiest tick and whether it fits, what is proved of the plan, what each tick costs as a
-/// picture, and in tables the units with their places, the groups, the slaves with their addresses, FMMU records and expected
-/// working counters, and the frames of each tick. Times are ns, lengths bytes. Only want of memory is an error (own profile).
+/// outside. It tells the identity of the plan, the limits, the busiest tick and whether it fits, what is proved of the plan, what
+/// each tick costs as a picture, and in tables the units with their places, the groups, the slaves with their addresses, FMMU
+/// records and expected working counters, and the frames of each tick. Times are ns, lengths bytes. Only want of memory is an error
+/// (own profile).
 pub fn report_of(
     alloc: Global,
     units: &Units,
@@ -44,10 +46,12 @@ pub fn report_of(
 {
     let mapping = layout(alloc, units, plan)?;
     let laid = laid_of(alloc, units, plan, &mapping)?;
+    let identity = identity_of(alloc, units, plan, &mapping)?;
     let drawn = picture(alloc, units, plan)?;
     let mut page = Draft::new(alloc);
     page.add(HEAD);
     page.add(FACTS);
+    add_identity(&mut page, identity);
     add_facts(&mut page, units, &mapping, &laid);
     page.add(CLAIM);
     add_claim(&mut page, &laid, claim);

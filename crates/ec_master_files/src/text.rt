@@ -5,6 +5,7 @@ ghost use Rattle.ec_loads.specs.Legal.{IsLegal};
 ghost use Rattle.ec_frame_builder.specs.Frames.{HasLayout};
 
 use crate::cells::time_of;
+use crate::identity::identity_of;
 use crate::laid::{Laid, laid_of};
 use crate::tables::{
     add_frames, add_groups, add_numbers, add_slaves, add_start_bytes, add_starts, add_ticks,
@@ -17,6 +18,13 @@ use ec_player::{Trip, start_trips};
 use ec_text_builder::Draft;
 use ec_units::Units;
 use std::alloc::{AllocError, Global};
+
+/// Adds the identity of the plan.
+fn add_identity(text: &mut Draft, identity: u64) {
+    text.add(format_args!(
+        "#define ECPLAN_ID \"{identity:016x}\" /* of the plan: 16 hex digits, the first of the SHA-256 of its map */\n"
+    ));
+}
 
 /// Adds the numbers of the line.
 fn add_line_numbers(text: &mut Draft, units: &Units, mapping: &Mapping, laid: &Laid<'_>) {
@@ -77,8 +85,10 @@ fn header_in(
 {
     let laid = laid_of(alloc, units, plan, mapping)?;
     let trips = start_trips(alloc, units, mapping)?;
+    let identity = identity_of(alloc, units, plan, mapping)?;
     let mut text = Draft::new(alloc);
     text.add(HEAD);
+    add_identity(&mut text, identity);
     add_line_numbers(&mut text, units, mapping, &laid);
     add_lengths(&mut text, mapping, &laid, trips.as_slice());
     add_cyclic(&mut text, mapping, &laid);
@@ -91,10 +101,11 @@ fn header_in(
 }
 
 /// A legal plan as a C header for a master: C99, without code, with tables and numbers alone, whose names begin `ecplan_` and
-/// `ECPLAN_`. It has the ticks, their length and the time that the busiest one takes in ns, the slots and the bytes of the process image; of each slave its unit,
-/// station, the bytes of outputs and inputs in the image and in its memory, and its FMMU records; of each group its slot,
-/// period and phase in ticks, address, bytes and expected working counter; the frames of each tick with their groups; and the
-/// frames before the first tick with their working counters. Only want of memory is an error (own profile).
+/// `ECPLAN_`. It has the identity of the plan, the ticks, their length and the time that the busiest one takes in ns, the slots and
+/// the bytes of the process image; of each slave its unit, station, the bytes of outputs and inputs in the image and in its memory,
+/// and its FMMU records; of each group its slot, period and phase in ticks, address, bytes and expected working counter; the frames
+/// of each tick with their groups; and the frames before the first tick with their working counters. Only want of memory is an
+/// error (own profile).
 pub fn header_of(alloc: Global, units: &Units, plan: &Plan) -> Result<String, AllocError>
     requires { IsLegal (loads_of units.now.units) units.now.slots plan.now.places }
 {

@@ -5,19 +5,19 @@ use crate::output::tell_untold;
 use crate::progress::effort_of;
 use crate::refusal::tell_refusal;
 use crate::targets::Target;
-use crate::telling::{tell_fault, tell_whole};
+use crate::telling::{tell, tell_fault, tell_whole};
 use crate::units::Left;
 use ec_cert::{Cert, node_count};
 use ec_cli_answers::{File, Told};
 use ec_cli_command::{Effort, Line};
 use ec_cli_explain::{Again, Asked, Cycle, Filed, Found, Written, advice};
-use ec_cli_files::FileFault;
+use ec_cli_files::{FileFault, are_one};
 use ec_cli_refusals::Refusal;
 use ec_cli_run::Report;
 use ec_outcome::Cut;
 use ec_unit_text::read_units;
 use ec_units::Units;
-use std::alloc::Global;
+use std::alloc::{AllocError, Global};
 use std::rt::Files;
 use std::{fs, io};
 
@@ -54,12 +54,30 @@ fn places_of(line: &Line) -> Option<&str> {
     }
 }
 
+/// Whether a line made a part of a certificate beside it, so that it can be merged with the other parts.
+fn is_part_beside<R: Files + AllocGlobal>(rt: &R, line: &Line) -> bool {
+    match line {
+        Line::Resume {
+            cert,
+            part,
+            out: Some(out),
+            ..
+        } => part.count > 1 && !are_one(rt, rt.alloc(), cert.as_str(), out.as_str()),
+        Line::Resume { part, .. } => part.count > 1,
+        _ => false,
+    }
+}
+
 /// What a search was asked for; none of a line that searches for nothing.
-fn wanted_of<'a>(line: &'a Line, told: &Told) -> Option<Wanted<'a>> {
+fn wanted_of<'a, R: Files + AllocGlobal>(
+    rt: &R,
+    line: &'a Line,
+    told: &Told,
+) -> Option<Wanted<'a>> {
     let effort = effort_of(line)?;
-    let asked = match (line, &told.ending) {
-        (Line::Resume { part, .. }, _) if part.count > 1 => Asked::Part,
-        (_, Some(ending)) if is_most(&effort, ending.cut) => Asked::Most,
+    let asked = match told.ending {
+        _ if is_part_beside(rt, line) => Asked::Part,
+        Some(ending) if is_most(&effort, ending.cut) => Asked::Most,
         _ => Asked::Whole,
     };
     let again = Again {
@@ -115,6 +133,32 @@ fn tell_given<R: AllocGlobal + Eprint>(rt: &R, told: &Told, units: &[u8]) {
     };
     if let Some(cost) = told_cost(rt.alloc(), told, &units) {
         tell_unfit(rt, Cycle::of(&units), cost);
+    }
+}
+
+/// That the places of the units cost so many bytes in their busiest tick, where the plan of a search costs so many, or there is none.
+fn cheaper_text(alloc: Global, own: u64, found: Option<u64>) -> Result<String, AllocError> {
+    match found {
+        Some(found) => format!(in alloc;
+            "The places in the unit text are better: their busiest tick costs {own} bytes, and that of this plan {found}.\n"
+        ),
+        None => format!(in alloc;
+            "The places in the unit text are a legal plan: its busiest tick costs {own} bytes.\n"
+        ),
+    }
+}
+
+/// Tells that the places of the units are better than the plan that a search found, if they are: it doesn't begin at them.
+fn tell_cheaper<R: AllocGlobal + Eprint>(rt: &R, told: &Told, units: &[u8]) {
+    let Ok(units) = read_units(rt.alloc(), units) else {
+        return;
+    };
+    let Some(own) = placed_cost(rt.alloc(), &units) else {
+        return;
+    };
+    let found = told.plan().and_then(|plan| legal_cost(&units, plan));
+    if found.is_none_or(|found| own < found) {
+        tell(rt, cheaper_text(rt.alloc(), own, found));
     }
 }
 
@@ -212,7 +256,8 @@ pub(crate) fn tell_end<R: Files + AllocGlobal + Eprint, E>(
 }
 
 /// Tells what came of a line: why standard output hasn't got the text, what a refusal means, why a file isn't at its path or
-/// where it lies, what was found where standard output hasn't got it, and what would help a search that ended without a proof.
+/// where it lies, what was found where standard output hasn't got it, what would help a search that ended without a proof, and where
+/// the units' own places are better.
 /// Where that can't be written or made, nothing is told.
 pub(crate) fn tell_line<R: Files + AllocGlobal + Eprint>(
     rt: &R,
@@ -223,12 +268,15 @@ pub(crate) fn tell_line<R: Files + AllocGlobal + Eprint>(
     tell_untold(rt, done.untold);
     match &report.told {
         Ok(told) => {
-            tell_end(rt, told, report, done, wanted_of(line, told));
-            if matches!(
-                line,
-                Line::Cost { .. } | Line::Frames { .. } | Line::Play { .. }
-            ) {
-                tell_given(rt, told, done.left.units);
+            tell_end(rt, told, report, done, wanted_of(rt, line, told));
+            match line {
+                Line::Cost { .. } | Line::Frames { .. } | Line::Play { .. } => {
+                    tell_given(rt, told, done.left.units);
+                }
+                Line::Plan { .. } | Line::Resume { .. } => {
+                    tell_cheaper(rt, told, done.left.units);
+                }
+                Line::Check { .. } => {}
             }
         }
         Err(refusal) => tell_refusal(rt, refusal, line.cert(), line.out(), done.left),

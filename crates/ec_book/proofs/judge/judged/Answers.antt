@@ -1,6 +1,6 @@
-use Rattle.std.proofs.Common.{◌≡◌, ℕ, List, Option, length, refl, sym, arith}
+use Rattle.std.proofs.Common.{ℕ, List, Option, refl, arith}
 use Rattle.std.proofs.lemmas.Grind.{common_steps}
-use Rattle.std.proofs.lemmas.Option.{slice_get_read, slice_get_within}
+use Rattle.std.proofs.lemmas.Option.{slice_get_within}
 use borrow.Author.Tests.{both_ways}
 use Rattle.ec_units.specs.declared.slave.Place.{Place}
 use Rattle.ec_book.specs.declared.piece.Piece.{Piece}
@@ -25,34 +25,22 @@ not-held pieces prefixes value worker p prefix threshold nodes fault.NotFree is 
 pub returns-in-Err-clause-err : goal.returns-in-Err-clause-err
 returns-in-Err-clause-err c = not-held _ _ _ _ _ _ _ _ c.in-Err.fault c.in-Err.ensures.err
 
-pub bounds-prefixes-piece : goal.bounds-prefixes-piece
-bounds-prefixes-piece c = omega (arith, slice_get_within c.args.pieces.now c.args.piece (Taken c.args.worker c.in-Ok.grant) c.in-Ok.ensures.ok, c.requires.each)
+pub has_places-requires : goal.has_places-requires
+has_places-requires c = omega (arith, slice_get_within c.args.pieces.now c.args.piece (Taken c.args.worker c.in-Ok.grant) c.in-Ok.ensures.ok, c.requires.each)
 
-pub returns-then-not-are_same-clause-err : goal.returns-then-not-are_same-clause-err
-returns-then-not-are_same-clause-err c =
-    let at = slice_get_within c.args.pieces.now c.args.piece (Taken c.args.worker c.in-Ok.grant) c.in-Ok.ensures.ok in
-    let read = slice_get_read c.args.prefixes.now (length c.args.pieces.now) c.args.piece c.index-prefixes-piece.result (sym c.requires.each) at c.index-prefixes-piece.is in
-    (c.in-Ok.grant, c.in-Ok.ensures.ok, λ is. let same : c.as_slice.result.now ≡ c.args.prefix.now = cc in absurd (both_ways _ c.if-not-are_same.true (c.are_same.ensures.1 same)))
+pub returns-then-not-has_places-clause-err : goal.returns-then-not-has_places-clause-err
+returns-then-not-has_places-clause-err c = (c.in-Ok.grant, c.in-Ok.ensures.ok, λ is. absurd (both_ways _ c.if-not-has_places.true (c.has_places.ensures.1 is)))
 
 pub returns-then-not-is_at_most-clause-err : goal.returns-then-not-is_at_most-clause-err
-returns-then-not-is_at_most-clause-err c =
-    let at = slice_get_within c.args.pieces.now c.args.piece (Taken c.args.worker c.in-Ok.grant) c.in-Ok.ensures.ok in
-    let read = slice_get_read c.args.prefixes.now (length c.args.pieces.now) c.args.piece c.index-prefixes-piece.result (sym c.requires.each) at c.index-prefixes-piece.is in
-    (c.in-Ok.grant, c.in-Ok.ensures.ok, rw (← c.are_same.ensures.0 c.if-not-are_same.false, c.as_slice.ensures) read, refl, λ most. absurd (both_ways _ c.if-not-is_at_most.true (c.is_at_most.ensures.1 most)))
+returns-then-not-is_at_most-clause-err c = (c.in-Ok.grant, c.in-Ok.ensures.ok, c.has_places.ensures.0 c.if-not-has_places.false, refl, λ most. absurd (both_ways _ c.if-not-is_at_most.true (c.is_at_most.ensures.1 most)))
 
 pub returns-then-nodes-from-clause-err : goal.returns-then-nodes-from-clause-err
-returns-then-nodes-from-clause-err c =
-    let at = slice_get_within c.args.pieces.now c.args.piece (Taken c.args.worker c.in-Ok.grant) c.in-Ok.ensures.ok in
-    let read = slice_get_read c.args.prefixes.now (length c.args.pieces.now) c.args.piece c.index-prefixes-piece.result (sym c.requires.each) at c.index-prefixes-piece.is in
-    (c.in-Ok.grant, c.in-Ok.ensures.ok, rw (← c.are_same.ensures.0 c.if-not-are_same.false, c.as_slice.ensures) read, c.is_at_most.ensures.0 c.if-not-is_at_most.false, grind (arith, common_steps))
+returns-then-nodes-from-clause-err c = (c.in-Ok.grant, c.in-Ok.ensures.ok, c.has_places.ensures.0 c.if-not-has_places.false, c.is_at_most.ensures.0 c.if-not-is_at_most.false, grind (arith, common_steps))
 
 pub returns-clause-ok : goal.returns-clause-ok
-returns-clause-ok c =
-    let at = slice_get_within c.args.pieces.now c.args.piece (Taken c.args.worker c.in-Ok.grant) c.in-Ok.ensures.ok in
-    let read = slice_get_read c.args.prefixes.now (length c.args.pieces.now) c.args.piece c.index-prefixes-piece.result (sym c.requires.each) at c.index-prefixes-piece.is in
-    record {
-      held = c.in-Ok.ensures.ok;
-      place = rw (← c.are_same.ensures.0 c.if-not-are_same.false, c.as_slice.ensures) read;
-      ahead = c.is_at_most.ensures.0 c.if-not-is_at_most.false;
-      fits = grind (arith, common_steps);
-    }
+returns-clause-ok c = record {
+  held = c.in-Ok.ensures.ok;
+  place = c.has_places.ensures.0 c.if-not-has_places.false;
+  ahead = c.is_at_most.ensures.0 c.if-not-is_at_most.false;
+  fits = grind (arith, common_steps);
+}

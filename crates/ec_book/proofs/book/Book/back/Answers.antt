@@ -54,7 +54,7 @@ invariant_of-self c =
       counted =
           counted-back (is_of_part b.part b.first) (start (shape_of b.given) b.given_value) b.nodes b.pieces.items (value_of b.best) b.spent b.held b.taken b.low b.log.items _ inv.counted c.args.worker c.args.piece c.in-Ok.grant
           c.push_reserved.new.self.items at c.push_reserved.ensures.items;
-      grown = grown-set (shape_of b.given) (line_by (line_rules b.rules) b.loads.loads b.loads.slots) b.order.items b.pieces.items b.prefixes.items b.reports.items (value_of b.best) b.spent inv.grown c.args.piece (Taken c.args.worker c.in-Ok.grant) Free at refl;
+      grown = grown-set (shape_of b.given) (line_by (line_rules b.rules) b.loads.loads b.loads.slots) b.order.items b.pieces.items b.prefixes b.reports.items (value_of b.best) b.spent inv.grown c.args.piece (Taken c.args.worker c.in-Ok.grant) Free at refl;
       spare = inv.spare;
       shared = record { part_is = inv.shared.part_is; first_is = inv.shared.first_is; parted = parted-back (is_of_part b.part b.first) b.pieces.items b.reports.items inv.shared.parted c.args.piece };
     })
@@ -62,7 +62,7 @@ invariant_of-self c =
 pub returns-clause-ok : goal.returns-clause-ok
 returns-clause-ok c =
     let b = c.self.inside in
-    rw (← c.self.view_is) (λ j. book_view b.loads.loads b.loads.slots b.order.items (line_rules b.rules) b.nodes (set b.pieces.items c.args.piece Free) b.prefixes.items b.best b.spent (c.push_reserved.ensures.items j) (shape_of b.given) b.given_value b.part)
+    rw (← c.self.view_is) (λ j. book_view b.loads.loads b.loads.slots b.order.items (line_rules b.rules) b.nodes (set b.pieces.items c.args.piece Free) b.prefixes b.best b.spent (c.push_reserved.ensures.items j) (shape_of b.given) b.given_value b.part)
 
 pub returns-clause-held : goal.returns-clause-held
 returns-clause-held c =

@@ -1,5 +1,5 @@
 use Rattle.std.proofs.Common.{◌≡◌, true, ap, ◌<◌, ◌+◌, ◌-◌, arith, refl, sym, ◌∙◌, vec_capacity, slice_get, Some, rules}
-use Rattle.std.proofs.lemmas.Option.{slice_get_read, slice_get_within}
+use Rattle.std.proofs.lemmas.Option.{slice_get_within}
 use Rattle.ec_loads.specs.Line.{line_by}
 use Rattle.ec_loads.specs.Search.{open_count}
 use Rattle.ec_cert.specs.Shapes.{shape_of}
@@ -32,7 +32,7 @@ invariant_of-self-2 c =
           (vec_capacity c.push_reserved.new.self) c.push_reserved.new.self.items at
           (omega (arith, c.min-grant.ensures, c.from.ensures, some, left, c.requires.some)) (omega (arith, c.min-grant.ensures, left, counted.held_is)) log_is
           (omega (arith, c.in-Ok-reserve.ensures.ok, c.in-Some.ensures.1, c.push_reserved.ensures.capacity, c.reserve.ensures.len, b.log.ok.0));
-      grown = grown-set (shape_of b.given) (line_by (line_rules b.rules) b.loads.loads b.loads.slots) b.order.items b.pieces.items b.prefixes.items b.reports.items (value_of b.best) b.spent inv.grown p Free (Taken c.args.worker g) at refl;
+      grown = grown-set (shape_of b.given) (line_by (line_rules b.rules) b.loads.loads b.loads.slots) b.order.items b.pieces.items b.prefixes b.reports.items (value_of b.best) b.spent inv.grown p Free (Taken c.args.worker g) at refl;
       spare = inv.spare;
       shared = record { part_is = inv.shared.part_is; first_is = inv.shared.first_is; parted = parted-took (is_of_part b.part b.first) b.pieces.items b.reports.items inv.shared.parted p c.args.worker g own };
     })
@@ -41,20 +41,22 @@ pub returns-clause-ok : goal.returns-clause-ok
 returns-clause-ok c =
     let b = c.self.inside in
     let grown = c.self.invariant.grown in
-    let taken : (slice_get b.pieces.items c.args.at ≡ Some Free) × (is_of_part b.part (open_count (shape_of b.given)) c.args.at ≡ true) = rw (← c.self.view_is) at c.requires.free in
-    let free = taken.0 in
-    let same : c.new.result ≡ c.index.result.now = c.new.ensures ∙ c.in-Ok.ensures.items ∙ c.as_slice.ensures in
-    let place : slice_get b.prefixes.items c.args.at ≡ Some c.new.result =
-    slice_get_read b.prefixes.items _ c.args.at c.new.result (sym grown.each) (slice_get_within b.pieces.items c.args.at Free free) (rw same c.index.ensures) in (
+    let place : slice_get b.prefixes c.args.at ≡ Some c.new.result = c.in-Ok.ensures ∙ ap Some (sym c.new.ensures) in (
       refl,
       record {
         free = c.requires.free.0;
         own = c.requires.free.1;
         place = rw (← c.self.view_is) place;
-        reached = rw (← c.self.view_is) (reached_at (line_by (line_rules b.rules) b.loads.loads b.loads.slots) b.order.items b.prefixes.items c.args.at c.new.result place grown.reached);
+        reached = rw (← c.self.view_is) (reached_at (line_by (line_rules b.rules) b.loads.loads b.loads.slots) b.order.items b.prefixes c.args.at c.new.result place grown.reached);
         value = search rules;
         grant = search rules;
         some = search rules;
         book = search rules;
       },
     )
+
+pub places-requires : goal.places-requires
+places-requires c =
+    let b = c.self.inside in
+    let free : (slice_get b.pieces.items c.args.at ≡ Some Free) × (is_of_part b.part (open_count (shape_of b.given)) c.args.at ≡ true) = rw (← c.self.view_is) at c.requires.free in
+    omega (arith, slice_get_within b.pieces.items c.args.at Free free.0, c.self.invariant.grown.each)

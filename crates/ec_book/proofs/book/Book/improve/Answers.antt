@@ -23,7 +23,7 @@ invariant_of-self-2 c =
           counted-better (is_of_part b.part b.first) (start (shape_of b.given) b.given_value) b.nodes b.pieces.items (value_of b.best) b.spent b.held b.taken b.low b.log.items _ inv.counted c.args.worker v
           (vec_capacity c.push_reserved.new.self) c.push_reserved.new.self.items below log_is
           (omega (arith, c.in-Ok.ensures.ok, c.in-Some-checked_add.ensures.1, c.push_reserved.ensures.capacity, c.reserve.ensures.len, b.log.ok.0));
-      grown = grown-better (shape_of b.given) (line_by (line_rules b.rules) b.loads.loads b.loads.slots) b.order.items b.pieces.items b.prefixes.items b.reports.items (value_of b.best) b.spent inv.grown v below;
+      grown = grown-better (shape_of b.given) (line_by (line_rules b.rules) b.loads.loads b.loads.slots) b.order.items b.pieces.items b.prefixes b.reports.items (value_of b.best) b.spent inv.grown v below;
       spare = inv.spare;
       shared = inv.shared;
     }

@@ -20,22 +20,22 @@ use Rattle.ec_book.proofs.OpenLemmas.{added}
 use Rattle.ec_book.proofs.book.Book.report_counted.Goals as goal
 
 pub judged-requires : goal.judged-requires
-judged-requires c = rw (c.as_slice-pieces.ensures.value, c.as_slice-prefixes.ensures.value) (record { each = c.self.invariant.grown.each })
+judged-requires c = rw c.as_slice-pieces.ensures.value (record { each = c.self.invariant.grown.each })
 
 pub returns-in-Err-clause-err : goal.returns-in-Err-clause-err
 returns-in-Err-clause-err c =
     let b = c.self.inside in
     let sub = c.args.counted.sub in
-    let fault : IsReportFault b.pieces.items b.prefixes.items (value_of b.best) c.args.worker c.args.piece c.args.prefix.now sub.threshold (node_count (shape_of sub.tree)) c.in-Err.fault =
-    rw (c.as_slice-pieces.ensures.value, c.as_slice-prefixes.ensures.value, c.value_in-value.ensures) at c.in-Err.ensures.err in
+    let fault : IsReportFault b.pieces.items b.prefixes (value_of b.best) c.args.worker c.args.piece c.args.prefix.now sub.threshold (node_count (shape_of sub.tree)) c.in-Err.fault =
+    rw (c.as_slice-pieces.ensures.value, c.value_in-value.ensures) at c.in-Err.ensures.err in
     rw (← c.self.view_is) (fault, refl, refl)
 
 pub returns-in-Err-add_opened-clause-err : goal.returns-in-Err-add_opened-clause-err
 returns-in-Err-add_opened-clause-err c =
     let b = c.self.inside in
     let sub = c.args.counted.sub in
-    let welcome : IsWelcome b.pieces.items b.prefixes.items (value_of b.best) c.args.worker c.args.piece c.args.prefix.now sub.threshold (node_count (shape_of sub.tree)) c.in-Ok.grant =
-    rw (c.as_slice-pieces.ensures.value, c.as_slice-prefixes.ensures.value, c.value_in-value.ensures) at c.in-Ok.ensures.ok in
+    let welcome : IsWelcome b.pieces.items b.prefixes (value_of b.best) c.args.worker c.args.piece c.args.prefix.now sub.threshold (node_count (shape_of sub.tree)) c.in-Ok.grant =
+    rw (c.as_slice-pieces.ensures.value, c.value_in-value.ensures) at c.in-Ok.ensures.ok in
     rw (← c.self.view_is) ((c.in-Ok.grant, welcome), refl, λ j. book_view b.loads.loads b.loads.slots b.order.items (line_rules b.rules) b.nodes (c.in-Err-add_opened.ensures.same.0 j) (c.in-Err-add_opened.ensures.kept j) b.best b.spent b.log.items (shape_of b.given) b.given_value b.part)
 
 pub push_reserved-requires : goal.push_reserved-requires
@@ -43,8 +43,8 @@ push_reserved-requires c =
     let b = c.self.inside in
     let inv = c.self.invariant in
     let sub = c.args.counted.sub in
-    let welcome : IsWelcome b.pieces.items b.prefixes.items (value_of b.best) c.args.worker c.args.piece c.args.prefix.now sub.threshold (node_count (shape_of sub.tree)) c.in-Ok.grant =
-    rw (c.as_slice-pieces.ensures.value, c.as_slice-prefixes.ensures.value, c.value_in-value.ensures) at c.in-Ok.ensures.ok in
+    let welcome : IsWelcome b.pieces.items b.prefixes (value_of b.best) c.args.worker c.args.piece c.args.prefix.now sub.threshold (node_count (shape_of sub.tree)) c.in-Ok.grant =
+    rw (c.as_slice-pieces.ensures.value, c.value_in-value.ensures) at c.in-Ok.ensures.ok in
     let one = taken-le b.pieces.items c.args.piece (Taken c.args.worker c.in-Ok.grant) welcome.held in
     omega (arith, inv.counted.room_is, inv.counted.taken_is, one, b.log.ok.0)
 
@@ -52,8 +52,8 @@ pub index_mut-requires : goal.index_mut-requires
 index_mut-requires c =
     let b = c.self.inside in
     let sub = c.args.counted.sub in
-    let welcome : IsWelcome b.pieces.items b.prefixes.items (value_of b.best) c.args.worker c.args.piece c.args.prefix.now sub.threshold (node_count (shape_of sub.tree)) c.in-Ok.grant =
-    rw (c.as_slice-pieces.ensures.value, c.as_slice-prefixes.ensures.value, c.value_in-value.ensures) at c.in-Ok.ensures.ok in
+    let welcome : IsWelcome b.pieces.items b.prefixes (value_of b.best) c.args.worker c.args.piece c.args.prefix.now sub.threshold (node_count (shape_of sub.tree)) c.in-Ok.grant =
+    rw (c.as_slice-pieces.ensures.value, c.value_in-value.ensures) at c.in-Ok.ensures.ok in
     let here : c.args.piece < length c.add_opened.new.pieces.items = rw c.add_opened.ensures.same.0 (within b.pieces.items c.args.piece (Taken c.args.worker c.in-Ok.grant) welcome.held) in
     omega (arith, here, c.add_opened.new.pieces.ok.0)
 
@@ -62,8 +62,8 @@ overflow_sub-self c =
     let b = c.self.inside in
     let inv = c.self.invariant in
     let sub = c.args.counted.sub in
-    let welcome : IsWelcome b.pieces.items b.prefixes.items (value_of b.best) c.args.worker c.args.piece c.args.prefix.now sub.threshold (node_count (shape_of sub.tree)) c.in-Ok.grant =
-    rw (c.as_slice-pieces.ensures.value, c.as_slice-prefixes.ensures.value, c.value_in-value.ensures) at c.in-Ok.ensures.ok in
+    let welcome : IsWelcome b.pieces.items b.prefixes (value_of b.best) c.args.worker c.args.piece c.args.prefix.now sub.threshold (node_count (shape_of sub.tree)) c.in-Ok.grant =
+    rw (c.as_slice-pieces.ensures.value, c.value_in-value.ensures) at c.in-Ok.ensures.ok in
     omega (arith, inv.counted.held_is, granted-le b.pieces.items c.args.piece (Taken c.args.worker c.in-Ok.grant) welcome.held, c.from.ensures)
 
 pub overflow_sub-self-2 : goal.overflow_sub-self-2
@@ -71,8 +71,8 @@ overflow_sub-self-2 c =
     let b = c.self.inside in
     let inv = c.self.invariant in
     let sub = c.args.counted.sub in
-    let welcome : IsWelcome b.pieces.items b.prefixes.items (value_of b.best) c.args.worker c.args.piece c.args.prefix.now sub.threshold (node_count (shape_of sub.tree)) c.in-Ok.grant =
-    rw (c.as_slice-pieces.ensures.value, c.as_slice-prefixes.ensures.value, c.value_in-value.ensures) at c.in-Ok.ensures.ok in
+    let welcome : IsWelcome b.pieces.items b.prefixes (value_of b.best) c.args.worker c.args.piece c.args.prefix.now sub.threshold (node_count (shape_of sub.tree)) c.in-Ok.grant =
+    rw (c.as_slice-pieces.ensures.value, c.value_in-value.ensures) at c.in-Ok.ensures.ok in
     omega (arith, inv.counted.taken_is, taken-le b.pieces.items c.args.piece (Taken c.args.worker c.in-Ok.grant) welcome.held)
 
 pub overflow_add-self : goal.overflow_add-self
@@ -80,8 +80,8 @@ overflow_add-self c =
     let b = c.self.inside in
     let inv = c.self.invariant in
     let sub = c.args.counted.sub in
-    let welcome : IsWelcome b.pieces.items b.prefixes.items (value_of b.best) c.args.worker c.args.piece c.args.prefix.now sub.threshold (node_count (shape_of sub.tree)) c.in-Ok.grant =
-    rw (c.as_slice-pieces.ensures.value, c.as_slice-prefixes.ensures.value, c.value_in-value.ensures) at c.in-Ok.ensures.ok in
+    let welcome : IsWelcome b.pieces.items b.prefixes (value_of b.best) c.args.worker c.args.piece c.args.prefix.now sub.threshold (node_count (shape_of sub.tree)) c.in-Ok.grant =
+    rw (c.as_slice-pieces.ensures.value, c.value_in-value.ensures) at c.in-Ok.ensures.ok in
     let low = granted-le b.pieces.items c.args.piece (Taken c.args.worker c.in-Ok.grant) welcome.held in
     omega (arith, inv.counted.held_is, inv.counted.within, low, welcome.fits, c.in-Ok.ensures.nodes, c.self.ranges)
 
@@ -90,8 +90,8 @@ invariant_of-self-2 c =
     let b = c.self.inside in
     let inv = c.self.invariant in
     let sub = c.args.counted.sub in
-    let welcome : IsWelcome b.pieces.items b.prefixes.items (value_of b.best) c.args.worker c.args.piece c.args.prefix.now sub.threshold (node_count (shape_of sub.tree)) c.in-Ok.grant =
-    rw (c.as_slice-pieces.ensures.value, c.as_slice-prefixes.ensures.value, c.value_in-value.ensures) at c.in-Ok.ensures.ok in
+    let welcome : IsWelcome b.pieces.items b.prefixes (value_of b.best) c.args.worker c.args.piece c.args.prefix.now sub.threshold (node_count (shape_of sub.tree)) c.in-Ok.grant =
+    rw (c.as_slice-pieces.ensures.value, c.value_in-value.ensures) at c.in-Ok.ensures.ok in
     let loads = b.loads.loads in
     let slots = b.loads.slots in
     let line = line_by (line_rules b.rules) loads slots in
@@ -105,7 +105,7 @@ invariant_of-self-2 c =
     let q = c.args.prefix.now in
     let partial : IsPartialTree line sub.threshold shape (prefix_of loads order q) (drop (length q) order) = rw (← c.self.view_is) at c.requires.tree in
     let known : AreOpened line order shape q c.args.counted.opened = rw (← c.self.view_is) at c.requires.opened in
-    let more = added line order shape q c.args.counted.opened count b.prefixes.items c.add_opened.new.prefixes.items known c.in-Ok-add_opened.ensures.known in
+    let more = added line order shape q c.args.counted.opened count b.prefixes c.add_opened.new.prefixes known c.in-Ok-add_opened.ensures.known in
     let first_is : first ≡ length b.pieces.items = omega (arith, c.len-first.ensures, b.pieces.ok.0) in
     let pieces_are : c.add_free.new.pieces.items ≡ set b.pieces.items p Ended ++ replicate count Free =
     c.add_free.ensures ∙ (λ j. set (c.add_opened.ensures.same.0 j) p Ended ++ replicate count Free) in
@@ -119,11 +119,11 @@ invariant_of-self-2 c =
           counted-report (is_of_part b.part b.first) (start (shape_of b.given) b.given_value) b.nodes b.pieces.items (value_of b.best) b.spent b.held b.taken b.low b.log.items _ inv.counted c.args.worker p g k first count
           c.add_free.new.pieces.items c.push_reserved.new.self.items welcome.held some few first_is pieces_are c.push_reserved.ensures.items;
       grown =
-          grown-report (shape_of b.given) line order b.pieces.items b.prefixes.items b.reports.items (value_of b.best) b.spent inv.grown p c.args.worker g k count q sub.threshold sub.tree
-          c.add_free.new.pieces.items c.add_opened.new.prefixes.items c.push_reserved-2.new.self.items welcome.held welcome.place welcome.ahead partial c.in-Ok.ensures.nodes more.0 pieces_are more.1 reports_are;
+          grown-report (shape_of b.given) line order b.pieces.items b.prefixes b.reports.items (value_of b.best) b.spent inv.grown p c.args.worker g k count q sub.threshold sub.tree
+          c.add_free.new.pieces.items c.add_opened.new.prefixes c.push_reserved-2.new.self.items welcome.held welcome.place welcome.ahead partial c.in-Ok.ensures.nodes more.0 pieces_are more.1 reports_are;
       spare = record {
         none = c.add_opened.ensures.leaves ∙ inv.spare.none;
-        each = omega (arith, c.in-Ok-add_opened.ensures.leaf, ap length more.1, length-append b.prefixes.items (open_places line order shape q), more.0, inv.grown.each, c.add_opened.new.pieces.ok.0, ap length c.add_opened.ensures.same.0);
+        each = omega (arith, c.in-Ok-add_opened.ensures.leaf, ap length more.1, length-append b.prefixes (open_places line order shape q), more.0, inv.grown.each, c.add_opened.new.pieces.ok.0, ap length c.add_opened.ensures.same.0);
       };
       shared = record {
         part_is = inv.shared.part_is;
@@ -138,8 +138,8 @@ pub returns-clause-welcome : goal.returns-clause-welcome
 returns-clause-welcome c =
     let b = c.self.inside in
     let sub = c.args.counted.sub in
-    let welcome : IsWelcome b.pieces.items b.prefixes.items (value_of b.best) c.args.worker c.args.piece c.args.prefix.now sub.threshold (node_count (shape_of sub.tree)) c.in-Ok.grant =
-    rw (c.as_slice-pieces.ensures.value, c.as_slice-prefixes.ensures.value, c.value_in-value.ensures) at c.in-Ok.ensures.ok in
+    let welcome : IsWelcome b.pieces.items b.prefixes (value_of b.best) c.args.worker c.args.piece c.args.prefix.now sub.threshold (node_count (shape_of sub.tree)) c.in-Ok.grant =
+    rw (c.as_slice-pieces.ensures.value, c.value_in-value.ensures) at c.in-Ok.ensures.ok in
     rw (← c.self.view_is) (c.in-Ok.grant, welcome)
 
 pub returns-clause-ok : goal.returns-clause-ok
@@ -152,7 +152,7 @@ returns-clause-ok c =
     let count = c.in-Ok-add_opened.count in
     let first_is : c.len-first.result ≡ length b.pieces.items = omega (arith, c.len-first.ensures, b.pieces.ok.0) in
     let known : AreOpened line order (shape_of sub.tree) c.args.prefix.now c.args.counted.opened = rw (← c.self.view_is) at c.requires.opened in
-    let more = added line order (shape_of sub.tree) c.args.prefix.now c.args.counted.opened count b.prefixes.items c.add_opened.new.prefixes.items known c.in-Ok-add_opened.ensures.known in
+    let more = added line order (shape_of sub.tree) c.args.prefix.now c.args.counted.opened count b.prefixes c.add_opened.new.prefixes known c.in-Ok-add_opened.ensures.known in
     let pieces_are : c.add_free.new.pieces.items ≡ set b.pieces.items p Ended ++ replicate count Free =
     c.add_free.ensures ∙ (λ j. set (c.add_opened.ensures.same.0 j) p Ended ++ replicate count Free) in
     let log_is : c.push_reserved.new.self.items ≡ b.log.items ++ (Reported c.args.worker p (node_count (shape_of sub.tree)) (length b.pieces.items) (length (open_places line order (shape_of sub.tree) c.args.prefix.now))) ∷ [] =
