@@ -154,7 +154,7 @@ appended-tree ns ms new es vs ends base base_is tree others new_is ends_are =
 pub pushed : (ns new : List Node) (es : List ℕ) (n : Node) → IsPrefixTree ns es → new ≡ ns ++ n ∷ [] → prefixes_at new es ≡ prefixes_at ns es
 pushed ns new es n tree is = ap (λ w. prefixes_at w es) is ∙ ends-grown ns (n ∷ []) es tree.within
 
-pub pushed-prefix : (ns new : List Node) (n : Node) (k : ℕ) → k ≤ length ns → new ≡ ns ++ n ∷ [] → prefix_at new k ≡ prefix_at ns k
+pushed-prefix : (ns new : List Node) (n : Node) (k : ℕ) → k ≤ length ns → new ≡ ns ++ n ∷ [] → prefix_at new k ≡ prefix_at ns k
 pushed-prefix ns new n k h is = ap (λ w. prefix_at w k) is ∙ grown ns (n ∷ []) k h
 
 pub pushed-tree : (ns new : List Node) (es : List ℕ) (n : Node) → IsPrefixTree ns es → n.parent ≤ length ns → new ≡ ns ++ n ∷ [] → IsPrefixTree new es

@@ -193,11 +193,16 @@ impl Walk {
 
     /// Goes on to the child at a place. On `AllocError` it is where it was, and has marked what it had.
     pub fn go_on(&mut self, place: Place) -> Result<(), AllocError>
-        ensures { OnOk result (self.new ≡ walk_view (self.old.path ++ place ∷ []) self.old.marked) }
+        ensures ok { OnOk result (self.new ≡ walk_view (self.old.path ++ place ∷ []) self.old.marked) }
+        ensures err { OnErr result (self.new ≡ self.old) }
     {
-        let parent = self.node;
-        self.nodes.push(Node { parent, place })?;
-        self.path.push(place)?;
+        self.nodes.reserve(1)?;
+        self.path.reserve(1)?;
+        self.nodes.push_reserved(Node {
+            parent: self.node,
+            place,
+        });
+        self.path.push_reserved(place);
         self.node = self.nodes.len();
         Ok(())
     }
@@ -214,7 +219,8 @@ impl Walk {
 
     /// Marks the prefix of where it is. On `AllocError` nothing more is marked.
     pub fn mark(&mut self) -> Result<(), AllocError>
-        ensures { OnOk result (self.new ≡ walk_view self.old.path (self.old.marked ++ self.old.path ∷ [])) }
+        ensures ok { OnOk result (self.new ≡ walk_view self.old.path (self.old.marked ++ self.old.path ∷ [])) }
+        ensures err { OnErr result (self.new ≡ self.old) }
     {
         self.ends.push(self.node)?;
         Ok(())

@@ -9,6 +9,8 @@ use std::io;
 pub enum FileFault {
     /// It couldn't be made or written whole; nothing of it is left.
     Unwritten { why: io::Error },
+    /// It lies at another path, and whether it is whole isn't known: it couldn't be synced.
+    Unsure { at: String, why: io::Error },
     /// It is whole and lies at another path, since it couldn't take its place.
     Aside { at: String, why: io::Error },
     /// It is whole and lies at another path, since what stands at its own is kept, for this reason.

@@ -1,16 +1,13 @@
-//! Files that are left as they are: the one that standard output goes to, and one that holds something else than what
+//! Files that are left as they are: those that standard output and standard error go to, and one that holds something else than what
 //! would be written there.
 
 use crate::place::are_same_file;
 use crate::reading::read_front;
-use ec_unit_text::read_units;
+use ec_unit_text::{MOST_BYTES, read_units};
 use std::alloc::Global;
 use std::io::Read;
 use std::rt::Files;
 use std::{fs, io};
-
-/// The most bytes of a unit text, and one.
-const MOST_TEXT: u64 = 1_048_577;
 
 /// How a capture file begins: stamps in ns, version 2.4, frames of at most 65,535 bytes, Ethernet.
 const CAPTURE: &[u8] = b"\x4D\x3C\xB2\xA1\x02\0\x04\0\0\0\0\0\0\0\0\0\xFF\xFF\0\0\x01\0\0\0";
@@ -71,6 +68,8 @@ impl Content {
 pub enum KeepReason {
     /// Standard output goes to it.
     IsOutput,
+    /// Standard error goes to it.
+    IsTold,
     /// It holds something else than what would be written there.
     HoldsElse,
     /// What it holds can't be read.
@@ -92,6 +91,7 @@ impl KeepReason {
     pub fn as_str(self) -> &'static str {
         match self {
             KeepReason::IsOutput => "Standard output goes to it: give another path",
+            KeepReason::IsTold => "Standard error goes to it: give another path",
             KeepReason::HoldsElse => {
                 "It holds something else: give another path, or take the file away first"
             }
@@ -144,10 +144,10 @@ fn begins<F: Files>(files: &F, path: &str, content: Content) -> io::Result<bool>
     })
 }
 
-/// Whether the file at a path is a unit text.
+/// Whether the file at a path is a unit text, which no longer one is than those that are read.
 fn are_units<F: Files>(files: &F, alloc: Global, path: &str) -> io::Result<bool> {
-    let bytes = read_front(files, alloc, path, MOST_TEXT)?;
-    Ok(read_units(alloc, &bytes).is_ok())
+    let bytes = read_front(files, alloc, path, MOST_BYTES as u64 + 1)?;
+    Ok(bytes.len() <= MOST_BYTES && read_units(alloc, &bytes).is_ok())
 }
 
 /// Whether the file at a path holds such content.
@@ -172,6 +172,9 @@ pub fn reason_to_keep<F: Files>(
     }
     if are_same_file(files, path, "/dev/stdout") {
         return Some(KeepReason::IsOutput);
+    }
+    if are_same_file(files, path, "/dev/stderr") {
+        return Some(KeepReason::IsTold);
     }
     if found.len() == 0 {
         return None;

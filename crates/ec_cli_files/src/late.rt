@@ -7,11 +7,12 @@ ghost use Rattle.std.specs.Io.KnownBytes.{WriteAppends};
 
 use crate::fault::FileFault;
 use crate::guard::Content;
-use crate::place::Place;
-use crate::settling::{dress, make_lasting};
+use crate::place::{Identity, Place};
+use crate::settling::dress;
 use crate::whole::Whole;
 use std::alloc::{AllocError, Global};
 use std::fmt::Write as _;
+use std::fs::OpenFile;
 use std::io::{ErrorKind, Write};
 use std::os::unix::fs::OpenOptionsExt;
 use std::rt::Files;
@@ -19,6 +20,9 @@ use std::{fs, io};
 
 /// The most names that are tried for a file beside its path.
 const MOST_NAMES: u32 = 999;
+
+/// The system's number for a path at which something stands.
+const EXISTS: i32 = 17;
 
 /// A writer that makes its file beside a path, under a name that is free, at its first write. Until then nothing is made.
 /// What is no file, as a pipe, is written straight. `finish` gives the file once it is whole, `give_up` takes it away.
@@ -56,6 +60,15 @@ fn first_mode<F: Files>(files: &F, path: &str) -> u32 {
     } else {
         0o666
     }
+}
+
+/// Opens what stands at a path and is no file; not a file that came there since that was seen.
+fn open_straight<F: Files>(files: &F, path: &str) -> io::Result<F::File> {
+    let opened = fs::OpenOptions::new().write(true).open(files, path)?;
+    if opened.metadata()?.is_file() {
+        return Err(io::Error::from_raw_os_error(EXISTS));
+    }
+    Ok(opened)
 }
 
 /// Makes a file under the first free name beside a path, and leaves that name.
@@ -115,9 +128,7 @@ impl<'a, F: Files> Late<'a, F> {
                 self.made = true;
                 Ok(file)
             }
-            Place::Straight { path } => fs::OpenOptions::new()
-                .write(true)
-                .open(self.files, path.as_str()),
+            Place::Straight { path } => open_straight(self.files, path.as_str()),
             Place::Nowhere { why } => Err(*why),
         }
     }
@@ -179,7 +190,15 @@ impl<'a, F: Files> Late<'a, F> {
         let (Place::Beside { path }, Some(file)) = (place, file) else {
             return Ok(None);
         };
-        if let Err(why) = make_lasting(files, &file, name.as_str(), path.as_str()) {
+        let dressed = dress(files, &file, name.as_str(), path.as_str());
+        if let Err(why) = file.sync_all() {
+            return Err(FileFault::Unsure { at: name, why });
+        }
+        let made = match file.metadata() {
+            Ok(found) => Identity::of(&found),
+            Err(why) => return Err(FileFault::Unsure { at: name, why }),
+        };
+        if let Err(why) = dressed {
             return Err(FileFault::Aside { at: name, why });
         }
         Ok(Some(Whole {
@@ -188,20 +207,9 @@ impl<'a, F: Files> Late<'a, F> {
             content,
             path,
             name,
+            made,
             bytes,
         }))
-    }
-
-    /// Finishes the file, and lets it take its place.
-    ///
-    /// # Errors
-    ///
-    /// Why it isn't there, and where it lies.
-    pub fn settle(self) -> Result<(), FileFault> {
-        match self.finish()? {
-            Some(whole) => whole.settle(|_| None),
-            None => Ok(()),
-        }
     }
 
     /// Takes away what was written of the file, and says why it isn't whole.

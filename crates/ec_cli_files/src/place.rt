@@ -8,7 +8,7 @@ use std::rt::Files;
 use std::{fs, io};
 
 /// The system's number for a path at which nothing stands.
-const NO_ENTRY: i32 = 2;
+pub(crate) const NO_ENTRY: i32 = 2;
 
 /// Where the bytes for a path go.
 #[derive(Drop)]
@@ -78,42 +78,45 @@ pub(crate) fn folder_of(path: &str) -> &str {
     }
 }
 
-/// The one name of the file at a path, or of one that would be made there, whatever links lead to its folder.
-fn true_path<F: Files>(files: &F, alloc: Global, path: &str) -> io::Result<String> {
-    if let Ok(found) = files.canonicalize(alloc, path) {
-        return Ok(found.into_string());
-    }
-    let mut found = files.canonicalize(alloc, folder_of(path))?;
-    if let Some(name) = Path::new(path).file_name() {
-        found.push(name)?;
-    }
-    Ok(found.into_string())
-}
-
 /// Whether what stands at a path is there and is no file, as a pipe or a device.
 fn is_no_file<F: Files>(files: &F, path: &str) -> bool {
     fs::metadata(files, path).is_ok_and(|found| !found.is_file())
 }
 
-/// Whether two paths lead to one file that is there (own profile).
+/// Which file something is, whatever its names are.
+#[derive(Clone, Copy, Debug, PartialEq, Eq)]
+pub(crate) struct Identity {
+    dev: u64,
+    ino: u64,
+}
+
+impl Identity {
+    /// That of what these metadata are of.
+    pub(crate) fn of(found: &fs::Metadata) -> Identity {
+        Identity {
+            dev: found.dev(),
+            ino: found.ino(),
+        }
+    }
+}
+
+/// Whether two paths lead to one file or folder that is there (own profile).
 pub fn are_same_file<F: Files>(files: &F, one: &str, other: &str) -> bool {
     match (fs::metadata(files, one), fs::metadata(files, other)) {
-        (Ok(one), Ok(other)) => one.dev() == other.dev() && one.ino() == other.ino(),
+        (Ok(one), Ok(other)) => Identity::of(&one) == Identity::of(&other),
         _ => false,
     }
 }
 
-/// Whether two paths to write are one file, however they are spelled and whatever links lead there; where the system
-/// doesn't tell that, or memory is wanting, whether they are spelled alike. What is no file may be written with both (own
-/// profile).
-pub fn are_one<F: Files>(files: &F, alloc: Global, one: &str, other: &str) -> bool {
-    if is_no_file(files, one) {
-        return false;
-    }
-    let one_true = true_path(files, alloc, one);
-    let other_true = true_path(files, alloc, other);
-    match (one_true, other_true) {
-        (Ok(one), Ok(other)) => one.as_str() == other.as_str(),
-        _ => one == other,
-    }
+/// Whether two paths have one name in one folder, whatever stands there.
+fn are_same_name<F: Files>(files: &F, one: &str, other: &str) -> bool {
+    Path::new(one).file_name() == Path::new(other).file_name()
+        && are_same_file(files, folder_of(one), folder_of(other))
+}
+
+/// Whether two paths to write are one file, however they are spelled and whatever links lead there; two names of one file are one.
+/// What is no file may be written with both (own profile).
+pub fn are_one<F: Files>(files: &F, one: &str, other: &str) -> bool {
+    !is_no_file(files, one)
+        && (one == other || are_same_file(files, one, other) || are_same_name(files, one, other))
 }

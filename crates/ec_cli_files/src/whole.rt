@@ -2,6 +2,7 @@
 
 use crate::fault::FileFault;
 use crate::guard::{Content, KeepReason, reason_to_keep};
+use crate::place::{Identity, NO_ENTRY};
 use crate::reading::read_front;
 use crate::settling::sync_folder;
 use std::alloc::Global;
@@ -20,8 +21,7 @@ const MOST_LOOKS: usize = 8;
 /// same bytes.
 #[derive(Clone, Copy, Debug, PartialEq, Eq)]
 pub struct Seen {
-    dev: u64,
-    ino: u64,
+    file: Identity,
     bytes: u64,
     seconds: i64,
     nanoseconds: i64,
@@ -32,8 +32,7 @@ impl Seen {
     pub fn at<F: Files>(files: &F, path: &str) -> Option<Seen> {
         let found = fs::metadata(files, path).ok()?;
         Some(Seen {
-            dev: found.dev(),
-            ino: found.ino(),
+            file: Identity::of(&found),
             bytes: found.len(),
             seconds: found.mtime(),
             nanoseconds: found.mtime_nsec(),
@@ -50,6 +49,8 @@ pub struct Whole<'a, F: Files> {
     pub(crate) content: Content,
     pub(crate) path: String,
     pub(crate) name: String,
+    /// The file of that name.
+    pub(crate) made: Identity,
     pub(crate) bytes: u64,
 }
 
@@ -104,13 +105,31 @@ impl<'a, F: Files> Whole<'a, F> {
         Err(self.leave(KeepReason::Changing))
     }
 
-    /// Why what stands at the path is kept, whatever the new file says.
+    /// Why what stands at the path is kept, whatever the new file says: also a link or what is no file, which came there since the path
+    /// was looked at.
     fn own_reason(&self) -> Option<KeepReason> {
-        reason_to_keep(self.files, self.alloc, self.path.as_str(), self.content)
+        let path = self.path.as_str();
+        let found = fs::symlink_metadata(self.files, path).ok()?;
+        if !found.is_file() {
+            return Some(KeepReason::HoldsElse);
+        }
+        reason_to_keep(self.files, self.alloc, path, self.content)
+    }
+
+    /// Whether the new file is gone from its name, or another one stands there.
+    fn is_lost(&self) -> bool {
+        match fs::symlink_metadata(self.files, self.name.as_str()) {
+            Ok(found) => Identity::of(&found) != self.made,
+            Err(error) => error.kind() == ErrorKind::NotFound,
+        }
     }
 
     /// Lets the file take its place, and syncs the folder. One that no command reads doesn't take the place of another.
     fn take_place(self) -> Result<(), FileFault> {
+        if self.is_lost() {
+            let why = io::Error::from_raw_os_error(NO_ENTRY);
+            return Err(FileFault::Unwritten { why });
+        }
         let Whole {
             files,
             content,

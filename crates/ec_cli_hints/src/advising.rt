@@ -5,12 +5,13 @@ use crate::again::Again;
 use crate::cycle::{Cycle, USE};
 use crate::help::{help, other_rules};
 use crate::quoted::{Command, PathPiece, is_told_whole};
+use ec_cert_text::MOST_BYTES;
 use ec_outcome::{Cut, Ending};
 use ec_text_builder::Draft;
 use std::alloc::{AllocError, Global};
 
 /// The most bytes of a certificate that are read.
-const MOST_READ: u64 = 67_108_864;
+const MOST_READ: u64 = MOST_BYTES as u64;
 
 /// A certificate that was written.
 #[derive(Clone, Copy)]

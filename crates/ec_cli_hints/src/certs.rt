@@ -60,6 +60,12 @@ fn add_stranger(out: &mut Draft, cert: &[u8]) {
     }
 }
 
+/// Whether a text begins a unit.
+fn has_unit(text: &[u8]) -> bool {
+    text.split(|byte| *byte == b'\n')
+        .any(|line| line.trim_ascii_start().starts_with(b"[[unit"))
+}
+
 /// Tells that a text doesn't begin as a certificate.
 fn tell_version(out: &mut Draft, inputs: &Inputs<'_>) {
     out.add(format_args!(
@@ -72,6 +78,9 @@ fn tell_version(out: &mut Draft, inputs: &Inputs<'_>) {
         Some(cert) => {
             out.add(". It begins:\n");
             add_line(out, cert, 0);
+            if has_unit(cert) {
+                out.add("It is a unit text: a certificate is what plan --out writes.\n");
+            }
         }
     }
 }

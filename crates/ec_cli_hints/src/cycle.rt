@@ -1,5 +1,6 @@
 //! What is known of each plan of a line by its units alone.
 
+use crate::meeting::{Meeting, heaviest};
 use ec_bounds::{MeanTick, mean_tick};
 use ec_text_builder::Draft;
 use ec_units::{Unit, Units, bytes_of};
@@ -8,20 +9,35 @@ use ec_wire::{BYTE_NS, fits, frame_wire};
 /// The most slots of a line.
 const MOST_SLOTS: u8 = 8;
 
-/// The bytes of a datagram beside those of its units.
+/// The bytes of a frame with one datagram, beside those of its units.
 const DATAGRAM: u32 = 14;
 
 /// The wire bytes of the least frame.
 const LEAST_FRAME: u64 = 84;
 
+/// The wire bytes of a frame with one unit alone.
+fn wire_of(unit: &Unit) -> u64 {
+    u64::from(frame_wire(DATAGRAM + u32::from(bytes_of(unit))))
+}
+
 /// The wire bytes of a frame with nothing but the largest of some units.
 fn largest_of(units: &[Unit]) -> u64 {
-    let mut largest = 0u32;
+    let mut largest = 0u64;
     for unit in units {
-        largest = largest.max(frame_wire(DATAGRAM + u32::from(bytes_of(unit))));
+        largest = largest.max(wire_of(unit));
     }
-    u64::from(largest)
+    largest
 }
+
+/// Whether each of some units that is too long for a tick alone could be two that travel in different ticks.
+fn are_divisible(units: &[Unit], tick_ns: u32) -> bool {
+    units.iter().all(|unit| {
+        fits(wire_of(unit), tick_ns) || (unit.slaves.as_slice().len() > 1 && unit.period > 1)
+    })
+}
+
+/// What may help where two units meet.
+const PARTED: &str = "Periods with a common divisor, as 2 and 4, may help.\n";
 
 /// What is told of a legal plan.
 pub(crate) const USE: &str = "The plan is legal and can be used as it stands.\n";
@@ -33,6 +49,10 @@ pub struct Cycle {
     pub slots: u8,
     /// The wire bytes of a frame with its largest unit alone.
     pub largest: u64,
+    /// Whether each unit that is too long for a tick alone could be two.
+    pub is_divisible: bool,
+    /// The two units with the most bytes that meet in some tick wherever they are placed, if any do.
+    pub meeting: Option<Meeting>,
     pub mean: MeanTick,
 }
 
@@ -43,6 +63,8 @@ impl Cycle {
             tick_ns: units.tick_ns,
             slots: units.slots,
             largest: largest_of(units.units.as_slice()),
+            is_divisible: are_divisible(units.units.as_slice(), units.tick_ns),
+            meeting: heaviest(units.units.as_slice()),
             mean: mean_tick(units),
         }
     }
@@ -78,9 +100,33 @@ impl Cycle {
             out.add(format_args!(
                 "A frame with its largest unit alone takes {largest} ns already: a longer tick or fewer bytes would help, and longer periods alone would not.\n"
             ));
+            if self.is_divisible {
+                out.add(
+                    "Two units in place of such a one, each with some of its slaves, may help, too.\n",
+                );
+            }
         } else {
-            out.add("A longer tick, longer periods or fewer bytes would help.\n");
+            self.add_cures(out);
         }
+    }
+
+    /// Adds what would help where no plan fits, and each unit alone does.
+    fn add_cures(self, out: &mut Draft) {
+        match self.meeting {
+            Some(meeting) if self.is_beyond(meeting.wire()) => {
+                let ns = meeting.wire().saturating_mul(BYTE_NS);
+                out.add(format_args!("{meeting}, and take at least {ns} ns there.\n"));
+                out.add(PARTED);
+                out.add("A longer tick or fewer bytes would.\n");
+            }
+            _ => out.add("A longer tick, longer periods or fewer bytes would help.\n"),
+        }
+    }
+
+    /// Two units that meet in a tick with one slot and don't go into one frame, if there are any.
+    fn overfull_meeting(self) -> Option<Meeting> {
+        self.meeting
+            .filter(|meeting| self.slots == 1 && !meeting.is_one_frame())
     }
 
     /// Adds what some tick of each plan carries at least.
@@ -112,11 +158,19 @@ impl Cycle {
         } else {
             out.add("Each plan has a frame that is too full.\n");
         }
+        if let Some(meeting) = self.overfull_meeting() {
+            out.add(format_args!("{meeting}, and are too much for one frame.\n"));
+            out.add(PARTED);
+        }
         if frames > u64::from(MOST_SLOTS) {
             out.add("No number of slots is enough: fewer bytes or longer periods would help.\n");
         } else if self.is_overfull() {
             out.add(format_args!(
                 "Raise slots = {slots}, to {frames} at least, or have fewer bytes or longer periods.\n"
+            ));
+        } else if self.overfull_meeting().is_some() {
+            out.add(format_args!(
+                "Raise slots = {slots}, to {MOST_SLOTS} at most, or have fewer bytes.\n"
             ));
         } else if slots < MOST_SLOTS {
             out.add(format_args!(

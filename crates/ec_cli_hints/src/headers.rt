@@ -20,6 +20,22 @@ pub(crate) fn header_of(line: &str) -> Option<Header> {
     }
 }
 
+/// What stands before a sign.
+fn before(text: &str, sign: char) -> &str {
+    text.split(sign).next().unwrap_or("")
+}
+
+/// The name in a header, or the key of a line.
+pub(crate) fn name_of(line: &str) -> &str {
+    before(before(line.trim().trim_start_matches('['), '='), ']').trim()
+}
+
+/// The first line, from 1, with a name in its header, or with this key.
+pub(crate) fn line_named(doc: Doc<'_>, name: &str) -> Option<usize> {
+    let at = doc.text.lines().position(|line| name_of(line) == name)?;
+    Some(at.saturating_add(1))
+}
+
 /// The line, from 1, at which the table of a unit begins, or of a slave of it, both numbered from 0. None where the units aren't
 /// all begun by such lines, or the unit's slaves.
 pub(crate) fn header_line(doc: Doc<'_>, unit: usize, slave: Option<usize>) -> Option<usize> {

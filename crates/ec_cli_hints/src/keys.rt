@@ -1,7 +1,8 @@
 //! Keys that are of another type, or not known.
 
+use crate::headers::line_named;
 use crate::inputs::{Doc, Fields};
-use crate::label::In;
+use crate::label::{AtLine, In};
 use crate::nearest::nearest;
 use crate::quoted::{Quoted, Shown};
 use ec_text_builder::Draft;
@@ -23,13 +24,13 @@ const TOP: Kind = Kind {
     astray: "It stands at the top of the file, above the first [[unit]].\n",
 };
 
-const UNIT: Kind = Kind {
+pub(crate) const UNIT: Kind = Kind {
     keys: &[Key::Name, Key::Period, Key::Slave, Key::Phase, Key::Slot],
     told: "The keys of a unit are name, period, slave, phase and slot.\n",
     astray: "It is a key of a unit, between its line [[unit]] and its first [[unit.slave]].\n",
 };
 
-const SLAVE: Kind = Kind {
+pub(crate) const SLAVE: Kind = Kind {
     keys: &[
         Key::Station,
         Key::OutBytes,
@@ -87,9 +88,17 @@ pub(crate) fn unknown_in<'a>(table: Fields<'a>, kind: Kind) -> Option<&'a str> {
     None
 }
 
-/// What is told of a key that belongs to a table of another kind.
-fn place_of(word: &str) -> Option<&'static str> {
-    if matches!(word, "slave" | "unit_slave" | "unit-slave") {
+/// Whether a word that isn't known in a table was meant for the slaves of a unit: at the top of the file each one that begins as
+/// `slave` does.
+fn are_slaves(word: &str, kind: Kind) -> bool {
+    let front = word.get(..5).unwrap_or("");
+    matches!(word, "slave" | "unit_slave" | "unit-slave")
+        || (kind.has("unit") && front.eq_ignore_ascii_case("slave"))
+}
+
+/// What is told of a key that isn't known in a table, and belongs to one of another kind.
+fn place_of(word: &str, at: Kind) -> Option<&'static str> {
+    if are_slaves(word, at) {
         return Some("A slave begins with [[unit.slave]], below the [[unit]] that it belongs to.\n");
     }
     for kind in [SLAVE, UNIT, TOP] {
@@ -100,15 +109,32 @@ fn place_of(word: &str) -> Option<&'static str> {
     None
 }
 
-/// Adds a key that isn't known at a spot, and where it stands if it is one of another table; else which key was meant.
+/// Adds which key was meant by a word; where it speaks of bits, how they are counted.
+pub(crate) fn add_meant(out: &mut Draft, word: &str, key: Key) {
+    out.add(format_args!("Was {key} meant?\n"));
+    if word.contains("bit") || word.contains("Bit") {
+        out.add("It counts whole bytes: up to 8 bits are 1, up to 16 are 2.\n");
+    }
+}
+
+/// Adds a key that isn't known at a spot, at the top of the file with its line, and where it stands if it is one of another table; else
+/// which key was meant.
 pub(crate) fn add_unknown(out: &mut Draft, doc: Doc<'_>, word: &str, spot: Spot) {
     let kind = Kind::at(spot);
-    out.add(format_args!("the key {} is not known there.\n", Quoted(word)));
-    if let Some(place) = place_of(word) {
+    let line = match spot.unit {
+        Some(_) => None,
+        None => line_named(doc, word),
+    };
+    out.add(format_args!(
+        "the key {}{} is not known there.\n",
+        Quoted(word),
+        AtLine(line)
+    ));
+    if let Some(place) = place_of(word, kind) {
         return out.add(place);
     }
     match nearest(doc.alloc, word, kind.keys) {
-        Ok(Some(key)) => out.add(format_args!("Was {key} meant?\n")),
+        Ok(Some(key)) => add_meant(out, word, key),
         Ok(None) => out.add(kind.told),
         Err(_) => out.give_up(),
     }
@@ -151,6 +177,9 @@ fn type_of(key: Key, value: &Value) -> &'static str {
         (Key::Slave, true) => "Write [[unit.slave]] in double brackets, once for each.\n",
         (Key::Slave, false) => "It has to be tables, each begun by a line [[unit.slave]].\n",
         (Key::Name, _) => "A name is a text in quotes, as name = \"press-4\".\n",
+        (Key::OutBytes | Key::InBytes, _) if matches!(value, Value::Float(_)) => {
+            "A whole number is needed, without quotes, a point or an exponent: part of a byte counts as 1.\n"
+        }
         _ => "A whole number is needed, without quotes, a point or an exponent.\n",
     }
 }

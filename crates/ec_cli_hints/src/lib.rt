@@ -15,6 +15,7 @@ mod inputs;
 mod keys;
 mod label;
 mod leaves;
+mod meeting;
 mod missing;
 mod mixed;
 mod nearest;
@@ -27,6 +28,7 @@ mod ranges;
 mod slips;
 mod syntax;
 mod telling;
+mod twice;
 mod units;
 
 pub use advising::{Asked, Filed, Found, Written, counsel, room_beside};

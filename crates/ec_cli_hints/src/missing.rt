@@ -2,7 +2,7 @@
 
 use crate::headers::header_line;
 use crate::inputs::Doc;
-use crate::keys::{Kind, add_unknown, meaning, meant_for, unknown_in};
+use crate::keys::{Kind, add_meant, add_unknown, meaning, meant_for, unknown_in};
 use crate::label::{In, Named};
 use crate::quoted::Quoted;
 use ec_text_builder::Draft;
@@ -88,10 +88,10 @@ fn add_other(out: &mut Draft, doc: Doc<'_>, spot: Spot, owner: Owner, other: Spo
 fn add_beside(out: &mut Draft, doc: Doc<'_>, spot: Spot, key: Key) {
     match meant_for(doc, spot, key) {
         Err(_) => out.give_up(),
-        Ok(Some(word)) => out.add(format_args!(
-            "Beside it, the key {} is not known there.\nWas {key} meant?\n",
-            Quoted(word)
-        )),
+        Ok(Some(word)) => {
+            out.add(format_args!("Beside it, the key {} is not known there.\n", Quoted(word)));
+            add_meant(out, word, key);
+        }
         Ok(None) => {
             if let Some(word) = unknown_in(doc.table(spot), Kind::at(spot)) {
                 out.add("Beside it, ");

@@ -1,6 +1,6 @@
 //! A unit text that begins `unit`, or the `slave` of one unit, in two ways.
 
-use crate::headers::{Header, header_of};
+use crate::headers::{Header, header_of, name_of};
 use crate::label::AtLine;
 use crate::slips::Stop;
 use ec_text_builder::Draft;
@@ -39,16 +39,6 @@ fn array_at(stop: Stop<'_>) -> Option<Array> {
         Header::Unit => Some(UNIT),
         Header::Slave => Some(SLAVE),
     }
-}
-
-/// What stands before a sign.
-fn before(text: &str, sign: char) -> &str {
-    text.split(sign).next().unwrap_or("")
-}
-
-/// The name in a header, or the key of a line.
-fn name_of(line: &str) -> &str {
-    before(before(line.trim().trim_start_matches('['), '='), ']').trim()
 }
 
 /// Whether a name is this one, or that of something in it.

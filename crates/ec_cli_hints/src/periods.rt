@@ -11,7 +11,7 @@ fn has_period(units: &[Value], period: i64) -> bool {
 }
 
 /// How many times a count of ticks has to be taken to be a multiple of a period of at most 60.
-fn times(ticks: u64, period: u64) -> u64 {
+pub(crate) fn times(ticks: u64, period: u64) -> u64 {
     let rest = ticks.checked_rem(period).unwrap_or(0);
     for count in 1..61u64 {
         if rest.saturating_mul(count).checked_rem(period) == Some(0) {

@@ -1,6 +1,7 @@
 //! What was likely meant by a line of a unit text at which the TOML reader stopped.
 
 use crate::headers::header_of;
+use crate::twice::hint_of_twice;
 
 /// Where the reader stopped.
 #[derive(Clone, Copy)]
@@ -205,10 +206,25 @@ fn hint_behind(stop: Stop<'_>, word: &str) -> &'static str {
     }
 }
 
+/// Whether the reader stopped at a line of its own since a list above it isn't closed.
+fn is_unclosed(stop: Stop<'_>, word: &str) -> bool {
+    stop.message.contains("between array elements")
+        && stop.rest.trim() == word
+        && !word.starts_with('{')
+}
+
 /// What was likely meant by a line with nothing but plain signs, by the reader's message; empty where that isn't known.
 fn hint_of_message(stop: Stop<'_>, word: &str) -> &'static str {
     let Stop { rest, message, .. } = stop;
-    if message.starts_with("unexpected key or value") {
+    if is_unclosed(stop, word) {
+        "A list that begins above this line is not closed: its ] is missing.\n"
+    } else if message.starts_with("invalid escape") {
+        "A name has no other characters than a-z, A-Z, 0-9, _ and -.\n"
+    } else if message.starts_with("key with no value") && word.contains('=') {
+        "A key is one word, as out_bytes, with _ and no space.\n"
+    } else if message.starts_with("number out of range") {
+        "No key takes so large a number.\n"
+    } else if message.starts_with("unexpected key or value") {
         hint_behind(stop, word)
     } else if !word.is_empty() && !word.starts_with('[') && !word.contains('=') {
         "A line is key = value, or a header in brackets.\n"
@@ -232,7 +248,7 @@ pub(crate) fn hint(stop: Stop<'_>) -> &'static str {
         return meant;
     }
     if stop.message.contains("duplicate") {
-        return "A key stands once in its table: take one of the two lines out.\n";
+        return hint_of_twice(stop);
     }
     hint_of_signs(stop, word).unwrap_or_else(|| hint_of_message(stop, word))
 }

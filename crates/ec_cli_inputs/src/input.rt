@@ -14,14 +14,11 @@ use ec_cert_text::{CertFault, MOST_BYTES};
 use ec_checker::CheckFault;
 use ec_cli_refusals::Refusal;
 use ec_loads::Loads;
-use ec_unit_text::read_units;
+use ec_unit_text::{MOST_BYTES as MOST_UNIT_BYTES, read_units};
 use ec_units::Units;
 use ec_wire::{Io, IoFault};
 use std::alloc::Global;
 use std::io::{Empty, Read};
-
-/// The most bytes of a unit text.
-const MOST_UNIT_BYTES: usize = 1_048_576;
 
 const CHUNK: usize = 4096;
 

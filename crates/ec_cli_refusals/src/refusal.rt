@@ -32,7 +32,7 @@ pub enum Refusal {
     Check(CheckFault),
     /// Memory ran out before the search, or no worker could be started.
     Solve(SolveFault),
-    /// Writing a certificate failed.
+    /// A file or the text wasn't written: a write failed, what stands at a path is left as it is, or two paths are one.
     Write,
     /// The certificate is right and holds no plan: there is none, or the search of a certificate with a level found none.
     CertHasNoPlan,

@@ -58,6 +58,10 @@ pub merge_tells : {R W : Type 0} (units : Use R) (text : Use W) (code : ℕ) (t 
     → Tells (λ w. w ≡ reported unmerged s file) text code → Tells (MergeTellsTruth units) text code
 merge_tells units text code t s file same true told = tells_more (λ w is sound. all_true (before units) w t file (is ∙ ap (λ (x : Result Told MergeFault). reported unmerged x file) same) (true sound)) told
 
+-- what is reported is refused for the same reason
+pub merge_errs : (left : Option (List ℕ)) (count : ℕ) (t s : Result Told MergeFault) → s ≡ t → IfSome left (λ bytes. IfErr t (IsMergeFault bytes count)) → IfSome left (λ bytes. IfErr s (IsMergeFault bytes count))
+merge_errs left count t s same why = subst (λ (x : Result Told MergeFault). IfSome left (λ bytes. IfErr x (IsMergeFault bytes count))) (sym same) why
+
 -- why nothing is told of units that can't be read
 pub unread_fault : (left : Option (List ℕ)) (r : Refusal) (t : Result Told MergeFault) (count : ℕ) → t ≡ Err (fault.Refused r) → IfSome left (λ bytes. AreRead bytes None (Err r)) → IfSome left (λ bytes. IfErr t (IsMergeFault bytes count))
 unread_fault None r t count is read = tt

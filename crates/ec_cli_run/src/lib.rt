@@ -22,4 +22,4 @@ pub use law::{
 pub use merging::{MergeFault, do_merge};
 pub use reporting::Report;
 pub use running::{run, run_plain};
-pub use usage::{refuse_memory, refuse_words};
+pub use usage::refuse_words;

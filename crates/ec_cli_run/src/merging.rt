@@ -22,7 +22,7 @@ use ec_cert::Cert;
 use ec_cert_merge::Misfit;
 use ec_checker::CheckFault;
 use ec_cli_answers::{Told, joined, right_cert, tell_merged};
-use ec_cli_files::{Content, Late};
+use ec_cli_files::{Content, Late, Seen, are_same_file};
 use ec_cli_inputs::{cert_text, read_alone};
 use ec_cli_refusals::Refusal;
 use ec_loads::Loads;
@@ -186,6 +186,16 @@ fn tell_merge<R: Read, F: Files>(
     merge_for(files, alloc, &inputs.units, paths)
 }
 
+/// What stands at the path of the merged certificate before the others are read, if it is one of those: what is merged says no less.
+fn seen_among<F: Files>(files: &F, paths: &[String], out: &str) -> Option<Seen> {
+    for path in paths {
+        if are_same_file(files, path.as_str(), out) {
+            return Seen::at(files, out);
+        }
+    }
+    None
+}
+
 /// Merges the certificates at some paths, of which there is at least one, for the units that the reader has, and tells what they show
 /// together, as a search tells it. The units are read first, then each certificate in turn, and only the units and what was merged so far
 /// are held. The merged certificate is at the path `out`, if there is one, whole, before a byte of the text is written, so it may take the
@@ -217,8 +227,9 @@ pub fn do_merge<R: Read, W: Write, F: Files>(
     };
     match Late::new(files, alloc, path.as_str(), Content::Certificate) {
         Ok(late) => {
+            let from = seen_among(files, paths, path.as_str());
             let told = tell_merge(files, alloc, paths, units);
-            let fault = write_late(alloc, None, &told, late);
+            let fault = write_late(alloc, from, &told, late);
             deliver_report(told, fault, text)
         }
         Err(AllocError) => deliver_report(

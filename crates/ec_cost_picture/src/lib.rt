@@ -11,3 +11,4 @@ mod scale;
 mod sent;
 
 pub use document::picture;
+pub use sent::placed_loads;

@@ -20,8 +20,12 @@ pub(crate) struct At {
     pub slot: u8,
 }
 
-/// The loads of the units, each at its place in the plan.
-pub(crate) fn placed_loads(alloc: Global, units: &Units, plan: &Plan) -> Result<Loads, AllocError> {
+/// The loads of the units, each at its place in the plan (own profile).
+///
+/// # Errors
+///
+/// `AllocError` where memory ran out.
+pub fn placed_loads(alloc: Global, units: &Units, plan: &Plan) -> Result<Loads, AllocError> {
     let mut loads = Loads::new(alloc, units)?;
     for (number, place) in plan.places.as_slice().iter().enumerate() {
         if number < loads.places().len() {

@@ -2,6 +2,7 @@
 
 use crate::seats::{Seat, seats_of};
 use crate::sends::{Sends, sends_of};
+use ec_cost_picture::placed_loads;
 use ec_fmmu::Mapping;
 use ec_loads::{Loads, Plan};
 use ec_units::Units;
@@ -13,17 +14,6 @@ pub(crate) struct Laid<'a> {
     pub seats: Vec<Seat<'a>>,
     pub loads: Loads,
     pub sends: Sends,
-}
-
-/// The loads of the units, each at its place in the plan.
-fn placed_loads(alloc: Global, units: &Units, plan: &Plan) -> Result<Loads, AllocError> {
-    let mut loads = Loads::new(alloc, units)?;
-    for (number, place) in plan.places.as_slice().iter().enumerate() {
-        if number < loads.places().len() {
-            loads.place(number, *place);
-        }
-    }
-    Ok(loads)
 }
 
 /// A plan with this layout.

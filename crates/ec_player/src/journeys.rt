@@ -7,14 +7,14 @@ ghost use Rattle.ec_player.specs.Lines.{came_back, slaves_after, AreRight, IsMem
 ghost use Rattle.ec_player.specs.Trips.{sent_in};
 
 use crate::judging::judge;
-use crate::trips::{Trip, copy_of};
+use crate::trips::Trip;
 use ec_frames::Frame;
 use ec_outcome::PlayFault;
-use ec_slave::Pass;
+use ec_slave::{Pass, copy_of};
 use std::alloc::Global;
 
-/// Lets a frame pass all slaves, in the order of the line, and gives what comes back.
-fn pass_all<X: Pass>(slaves: &mut [X], frame: &Frame) -> Frame
+/// Lets a frame pass all slaves, in the order of the line, and gives what comes back (own profile).
+pub fn pass_all<X: Pass>(slaves: &mut [X], frame: &Frame) -> Frame
     ensures frame { result.items ≡ through X.out X.next slaves.old frame.now.items }
     ensures slaves { slaves.new ≡ passed X.out X.next slaves.old frame.now.items }
 {

@@ -58,7 +58,7 @@ fn is_reply_to(parsed: &Parsed<'_>, sent: &[u8], back: &[u8]) -> bool
         return false;
     }
     for k in 0..sent.len() {
-        if !may_change(parsed, k) && back[k] != sent[k] {
+        if back[k] != sent[k] && !may_change(parsed, k) {
             return false;
         }
     }

@@ -12,10 +12,10 @@ mod trips;
 
 pub use ec_frame_builder::{start_frames, tick_frames};
 pub use ec_outcome::PlayFault;
-pub use ec_slave::{Pass, SlaveBox};
+pub use ec_slave::{Pass, SlaveBox, copy_of};
 pub use faults::{Stage, Wrong};
 pub use images::{bring, image_of};
-pub use journeys::judge_trip;
+pub use journeys::{judge_trip, pass_all};
 pub use playing::{Played, play_plain, row_of};
 pub use rows::{Counters, Rows, TickRow};
-pub use trips::{Trip, copy_of, start_trips, tick_trips};
+pub use trips::{Trip, start_trips, tick_trips};

@@ -14,6 +14,7 @@ use ec_fmmu::{Group, Mapping};
 use ec_frame_builder::{busy_slots, start_frames, tick_frames};
 use ec_frames::Frame;
 use ec_hyper::Hyper;
+use ec_slave::copy_of;
 use ec_units::Units;
 use std::alloc::{AllocError, Global};
 
@@ -23,16 +24,6 @@ pub struct Trip {
     pub stage: Stage,
     pub frame: Frame,
     pub wants: Counters,
-}
-
-/// A frame with the same bytes.
-pub fn copy_of(frame: &Frame) -> Frame
-    ensures { result.items ≡ frame.now.items }
-{
-    let mut copy = Frame::new();
-    let done = copy.try_extend_from_slice(frame.as_slice());
-    prove!(done.is_ok());
-    copy
 }
 
 /// The working counters that the groups of a slot in a tick are to come back with.

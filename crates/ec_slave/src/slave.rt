@@ -48,8 +48,8 @@ fn zeros(alloc: Global, count: usize) -> Result<Vec<u8>, AllocError>
     Vec::from_elem(alloc, 0u8, count)
 }
 
-/// A frame with the same bytes.
-fn copy_of(frame: &Frame) -> Frame
+/// A frame with the same bytes (own profile).
+pub fn copy_of(frame: &Frame) -> Frame
     ensures { result.items ≡ frame.now.items }
 {
     let mut copy = Frame::new();

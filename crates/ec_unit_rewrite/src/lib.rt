@@ -5,4 +5,5 @@ mod compare;
 mod lines;
 mod placing;
 
+pub use compare::are_same_units;
 pub use placing::{PlacingFault, place_text};

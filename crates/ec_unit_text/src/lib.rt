@@ -12,4 +12,4 @@ mod walk;
 
 pub use fault::{Key, Spot, UnitFault};
 pub use law::law_faults_in_order;
-pub use read::read_units;
+pub use read::{MOST_BYTES, read_units};

@@ -12,6 +12,9 @@ use ec_units::Units;
 use std::alloc::Global;
 use toml::Table;
 
+/// The most bytes of a unit text that are read (own profile).
+pub const MOST_BYTES: usize = 1_048_576;
+
 /// The document that bytes are.
 fn document_of(alloc: Global, text: &[u8]) -> Result<Table, UnitFault>
     ensures { Gives table_view result (told (document text.now)) }

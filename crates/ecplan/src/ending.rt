@@ -62,7 +62,7 @@ fn is_part_beside<R: Files + AllocGlobal>(rt: &R, line: &Line) -> bool {
             part,
             out: Some(out),
             ..
-        } => part.count > 1 && !are_one(rt, rt.alloc(), cert.as_str(), out.as_str()),
+        } => part.count > 1 && !are_one(rt, cert.as_str(), out.as_str()),
         Line::Resume { part, .. } => part.count > 1,
         _ => false,
     }
@@ -257,8 +257,7 @@ pub(crate) fn tell_end<R: Files + AllocGlobal + Eprint, E>(
 
 /// Tells what came of a line: why standard output hasn't got the text, what a refusal means, why a file isn't at its path or
 /// where it lies, what was found where standard output hasn't got it, what would help a search that ended without a proof, and where
-/// the units' own places are better.
-/// Where that can't be written or made, nothing is told.
+/// the units' own places are better. Where that can't be written or made, nothing is told.
 pub(crate) fn tell_line<R: Files + AllocGlobal + Eprint>(
     rt: &R,
     line: &Line,

@@ -2,6 +2,7 @@
 //! are to be made.
 
 use crate::telling::tell;
+use ec_cert_text::MOST_BYTES;
 use ec_cli_command::Line;
 use ec_cli_explain::{quoted_path, room_beside};
 use ec_cli_files::{are_one, read_file};
@@ -32,7 +33,7 @@ fn room_at<'a, H: Files + AllocGlobal>(rt: &H, path: &'a str) -> Option<Room<'a>
 fn room_text(alloc: Global, room: Room<'_>) -> Result<String, AllocError> {
     let (path, bytes, nodes) = (quoted_path(alloc, room.path)?, room.bytes, room.nodes);
     let front = format!(in alloc;
-        "The certificate {path} has {bytes} bytes, and at most 67108864 are read.\n"
+        "The certificate {path} has {bytes} bytes, and at most {MOST_BYTES} are read.\n"
     )?;
     if nodes == 0 {
         return format!(in alloc; "{front}One that goes on with it may have more.\n");
@@ -67,7 +68,7 @@ pub(crate) fn tell_onward<H: Files + AllocGlobal + Eprint>(rt: &H, line: &Line) 
         Some(room) if room.nodes < u64::from(effort.nodes) => tell(rt, room_text(rt.alloc(), room)),
         _ => {}
     }
-    if part.count > 1 && are_one(rt, rt.alloc(), cert.as_str(), out.as_str()) {
+    if part.count > 1 && are_one(rt, cert.as_str(), out.as_str()) {
         tell(rt, replaced_text(rt.alloc(), cert.as_str()));
     }
 }

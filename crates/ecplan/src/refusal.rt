@@ -2,7 +2,7 @@
 
 use crate::telling::{reason_at, tell_unread};
 use crate::units::Left;
-use ec_cert_text::CertFault;
+use ec_cert_text::{CertFault, MOST_BYTES};
 use ec_checker::CheckFault;
 use ec_cli_explain::{Inputs, explain};
 use ec_cli_files::read_file;
@@ -11,9 +11,6 @@ use std::alloc::AllocError;
 use std::io::Read;
 use std::rt::Files;
 use std::{fs, io};
-
-/// The most bytes of a certificate that are read again.
-const MOST_CERT: u64 = 67_108_864;
 
 /// Reads one byte of what stands at a path, to see why that fails. What can't be opened without waiting, as a pipe, isn't tried.
 fn try_read<R: Files>(files: &R, path: &str) -> io::Result<()> {
@@ -54,7 +51,9 @@ fn cert_for<R: Files + AllocGlobal>(rt: &R, refusal: &Refusal, path: &str) -> Op
     if !is_of_cert(refusal) {
         return None;
     }
-    read_file(rt, rt.alloc(), path, MOST_CERT).ok().flatten()
+    read_file(rt, rt.alloc(), path, MOST_BYTES as u64)
+        .ok()
+        .flatten()
 }
 
 /// The text in a string, if there is one.

@@ -33,7 +33,7 @@ pub(crate) fn target_at(path: &Option<String>, content: Content) -> Option<Targe
 /// Whether a path leads to the file of the units: the one at their path, else the one that standard input comes from.
 fn is_own_file<H: Files + AllocGlobal>(rt: &H, path: &str, units: Option<&str>) -> bool {
     match units {
-        Some(units) => are_one(rt, rt.alloc(), path, units),
+        Some(units) => are_one(rt, path, units),
         None => are_same_file(rt, path, "/dev/stdin"),
     }
 }
@@ -96,10 +96,10 @@ fn kept_text(alloc: Global, target: Target<'_>, why: KeepReason) -> Result<Strin
 }
 
 /// Whether what stands at a path is left as it is; tells why. The units' own file is judged as the units are, and kept only where
-/// standard output goes to it.
+/// standard output or standard error goes to it.
 fn is_kept<H: Files + AllocGlobal + Eprint>(rt: &H, target: Target<'_>) -> bool {
     match reason_to_keep(rt, rt.alloc(), target.path, target.content) {
-        Some(why) if !target.is_own || why == KeepReason::IsOutput => {
+        Some(why) if !target.is_own || matches!(why, KeepReason::IsOutput | KeepReason::IsTold) => {
             tell(rt, kept_text(rt.alloc(), target, why));
             true
         }
@@ -120,7 +120,7 @@ fn same_text(alloc: Global, one: &str, other: &str) -> Result<String, AllocError
 
 /// Whether two paths to write are one file; tells that.
 fn are_same<H: Files + AllocGlobal + Eprint>(rt: &H, one: &str, other: &str) -> bool {
-    let is_one = are_one(rt, rt.alloc(), one, other);
+    let is_one = are_one(rt, one, other);
     if is_one {
         tell(rt, same_text(rt.alloc(), one, other));
     }

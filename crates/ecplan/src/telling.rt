@@ -1,6 +1,7 @@
 //! What is told on standard error of paths. Where memory is wanting, or standard error takes nothing, nothing is told.
 
 use crate::targets::Target;
+use ec_cert_text::MOST_BYTES;
 use ec_cli_explain::{quoted_path, shown_text};
 use ec_cli_files::{Content, FileFault, KeepReason};
 use std::alloc::{AllocError, Global};
@@ -117,6 +118,12 @@ fn fault_text(alloc: Global, target: Target<'_>, fault: &FileFault) -> Result<St
             let more = more_on(*why);
             format!(in alloc; "The {name} cannot be written to {path}.\n{why}.\n{more}")
         }
+        FileFault::Unsure { at, why } => {
+            let at = quoted_path(alloc, at.as_str())?;
+            format!(in alloc;
+                "The {name} lies at {at}, and may not be whole: it cannot be synced, {why}.\nIt does not take the place of {path}.\n"
+            )
+        }
         FileFault::Aside { at, why } => {
             let (lies, more) = (whole_text(alloc, content, at.as_str())?, more_on(*why));
             format!(in alloc; "{lies}It cannot take the place of {path}: {why}.\n{more}")
@@ -128,7 +135,7 @@ fn fault_text(alloc: Global, target: Target<'_>, fault: &FileFault) -> Result<St
         FileFault::TooLarge { at, bytes } => {
             let lies = whole_text(alloc, content, at.as_str())?;
             format!(in alloc;
-                "{lies}It has {bytes} bytes, and at most 67108864 are read.\nIt does not take the place of {path}.\n"
+                "{lies}It has {bytes} bytes, and at most {MOST_BYTES} are read.\nIt does not take the place of {path}.\n"
             )
         }
         FileFault::Unsynced { why } => {

@@ -3,13 +3,14 @@
 use crate::output::refuse_line;
 use crate::telling::tell_unread;
 use ec_cli_refusals::Refusal;
+use ec_unit_text::MOST_BYTES;
 use std::alloc::Global;
 use std::io::Read;
 use std::rt::Files;
 use std::{fs, io};
 
 /// The most bytes of a unit text that are read, and one, by which a longer one shows.
-pub(crate) const MOST_TEXT: usize = 1_048_577;
+pub(crate) const MOST_TEXT: usize = MOST_BYTES + 1;
 
 /// What is told where the units come on standard input and that is closed.
 const CLOSED: &str = "The units cannot be read: standard input is closed.\n";

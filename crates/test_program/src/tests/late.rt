@@ -35,6 +35,15 @@ fn add_call<W: Write>(out: &mut Draft, late: &mut W, call: &str) {
     }
 }
 
+/// Whether a file took its place, whatever stood there.
+fn is_settled<F: Files>(late: Late<'_, F>) -> bool {
+    match late.finish() {
+        Ok(Some(whole)) => whole.settle(|_| None).is_ok(),
+        Ok(None) => true,
+        Err(_) => false,
+    }
+}
+
 /// Tells what the file at a path holds before the first of some calls, parted by `|`, after each, and once the file took its
 /// place.
 pub(super) fn add_calls<R: Files + AllocGlobal, F: Files>(
@@ -52,7 +61,7 @@ pub(super) fn add_calls<R: Files + AllocGlobal, F: Files>(
         add_call(out, &mut late, call);
         add_held(out, rt, path);
     }
-    out.add(format_args!("settle {}", late.settle().is_ok()));
+    out.add(format_args!("settle {}", is_settled(late)));
     add_held(out, rt, path);
 }
 

@@ -97,7 +97,7 @@ loop-i-preserved t c =
             count = omega (arith, step, is.1, w.more-is, c.loop-i.invariant.count, c.saturating_add-count.ensures);
           }
       | in-None+in_ok-go_on-in-None+in_ok-below-in-None w ↦
-          let gone = w.in_ok-go_on-in-None.ensures in
+          let gone = w.in_ok-go_on-in-None.ensures.ok in
           let below = w.in_ok-below-in-None.ensures in
           let longer : w.go_on.new.self.path ≡ q ++ p ∷ [] = (λ j. (gone j).path) ∙ ap (λ v. v ++ p ∷ []) c.loop-i.invariant.path in
           let x = w.index-in-None.result.now in
@@ -126,5 +126,5 @@ returns-in_ok-mark-in-OpenLeaf-clause-marked t c =
     let order = c.args.order.now in
     let loads = c.args.loads.now in
     let leaf = ap shape_of c.in-OpenLeaf.is ∙ shape_of-OpenLeaf in
-    (λ j. (c.in_ok-mark-in-OpenLeaf.ensures j).marked)
+    (λ j. (c.in_ok-mark-in-OpenLeaf.ensures.ok j).marked)
     ∙ ap (λ s. c.args.walk.now.marked ++ leaf_places (line_by (line_rules c.args.rules) loads.loads loads.slots) s (prefix_of loads.loads order q) (drop (length q) order) q) (sym leaf)

@@ -1,0 +1,80 @@
+//! Units that meet in some tick wherever they are placed.
+
+use crate::periods::times;
+use ec_units::{Unit, bytes_of};
+use ec_wire::frame_wire;
+use std::fmt;
+
+/// The bytes of a frame with two datagrams, beside those of their units.
+const DATAGRAMS: u32 = 26;
+
+/// The most bytes of two units.
+const MOST_OF_TWO: u32 = 2972;
+
+/// The most bytes of two units in one frame.
+const MOST_BYTES: u32 = 1474;
+
+/// Two units whose periods, both above 1, have no common divisor but 1: in some tick both travel, whatever their phases are.
+#[derive(Clone, Copy)]
+pub struct Meeting {
+    pub periods: (u16, u16),
+    /// The bytes of both.
+    pub bytes: u32,
+}
+
+impl Meeting {
+    /// The least that both take on the wire in one tick, in bytes.
+    pub(crate) fn wire(self) -> u64 {
+        u64::from(frame_wire(self.bytes.min(MOST_OF_TWO) + DATAGRAMS))
+    }
+
+    /// Whether both go into one frame.
+    pub(crate) fn is_one_frame(self) -> bool {
+        self.bytes <= MOST_BYTES
+    }
+}
+
+impl fmt::Display for Meeting {
+    fn fmt<W: fmt::Write>(&self, f: &mut fmt::Formatter<W>) -> fmt::Result {
+        let (one, other) = self.periods;
+        write!(
+            f,
+            "Two units with periods {one} and {other} meet in some tick wherever they are placed"
+        )
+    }
+}
+
+/// Whether two periods are above 1 and have no common divisor but 1.
+fn are_coprime(one: u16, other: u16) -> bool {
+    one > 1 && other > 1 && times(u64::from(one), u64::from(other)) == u64::from(other)
+}
+
+/// The one of two meetings that has more bytes, the first where both have as many.
+fn heavier(one: Option<Meeting>, other: Meeting) -> Option<Meeting> {
+    match one {
+        Some(one) if one.bytes >= other.bytes => Some(one),
+        _ => Some(other),
+    }
+}
+
+/// The heaviest meeting of a unit with one of some others, if it has one, or a heavier one that was found before.
+fn heaviest_with(found: Option<Meeting>, unit: &Unit, others: &[Unit]) -> Option<Meeting> {
+    let mut most = found;
+    for other in others {
+        if are_coprime(unit.period, other.period) {
+            let bytes = u32::from(bytes_of(unit)) + u32::from(bytes_of(other));
+            let periods = (unit.period, other.period);
+            most = heavier(most, Meeting { periods, bytes });
+        }
+    }
+    most
+}
+
+/// The two of some units that have the most bytes of those that meet in some tick wherever they are placed.
+pub(crate) fn heaviest(units: &[Unit]) -> Option<Meeting> {
+    let mut most = None;
+    for (at, unit) in units.iter().enumerate() {
+        most = heaviest_with(most, unit, units.get(at..).unwrap_or(&[]));
+    }
+    most
+}
