@@ -1,7 +1,7 @@
 #!/usr/bin/env python3
 """A line of slaves behind an Ethernet interface, for tests of a master.
 
-    tests/line_of_slaves.py INTERFACE SLAVES [--away PLACE | --spoil lose|bend|swap] [--after FRAMES]
+    tests/line_of_slaves.py INTERFACE SLAVES [--away PLACE | --spoil lose|bend|swap|double] [--after FRAMES]
 
 takes each EtherCAT frame that comes to the interface, passes it through so many slaves, one after the other, and sends it
 back. It is a model of its own, written from ETG.1000.4 alone: the frame (clause 5.3), datagrams, addressing and working
@@ -12,7 +12,7 @@ write by one slave (BRW, ARMW and FRMW pass).
 A slave has a small application: after each frame each byte of its inputs is the byte of its outputs at the same place, turned
 around at their end, and one more; of a slave without outputs it counts the reads. With --away the slave at PLACE, from 0,
 passes frames on and does nothing, once so many frames have come. With --spoil the frame after so many is lost, comes back with
-another address, or behind the next one.
+another address, behind the next one, or in place of the next one too.
 
 SIGTERM ends it. It then tells how many frames came, and of each slave the outputs that it holds and the inputs that were read
 last: `frames N`, `outputs STATION HEX`, `inputs STATION HEX`.
@@ -212,7 +212,7 @@ def main():
     words.add_argument("slaves", type=int)
     words.add_argument("--away", type=int)
     words.add_argument("--after", type=int, default=0)
-    words.add_argument("--spoil", choices=("lose", "bend", "swap"))
+    words.add_argument("--spoil", choices=("lose", "bend", "swap", "double"))
     told = words.parse_args()
     slaves, count, behind = [Slave() for _ in range(told.slaves)], 0, None
     line = socket.socket(socket.AF_PACKET, socket.SOCK_RAW, socket.htons(ETHERCAT))
@@ -228,7 +228,10 @@ def main():
             passed(there, frame)
             if spoilt == "bend":
                 frame[ADDRESS] ^= 1
-            if spoilt in (None, "bend"):
+            is_left_out = told.spoil == "double" and count == told.after + 1
+            if spoilt in (None, "bend", "double") and not is_left_out:
+                line.send(frame)
+            if spoilt == "double":
                 line.send(frame)
             if behind is not None:
                 line.send(behind)

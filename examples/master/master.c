@@ -3,10 +3,12 @@
  *     master --print               writes the FMMU records and the frames, as `ecplan frames` does
  *     master INTERFACE TICKS [MS]  sends so many ticks; waits for the frames of a tick until the next one, or so many ms
  *
- * plan.h is what `ecplan frames --header plan.h` writes. The status is 0 where all came back right. */
+ * plan.h is what `ecplan frames --header plan.h` writes. The status is 0 where all came back right, 1 where something did not, and
+ * 2 where it can't begin. */
 #define _GNU_SOURCE
 #include "plan.h"
 #include <arpa/inet.h>
+#include <errno.h>
 #include <linux/if_packet.h>
 #include <net/if.h>
 #include <poll.h>
@@ -17,7 +19,7 @@
 #include <time.h>
 #include <unistd.h>
 
-enum { ETHERCAT = 0x88A4, LRW = 12, AHEAD = 16, HEAD = 10, TAIL = 2, LEAST = 60, MOST = 1514, START_MS = 1000 };
+enum { ETHERCAT = 0x88A4, FPWR = 5, LRW = 12, AHEAD = 16, HEAD = 10, TAIL = 2, LEAST = 60, MOST = 1514, START_MS = 1000 };
 static const uint8_t ETHERNET[14] = { 0xff, 0xff, 0xff, 0xff, 0xff, 0xff, 2, 0, 0, 0, 0, 1, 0x88, 0xa4 };
 
 /* The process image, outputs as they are sent and inputs as they came, and what is counted. */
@@ -92,38 +94,49 @@ static void sleep_until(int64_t ns)
         ;
 }
 
-/* Waits for a frame, at most until a time. Its length; 0 where none came. */
+/* Waits for a frame, at most until a time. Its length, or AHEAD of one that is too short or too long; 0 where none came. */
 static size_t receive(int line, uint8_t *frame, int64_t until)
 {
     struct pollfd ready = { line, POLLIN, 0 };
-    int64_t left = until - now();
-    struct timespec t = { (time_t)(left / 1000000000), (long)(left % 1000000000) };
-    if (ppoll(&ready, 1, left < 0 ? &(struct timespec){ 0, 0 } : &t, NULL) < 1)
-        return 0;
-    ssize_t got = recv(line, frame, MOST, MSG_TRUNC);
-    return got < AHEAD || MOST < got ? AHEAD : (size_t)got;
+    for (;;) {
+        int64_t left = until - now();
+        struct timespec t = { (time_t)(left / 1000000000), (long)(left % 1000000000) };
+        if (ppoll(&ready, 1, left < 0 ? &(struct timespec){ 0, 0 } : &t, NULL) < 1)
+            return 0;
+        ssize_t got = recv(line, frame, MOST, MSG_TRUNC);
+        if (0 <= got) /* an error of the socket is no frame */
+            return got < AHEAD || MOST < got ? AHEAD : (size_t)got;
+    }
 }
 
-/* Sends a start frame, and says what is wrong with its answer. Whether nothing is. */
+/* Whether a frame that came back answers a start frame. Its index tells it from the others. Slaves change the position of the address,
+   so a station is compared alone, and of each address the offset. */
+static int is_answer(const uint8_t *back, const uint8_t *frame)
+{
+    size_t same = frame[AHEAD] == FPWR ? 2 : 4;
+    return memcmp(back + AHEAD, frame + AHEAD, 2) == 0 && memcmp(back + AHEAD + same, frame + AHEAD + same, 8 - same) == 0;
+}
+
+/* Sends a start frame, and says what is wrong with its answer: 0 nothing, 1 something, 2 where it can't be sent. */
 static int start(int line, unsigned i)
 {
     const struct ecplan_start *plan = &ecplan_starts[i];
-    const uint8_t *frame = ecplan_start_bytes + plan->first;
-    uint8_t back[MOST];
+    uint8_t frame[MOST], back[MOST];
+    memcpy(frame, ecplan_start_bytes + plan->first, plan->bytes);
+    frame[AHEAD + 1] = (uint8_t)i;
     size_t at = AHEAD + HEAD + (get16(frame + AHEAD + 6) & 0x7ff);
     int64_t until = now() + (int64_t)START_MS * 1000000;
     if (send(line, frame, plan->bytes, 0) < 0)
-        perror("send");
+        return perror("send"), 2;
     for (;;) {
         size_t got = receive(line, back, until);
         if (got == 0)
-            return printf("start %u lost\n", i), 0;
-        /* the position of the address changes on its way, the command and the offset don't */
-        if (got != plan->bytes || back[AHEAD] != frame[AHEAD] || memcmp(back + AHEAD + 4, frame + AHEAD + 4, 4) != 0)
+            return printf("start %u lost\n", i), 1;
+        if (got != plan->bytes || !is_answer(back, frame))
             continue;
-        if (get16(back + at) != plan->counter)
-            printf("start %u want %u got %u\n", i, plan->counter, get16(back + at));
-        return get16(back + at) == plan->counter;
+        if (get16(back + at) == plan->counter)
+            return 0;
+        return printf("start %u want %u got %u\n", i, plan->counter, get16(back + at)), 1;
     }
 }
 
@@ -217,35 +230,48 @@ static int tell(unsigned long ticks)
     return is_right ? 0 : 1;
 }
 
+/* The number that a word is, from 1 on; -1 where it is none, or a greater one than `most`. */
+static int64_t number_in(const char *word, int64_t most)
+{
+    char *end;
+    errno = 0;
+    long long number = strtoll(word, &end, 10);
+    return *word < '0' || '9' < *word || *end != 0 || errno != 0 || number < 1 || most < number ? -1 : number;
+}
+
 int main(int count, char **words)
 {
     if (count == 2 && strcmp(words[1], "--print") == 0)
         return print_plan();
-    if (count < 3)
+    int64_t ticks = count == 3 || count == 4 ? number_in(words[2], 1000000000) : -1;
+    int64_t ms = count == 4 ? number_in(words[3], 3600000) : 0;
+    if (ticks < 0 || ms < 0)
         return fprintf(stderr, "usage: master --print | master INTERFACE TICKS [MS]\n"), 2;
-    unsigned long ticks = strtoul(words[2], NULL, 10);
-    int64_t wait = count < 4 ? ECPLAN_TICK_NS / 8 * 7 : (int64_t)strtoul(words[3], NULL, 10) * 1000000;
+    int64_t wait = count == 4 ? ms * 1000000 : ECPLAN_TICK_NS / 8 * 7;
     struct sockaddr_ll place = { .sll_family = AF_PACKET, .sll_protocol = htons(ETHERCAT) };
     place.sll_ifindex = (int)if_nametoindex(words[1]);
     if (place.sll_ifindex == 0)
         return perror(words[1]), 2;
-    int line = socket(AF_PACKET, SOCK_RAW, htons(ETHERCAT));
+    int line = socket(AF_PACKET, SOCK_RAW, 0); /* of no protocol, so that it takes nothing before `bind` */
     if (line < 0 || bind(line, (struct sockaddr *)&place, sizeof place) != 0)
         return perror(words[1]), 2;
     printf("plan %s tick_ns %d\n", ECPLAN_ID, ECPLAN_TICK_NS);
     fflush(stdout);
-    for (unsigned i = 0; i < ECPLAN_STARTS; i++)
-        if (!start(line, i))
-            return 1;
-    int64_t begin = now();
-    for (unsigned long number = 0; number < ticks; number++) {
-        sleep_until(begin);
-        do_tick(line, number, begin + wait);
-        begin += ECPLAN_TICK_NS;
-        if (begin < now()) { /* the next tick would be late: it begins now */
-            late++;
-            begin = now();
-        }
+    for (unsigned i = 0; i < ECPLAN_STARTS; i++) {
+        int status = start(line, i);
+        if (status != 0)
+            return status;
     }
-    return tell(ticks);
+    int64_t begin = now();
+    for (unsigned long number = 0; number < (unsigned long)ticks; number++) {
+        sleep_until(begin);
+        int64_t woke = now();
+        if (begin + ECPLAN_TICK_NS / 8 < woke) { /* the tick begins late, and those behind it go by it */
+            late++;
+            begin = woke;
+        }
+        do_tick(line, number, woke + wait);
+        begin += ECPLAN_TICK_NS;
+    }
+    return tell((unsigned long)ticks);
 }
