@@ -447,7 +447,7 @@ def try_better_places(units, trial):
 
 
 def try_other_places(change, trial):
-    """Better places of a text that says something else, or that no command reads, are replaced."""
+    """Better places of a text that says something else are replaced."""
     trial.put("units.toml", example("assembly-line.toml"))
     trial.run("plan", "--strong", "--places", "placed.toml", "units.toml")
     other = change(trial.get("placed.toml"))
@@ -456,12 +456,24 @@ def try_other_places(change, trial):
     trial.holds(done.code == 2 and trial.get("placed.toml") != other, f"status {done.code}: {done.said}")
 
 
+def try_longer_text(trial):
+    """A text that is too long is no unit text, though it has better places in front: it is left."""
+    trial.put("units.toml", example("assembly-line.toml"))
+    trial.run("plan", "--strong", "--places", "placed.toml", "units.toml")
+    trial.put("placed.toml", trial.get("placed.toml") + b"#" * 1200000)
+    before = trial.seen()
+    done = trial.run("plan", "--nodes", "1", "--places", "placed.toml", "units.toml")
+    trial.ends(done, 4, REFUSED_WRITE)
+    trial.tells(done, "placed.toml", "holds something else")
+    trial.left(before)
+
+
 def better_places(_outputs):
     """`--places` where better places for the same units stand, or for others."""
     for what, change in (("another station", lambda text: text.replace(b"station = 2001", b"station = 2999")),
-                         ("another tick", lambda text: text.replace(b"tick_ns = ", b"tick_ns = 1")),
-                         ("a text that is too long", lambda text: text + b"#" * 1200000)):
+                         ("another tick", lambda text: text.replace(b"tick_ns = ", b"tick_ns = 1"))):
         yield f"plan --places p, over better places with {what}", partial(try_other_places, change)
+    yield "plan --places p, over better places with a text that is too long", try_longer_text
     yield "plan --places p, over better places of another text for the same units", partial(try_better_places, "units.toml")
     yield "plan --places p p, over better places of its own", partial(try_better_places, "placed.toml")
 

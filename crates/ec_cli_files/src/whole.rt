@@ -98,6 +98,10 @@ impl<'a, F: Files> Whole<'a, F> {
             if let Some(why) = judge(&self) {
                 return Err(self.leave(why));
             }
+            if self.is_lost() {
+                let why = io::Error::from_raw_os_error(NO_ENTRY);
+                return Err(FileFault::Unwritten { why });
+            }
             if self.seen() == seen {
                 return self.take_place();
             }
@@ -126,10 +130,6 @@ impl<'a, F: Files> Whole<'a, F> {
 
     /// Lets the file take its place, and syncs the folder. One that no command reads doesn't take the place of another.
     fn take_place(self) -> Result<(), FileFault> {
-        if self.is_lost() {
-            let why = io::Error::from_raw_os_error(NO_ENTRY);
-            return Err(FileFault::Unwritten { why });
-        }
         let Whole {
             files,
             content,
