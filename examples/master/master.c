@@ -2,8 +2,9 @@
  *
  *     master --print               writes the FMMU records and the frames, as `ecplan frames` does
  *     master INTERFACE TICKS [MS]  sends so many ticks; waits for the frames of a tick until the next one, or so many ms
+ *     master --no-start ..         the same without the start frames, where something else wrote stations and FMMU records
  *
- * plan.h is what `ecplan frames --header plan.h` writes. The status is 0 where all came back right, 1 where something did not, and
+ * SIGINT and SIGTERM end it behind a tick. plan.h is what `ecplan frames --header plan.h` writes. The status is 0 where all came back right, 1 where something did not, and
  * 2 where it can't begin. */
 #define _GNU_SOURCE
 #include "plan.h"
@@ -12,6 +13,7 @@
 #include <linux/if_packet.h>
 #include <net/if.h>
 #include <poll.h>
+#include <signal.h>
 #include <stdio.h>
 #include <stdlib.h>
 #include <string.h>
@@ -26,6 +28,7 @@ static const uint8_t ETHERNET[14] = { 0xff, 0xff, 0xff, 0xff, 0xff, 0xff, 2, 0, 
 static uint8_t outputs[ECPLAN_IMAGE_BYTES], inputs[ECPLAN_IMAGE_BYTES];
 static unsigned long sent, lost, changed, disordered, late, fallen[ECPLAN_GROUPS];
 static unsigned fallen_to[ECPLAN_GROUPS];
+static volatile sig_atomic_t is_stopped;
 
 static unsigned get16(const uint8_t *at) { return at[0] | (unsigned)at[1] << 8; }
 static void put16(uint8_t *at, unsigned number) { at[0] = (uint8_t)(number & 0xff), at[1] = (uint8_t)(number >> 8); }
@@ -101,7 +104,10 @@ static size_t receive(int line, uint8_t *frame, int64_t until)
     for (;;) {
         int64_t left = until - now();
         struct timespec t = { (time_t)(left / 1000000000), (long)(left % 1000000000) };
-        if (ppoll(&ready, 1, left < 0 ? &(struct timespec){ 0, 0 } : &t, NULL) < 1)
+        int found = ppoll(&ready, 1, left < 0 ? &(struct timespec){ 0, 0 } : &t, NULL);
+        if (found < 0 && errno == EINTR)
+            continue;
+        if (found < 1)
             return 0;
         ssize_t got = recv(line, frame, MOST, MSG_TRUNC);
         if (0 <= got) /* an error of the socket is no frame */
@@ -140,12 +146,17 @@ static int start(int line, unsigned i)
     }
 }
 
-/* The application: it sets the outputs of a group before they are sent. Put your own in its place. */
+/* The application: it sets the outputs of a group before they are sent. Put your own in its place: without it they stay 0. With PATTERN
+   each byte counts the ticks, which moves what stands on a real line. */
 static void set_outputs(unsigned group, unsigned long tick)
 {
+#ifdef PATTERN
     for (unsigned i = 0; i < ECPLAN_SLAVES; i++)
         for (unsigned k = 0; ecplan_slaves[i].group == group && k < ecplan_slaves[i].out_bytes; k++)
             outputs[ecplan_slaves[i].out_offset + k] = (uint8_t)((tick + i + k) & 0xff);
+#else
+    (void)group, (void)tick;
+#endif
 }
 
 /* Takes the inputs of a group from the data of its datagram. */
@@ -239,14 +250,31 @@ static int64_t number_in(const char *word, int64_t most)
     return *word < '0' || '9' < *word || *end != 0 || errno != 0 || number < 1 || most < number ? -1 : number;
 }
 
+/* Sends the start frames one by one, and says what is wrong with an answer, as `start` does. */
+static int start_all(int line)
+{
+    int status = 0;
+    for (unsigned i = 0; status == 0 && i < ECPLAN_STARTS; i++)
+        status = start(line, i);
+    return status;
+}
+
+static void stop(int number)
+{
+    (void)number;
+    is_stopped = 1;
+}
+
 int main(int count, char **words)
 {
     if (count == 2 && strcmp(words[1], "--print") == 0)
         return print_plan();
+    int is_started = 1 < count && strcmp(words[1], "--no-start") == 0;
+    count -= is_started, words += is_started;
     int64_t ticks = count == 3 || count == 4 ? number_in(words[2], 1000000000) : -1;
     int64_t ms = count == 4 ? number_in(words[3], 3600000) : 0;
     if (ticks < 0 || ms < 0)
-        return fprintf(stderr, "usage: master --print | master INTERFACE TICKS [MS]\n"), 2;
+        return fprintf(stderr, "usage: master --print | master [--no-start] INTERFACE TICKS [MS]\n"), 2;
     int64_t wait = count == 4 ? ms * 1000000 : ECPLAN_TICK_NS / 8 * 7;
     struct sockaddr_ll place = { .sll_family = AF_PACKET, .sll_protocol = htons(ETHERCAT) };
     place.sll_ifindex = (int)if_nametoindex(words[1]);
@@ -257,13 +285,13 @@ int main(int count, char **words)
         return perror(words[1]), 2;
     printf("plan %s tick_ns %d\n", ECPLAN_ID, ECPLAN_TICK_NS);
     fflush(stdout);
-    for (unsigned i = 0; i < ECPLAN_STARTS; i++) {
-        int status = start(line, i);
-        if (status != 0)
-            return status;
-    }
+    int status = is_started ? 0 : start_all(line);
+    if (status != 0)
+        return status;
+    signal(SIGINT, stop), signal(SIGTERM, stop);
     int64_t begin = now();
-    for (unsigned long number = 0; number < (unsigned long)ticks; number++) {
+    unsigned long number = 0;
+    for (; number < (unsigned long)ticks && !is_stopped; number++) {
         sleep_until(begin);
         int64_t woke = now();
         if (begin + ECPLAN_TICK_NS / 8 < woke) { /* the tick begins late, and those behind it go by it */
@@ -273,5 +301,5 @@ int main(int count, char **words)
         do_tick(line, number, woke + wait);
         begin += ECPLAN_TICK_NS;
     }
-    return tell((unsigned long)ticks);
+    return tell(number);
 }
