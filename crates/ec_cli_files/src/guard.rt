@@ -72,13 +72,15 @@ pub enum KeepReason {
     IsTold,
     /// It holds something else than what would be written there.
     HoldsElse,
+    /// It is a link, a folder or what else is no file, and came there since the path was looked at.
+    IsNoFile,
     /// What it holds can't be read.
     Unreadable,
     /// It holds a certificate of the same units that says more, and no proof.
     SaysMore,
     /// It holds a proof for the same units.
     IsProof,
-    /// It holds another unit text than the one that the run began with.
+    /// It holds another unit text than the one that the run began with. The new file is taken away.
     Changed,
     /// It holds the same units with places whose busiest tick costs less.
     Cheaper,
@@ -94,6 +96,9 @@ impl KeepReason {
             KeepReason::IsTold => "Standard error goes to it: give another path",
             KeepReason::HoldsElse => {
                 "It holds something else: give another path, or take the file away first"
+            }
+            KeepReason::IsNoFile => {
+                "A link, a folder or a pipe came there during the run: take it away, and move the new one there"
             }
             KeepReason::Unreadable => {
                 "What it holds cannot be read: give another path, or take the file away first"
@@ -132,6 +137,17 @@ fn is_capture(front: &[u8]) -> bool {
     front.starts_with(CAPTURE) && frame == FRAME
 }
 
+/// Whether a text begins as another one, whose lines end with a line feed, with a carriage return before it or not.
+fn begins_as(text: &[u8], front: &[u8]) -> bool {
+    let mut found = text.iter().filter(|byte| **byte != b'\r');
+    for byte in front {
+        if *byte != b'\r' && found.next() != Some(byte) {
+            return false;
+        }
+    }
+    true
+}
+
 /// Whether the file at a path begins as the content does.
 fn begins<F: Files>(files: &F, path: &str, content: Content) -> io::Result<bool> {
     let mut front = [0u8; MOST_FRONT];
@@ -140,7 +156,7 @@ fn begins<F: Files>(files: &F, path: &str, content: Content) -> io::Result<bool>
     Ok(match content {
         Content::Certificate => has_version(front),
         Content::Capture => is_capture(front),
-        _ => front.starts_with(content.front()),
+        _ => begins_as(front, content.front()),
     })
 }
 

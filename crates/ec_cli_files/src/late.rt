@@ -7,7 +7,7 @@ ghost use Rattle.std.specs.Io.KnownBytes.{WriteAppends};
 
 use crate::fault::FileFault;
 use crate::guard::Content;
-use crate::place::{Identity, Place};
+use crate::place::{Identity, Place, take_away};
 use crate::settling::dress;
 use crate::whole::Whole;
 use std::alloc::{AllocError, Global};
@@ -34,8 +34,8 @@ pub struct Late<'a, F: Files> {
     place: Place,
     /// The name of the file beside the path, with room for each that is tried.
     name: String,
-    /// Whether the file of that name was made here.
-    made: bool,
+    /// The file of that name that was made here.
+    made: Option<Identity>,
     file: Option<F::File>,
     bytes: u64,
     fault: Option<io::Error>,
@@ -111,7 +111,7 @@ impl<'a, F: Files> Late<'a, F> {
             content,
             place,
             name,
-            made: false,
+            made: None,
             file: None,
             bytes: 0,
             fault: None,
@@ -125,7 +125,7 @@ impl<'a, F: Files> Late<'a, F> {
         match &self.place {
             Place::Beside { path } => {
                 let file = make_beside(self.files, &mut self.name, path.as_str())?;
-                self.made = true;
+                self.made = Some(Identity::of(&file.metadata()?));
                 Ok(file)
             }
             Place::Straight { path } => open_straight(self.files, path.as_str()),
@@ -144,12 +144,12 @@ impl<'a, F: Files> Late<'a, F> {
             return Ok(());
         }
         let file = self.make()?;
-        let Some(path) = self.place.beside() else {
+        let (Some(path), Some(made)) = (self.place.beside(), self.made) else {
             return Ok(());
         };
         let dressed = dress(self.files, &file, self.name.as_str(), path);
-        self.made = false;
-        fs::remove_file(self.files, self.name.as_str())?;
+        self.made = None;
+        take_away(self.files, self.name.as_str(), made)?;
         dressed
     }
 
@@ -183,21 +183,18 @@ impl<'a, F: Files> Late<'a, F> {
             content,
             place,
             name,
+            made,
             file,
             bytes,
             ..
         } = self;
-        let (Place::Beside { path }, Some(file)) = (place, file) else {
+        let (Place::Beside { path }, Some(file), Some(made)) = (place, file, made) else {
             return Ok(None);
         };
         let dressed = dress(files, &file, name.as_str(), path.as_str());
         if let Err(why) = file.sync_all() {
             return Err(FileFault::Unsure { at: name, why });
         }
-        let made = match file.metadata() {
-            Ok(found) => Identity::of(&found),
-            Err(why) => return Err(FileFault::Unsure { at: name, why }),
-        };
         if let Err(why) = dressed {
             return Err(FileFault::Aside { at: name, why });
         }
@@ -215,8 +212,8 @@ impl<'a, F: Files> Late<'a, F> {
     /// Takes away what was written of the file, and says why it isn't whole.
     pub fn give_up(self) -> FileFault {
         let why = self.fault.unwrap_or(io::Error::from(ErrorKind::Other));
-        if self.made {
-            let _ = fs::remove_file(self.files, self.name.as_str());
+        if let Some(made) = self.made {
+            let _ = take_away(self.files, self.name.as_str(), made);
         }
         FileFault::Unwritten { why }
     }

@@ -100,6 +100,15 @@ impl Identity {
     }
 }
 
+/// Takes the file of a name away, if it is this one: what another program put there in its place stays.
+pub(crate) fn take_away<F: Files>(files: &F, name: &str, made: Identity) -> io::Result<()> {
+    let found = fs::symlink_metadata(files, name)?;
+    if Identity::of(&found) == made {
+        fs::remove_file(files, name)?;
+    }
+    Ok(())
+}
+
 /// Whether two paths lead to one file or folder that is there (own profile).
 pub fn are_same_file<F: Files>(files: &F, one: &str, other: &str) -> bool {
     match (fs::metadata(files, one), fs::metadata(files, other)) {

@@ -2,7 +2,7 @@
 
 use crate::fault::FileFault;
 use crate::guard::{Content, KeepReason, reason_to_keep};
-use crate::place::{Identity, NO_ENTRY};
+use crate::place::{Identity, NO_ENTRY, take_away};
 use crate::reading::read_front;
 use crate::settling::sync_folder;
 use std::alloc::Global;
@@ -115,7 +115,7 @@ impl<'a, F: Files> Whole<'a, F> {
         let path = self.path.as_str();
         let found = fs::symlink_metadata(self.files, path).ok()?;
         if !found.is_file() {
-            return Some(KeepReason::HoldsElse);
+            return Some(KeepReason::IsNoFile);
         }
         reason_to_keep(self.files, self.alloc, path, self.content)
     }
@@ -148,8 +148,12 @@ impl<'a, F: Files> Whole<'a, F> {
         sync_folder(files, path).map_err(|why| FileFault::Unsynced { why })
     }
 
-    /// Leaves the file beside its path, where what stands there is kept for this reason.
+    /// Leaves the file beside its path, where what stands there is kept for this reason. What was made of a text that stands there no
+    /// more is taken away.
     fn leave(self, why: KeepReason) -> FileFault {
+        if why == KeepReason::Changed {
+            let _ = take_away(self.files, self.name.as_str(), self.made);
+        }
         FileFault::Kept { at: self.name, why }
     }
 }

@@ -1,6 +1,7 @@
 //! Faults of a certificate's text.
 
 use crate::due::CertText;
+use crate::headers::header_of;
 use crate::inputs::Inputs;
 use crate::quoted::{Bytes, PathPiece};
 use crate::syntax::{line_at, position_of};
@@ -60,10 +61,17 @@ fn add_stranger(out: &mut Draft, cert: &[u8]) {
     }
 }
 
+/// Whether a line is the header of a unit.
+fn is_header(line: &[u8]) -> bool {
+    match std::str::from_utf8(line) {
+        Ok(line) => header_of(line).is_some(),
+        Err(_) => false,
+    }
+}
+
 /// Whether a text begins a unit.
 fn has_unit(text: &[u8]) -> bool {
-    text.split(|byte| *byte == b'\n')
-        .any(|line| line.trim_ascii_start().starts_with(b"[[unit"))
+    text.split(|byte| *byte == b'\n').any(is_header)
 }
 
 /// Tells that a text doesn't begin as a certificate.

@@ -1,9 +1,9 @@
 //! What is known of each plan of a line by its units alone.
 
-use crate::meeting::{Meeting, heaviest};
+use crate::meeting::{Meeting, crowd, heaviest};
 use ec_bounds::{MeanTick, mean_tick};
 use ec_text_builder::Draft;
-use ec_units::{Unit, Units, bytes_of};
+use ec_units::{Slave, Unit, Units, bytes_of};
 use ec_wire::{BYTE_NS, fits, frame_wire};
 
 /// The most slots of a line.
@@ -15,9 +15,18 @@ const DATAGRAM: u32 = 14;
 /// The wire bytes of the least frame.
 const LEAST_FRAME: u64 = 84;
 
+/// The most bytes of a unit.
+const MOST_OF_UNIT: u32 = 1486;
+
 /// The wire bytes of a frame with one unit alone.
 fn wire_of(unit: &Unit) -> u64 {
     u64::from(frame_wire(DATAGRAM + u32::from(bytes_of(unit))))
+}
+
+/// The wire bytes of a frame with one slave of a unit alone.
+fn wire_of_slave(slave: &Slave) -> u64 {
+    let bytes = u32::from(slave.out_bytes) + u32::from(slave.in_bytes);
+    u64::from(frame_wire(DATAGRAM + bytes.min(MOST_OF_UNIT)))
 }
 
 /// The wire bytes of a frame with nothing but the largest of some units.
@@ -29,11 +38,15 @@ fn largest_of(units: &[Unit]) -> u64 {
     largest
 }
 
+/// Whether a unit has ticks for its slaves to travel apart, and each of them alone goes into one.
+fn is_divisible(unit: &Unit, tick_ns: u32) -> bool {
+    let mut slaves = unit.slaves.as_slice().iter();
+    unit.period > 1 && slaves.all(|slave| fits(wire_of_slave(slave), tick_ns))
+}
+
 /// Whether each of some units that is too long for a tick alone could be two that travel in different ticks.
 fn are_divisible(units: &[Unit], tick_ns: u32) -> bool {
-    units.iter().all(|unit| {
-        fits(wire_of(unit), tick_ns) || (unit.slaves.as_slice().len() > 1 && unit.period > 1)
-    })
+    units.iter().all(|unit| fits(wire_of(unit), tick_ns) || is_divisible(unit, tick_ns))
 }
 
 /// What may help where two units meet.
@@ -53,6 +66,8 @@ pub struct Cycle {
     pub is_divisible: bool,
     /// The two units with the most bytes that meet in some tick wherever they are placed, if any do.
     pub meeting: Option<Meeting>,
+    /// How many units of which no two go into one frame meet in some tick wherever they are placed.
+    pub crowd: u64,
     pub mean: MeanTick,
 }
 
@@ -65,6 +80,7 @@ impl Cycle {
             largest: largest_of(units.units.as_slice()),
             is_divisible: are_divisible(units.units.as_slice(), units.tick_ns),
             meeting: heaviest(units.units.as_slice()),
+            crowd: crowd(units.units.as_slice()),
             mean: mean_tick(units),
         }
     }
@@ -142,19 +158,51 @@ impl Cycle {
         ));
     }
 
-    /// Whether some tick of each plan has more frames than there are slots.
-    pub(crate) fn is_overfull(self) -> bool {
-        self.mean.frames > u64::from(self.slots)
+    /// Whether more than two units, each in a frame of its own, are what some tick has most frames for. Two are told as a meeting.
+    fn is_crowded(self) -> bool {
+        self.crowd > self.mean.frames.max(2)
     }
 
-    /// Adds why there is no plan, and what would help.
-    pub(crate) fn add_none(self, out: &mut Draft) {
-        let MeanTick { bytes, frames, .. } = self.mean;
-        let slots = self.slots;
-        if self.is_overfull() {
-            out.add(format_args!(
-                "Some tick of each plan carries at least {bytes} bytes of units: at least {frames} frames, and slots = {slots}. So there is no plan.\n"
+    /// The frames that some tick of each plan has at least.
+    fn frames(self) -> u64 {
+        if self.is_crowded() {
+            self.crowd
+        } else {
+            self.mean.frames
+        }
+    }
+
+    /// Which other periods may give it fewer frames.
+    fn periods(self) -> &'static str {
+        if self.is_crowded() {
+            "periods with a common divisor, as 2 and 4"
+        } else {
+            "longer periods"
+        }
+    }
+
+    /// Whether some tick of each plan has more frames than there are slots.
+    pub(crate) fn is_overfull(self) -> bool {
+        self.frames() > u64::from(self.slots)
+    }
+
+    /// Adds why some tick of each plan has more frames than there are slots.
+    fn add_overfull(self, out: &mut Draft) {
+        let (bytes, frames, slots) = (self.mean.bytes, self.frames(), self.slots);
+        if self.is_crowded() {
+            return out.add(format_args!(
+                "{frames} units meet in some tick wherever they are placed, and no two of them go into one frame, but slots = {slots}. So there is no plan.\n"
             ));
+        }
+        out.add(format_args!(
+            "Some tick of each plan carries at least {bytes} bytes of units: at least {frames} frames, and slots = {slots}. So there is no plan.\n"
+        ));
+    }
+
+    /// Adds why there is no plan.
+    fn add_why_none(self, out: &mut Draft) {
+        if self.is_overfull() {
+            self.add_overfull(out);
         } else {
             out.add("Each plan has a frame that is too full.\n");
         }
@@ -162,11 +210,19 @@ impl Cycle {
             out.add(format_args!("{meeting}, and are too much for one frame.\n"));
             out.add(PARTED);
         }
+    }
+
+    /// Adds why there is no plan, and what would help.
+    pub(crate) fn add_none(self, out: &mut Draft) {
+        self.add_why_none(out);
+        let (frames, slots, periods) = (self.frames(), self.slots, self.periods());
         if frames > u64::from(MOST_SLOTS) {
-            out.add("No number of slots is enough: fewer bytes or longer periods would help.\n");
+            out.add(format_args!(
+                "No number of slots is enough: fewer bytes or {periods} would help.\n"
+            ));
         } else if self.is_overfull() {
             out.add(format_args!(
-                "Raise slots = {slots}, to {frames} at least, or have fewer bytes or longer periods.\n"
+                "Raise slots = {slots}, to {frames} at least, or have fewer bytes or {periods}.\n"
             ));
         } else if self.overfull_meeting().is_some() {
             out.add(format_args!(

@@ -30,10 +30,17 @@ pub(crate) fn name_of(line: &str) -> &str {
     before(before(line.trim().trim_start_matches('['), '='), ']').trim()
 }
 
-/// The first line, from 1, with a name in its header, or with this key.
+/// The first line, from 1, that gives a key of the top its value: `key = value` above all headers, or a header with its name.
 pub(crate) fn line_named(doc: Doc<'_>, name: &str) -> Option<usize> {
-    let at = doc.text.lines().position(|line| name_of(line) == name)?;
-    Some(at.saturating_add(1))
+    let mut is_top = true;
+    for (index, line) in doc.text.lines().enumerate() {
+        let is_header = line.trim_start().starts_with('[');
+        is_top = is_top && !is_header;
+        if (is_top || is_header) && name_of(line) == name {
+            return Some(index.saturating_add(1));
+        }
+    }
+    None
 }
 
 /// The line, from 1, at which the table of a unit begins, or of a slave of it, both numbered from 0. None where the units aren't

@@ -109,10 +109,16 @@ fn place_of(word: &str, at: Kind) -> Option<&'static str> {
     None
 }
 
-/// Adds which key was meant by a word; where it speaks of bits, how they are counted.
+/// Whether a word that was meant for a key counts bits, where the key counts bytes.
+fn counts_bits(word: &str, key: Key) -> bool {
+    let is_bit = |letters: &[u8]| letters.eq_ignore_ascii_case(b"bit");
+    matches!(key, Key::OutBytes | Key::InBytes) && word.as_bytes().windows(3).any(is_bit)
+}
+
+/// Adds which key was meant by a word; where it counts bits, how they become bytes.
 pub(crate) fn add_meant(out: &mut Draft, word: &str, key: Key) {
     out.add(format_args!("Was {key} meant?\n"));
-    if word.contains("bit") || word.contains("Bit") {
+    if counts_bits(word, key) {
         out.add("It counts whole bytes: up to 8 bits are 1, up to 16 are 2.\n");
     }
 }

@@ -49,6 +49,23 @@ fn are_coprime(one: u16, other: u16) -> bool {
     one > 1 && other > 1 && times(u64::from(one), u64::from(other)) == u64::from(other)
 }
 
+/// The least bytes of a unit of which no two go into one frame, also in one datagram.
+const LARGE: u16 = 744;
+
+/// How many units of which no two go into one frame meet in some tick wherever they are placed: large ones whose periods have no common
+/// divisor but 1, in pairs, as period 1 has none with any other. Where there are several such sets, one of them is counted.
+pub(crate) fn crowd(units: &[Unit]) -> u64 {
+    let (mut count, mut product) = (0u64, 1u64);
+    for unit in units {
+        let period = u64::from(unit.period);
+        if bytes_of(unit) >= LARGE && times(product, period) == period {
+            count = count.saturating_add(1);
+            product = product.saturating_mul(period);
+        }
+    }
+    count
+}
+
 /// The one of two meetings that has more bytes, the first where both have as many.
 fn heavier(one: Option<Meeting>, other: Meeting) -> Option<Meeting> {
     match one {

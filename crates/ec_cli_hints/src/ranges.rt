@@ -15,7 +15,7 @@ pub(crate) const STATION: Rule = Rule(&[Key::Station], "a station address is 1 t
 
 pub(crate) const SLAVE_BYTES: Rule = Rule(
     &[Key::OutBytes, Key::InBytes],
-    "neither may be negative, and not both may be 0",
+    "neither may be negative, and not both may be 0.\nA device without process data is left out",
 );
 
 pub(crate) const SLOTS: Rule = Rule(&[Key::Slots], "there are 1 to 8 slots");
@@ -38,6 +38,10 @@ pub(crate) fn tell_range(out: &mut Draft, doc: Doc<'_>, spot: Spot, rule: Rule) 
     }
     out.add(format_args!("{words}.\n"));
 }
+
+/// What is told of a slave whose process data are registers.
+const REGISTERS: &str =
+    "A slave that has its data there, as digital outputs at 3840, can't be planned: leave it out, and let your master write it.\n";
 
 /// An area: where it begins, and its bytes.
 #[derive(Clone, Copy)]
@@ -64,7 +68,8 @@ impl Area {
     fn add_fault(self, out: &mut Draft, key: &str) -> bool {
         let Area { at, bytes } = self;
         if at < 4096 {
-            out.add(format_args!("{key} = {at} is below 4096, where the process data begin.\n"));
+            out.add(format_args!("{key} = {at} is below 4096, where a slave has registers.\n"));
+            out.add(REGISTERS);
         } else if at > 65535 {
             out.add(format_args!("{key} = {at} is above 65535, the last address.\n"));
         } else if self.end() > 65536 {
@@ -95,7 +100,7 @@ fn add_overlap(out: &mut Draft, outputs: Area, inputs: Area) {
 pub(crate) fn tell_area(out: &mut Draft, doc: Doc<'_>, spot: Spot) {
     let slave = doc.table(spot);
     out.add(format_args!(
-        "{}its outputs or its inputs lie wrong in its memory.\n",
+        "{}its outputs or its inputs lie where none can be planned.\n",
         In(doc, spot)
     ));
     if slave.0.is_none() {

@@ -1,6 +1,6 @@
 //! What was likely meant by a line of a unit text at which the TOML reader stopped.
 
-use crate::headers::header_of;
+use crate::headers::{header_of, name_of};
 use crate::twice::hint_of_twice;
 
 /// Where the reader stopped.
@@ -10,6 +10,8 @@ pub(crate) struct Stop<'a> {
     pub line: &'a str,
     /// What stands in the line from there on.
     pub rest: &'a str,
+    /// What stands in the text before it.
+    pub before: &'a str,
     /// Why, in the reader's words.
     pub message: &'a str,
 }
@@ -31,8 +33,11 @@ const BLANK: &str = "A blank stands there that looks like a space and is none: t
 const QUOTES: &str =
     "A text has a quote before and behind it, as name = \"press-4\": one is missing.\n";
 
+/// How a line is written.
+const FORM: &str = "A line is key = value, or a header in brackets.\n";
+
 /// What stands in a line before the first # that is outside quotes.
-fn uncommented(line: &str) -> &str {
+pub(crate) fn uncommented(line: &str) -> &str {
     let mut quoted = false;
     for (index, byte) in line.bytes().enumerate() {
         match byte {
@@ -98,7 +103,7 @@ fn has_zero(value: &str) -> bool {
 
 /// What is left of a value without the marks of base 16 in other languages, and without one that TOML has in small letters.
 fn without_marks(value: &str) -> &str {
-    for mark in ["0X", "#x", "$", "16#"] {
+    for mark in ["0X", "$"] {
         if let Some(rest) = value.strip_prefix(mark) {
             return rest;
         }
@@ -132,7 +137,7 @@ fn has_measure(value: &str) -> bool {
 /// What was likely meant by something that is no value.
 fn hint_of_value(rest: &str) -> &'static str {
     let value = before_comment(rest);
-    if is_other_base(value) {
+    if is_other_base(value) || rest.starts_with("#x") {
         BASE
     } else if has_zero(value) {
         "A number has no 0 in front.\n"
@@ -206,28 +211,62 @@ fn hint_behind(stop: Stop<'_>, word: &str) -> &'static str {
     }
 }
 
-/// Whether the reader stopped at a line of its own since a list above it isn't closed.
-fn is_unclosed(stop: Stop<'_>, word: &str) -> bool {
-    stop.message.contains("between array elements")
-        && stop.rest.trim() == word
-        && !word.starts_with('{')
+/// Whether a line is a header, or one key with its value, and so no part of a list.
+fn is_own_line(line: &str) -> bool {
+    let line = uncommented(line).trim();
+    header_of(line).is_some()
+        || (line.contains('=') && !line.contains(['{', '}']) && !line.ends_with(','))
+}
+
+/// Whether the reader stopped at a line that it took for part of a list.
+fn is_in_list(stop: Stop<'_>, word: &str) -> bool {
+    let is_whole = stop.rest.trim() == word || header_of(word).is_some();
+    is_whole
+        && (stop.message.contains("between array elements")
+            || stop.message.starts_with("invalid value"))
+}
+
+/// What was likely meant by a line that the reader took for part of a list.
+fn hint_in_list(stop: Stop<'_>, word: &str) -> Option<&'static str> {
+    if !is_in_list(stop, word) {
+        None
+    } else if is_own_line(word) {
+        Some("A list that begins above this line is not closed: its ] is missing.\n")
+    } else if word.starts_with(char::is_alphabetic) && word.contains('=') {
+        Some("A table in a list stands in { }, and the { before this key is missing.\n")
+    } else {
+        None
+    }
+}
+
+/// Whether a line has plain words, and more than one, in place of a key before its `=`.
+fn has_key_of_words(line: &str) -> bool {
+    let is_plain = |word: &str| {
+        word.starts_with(|letter: char| letter.is_ascii_alphabetic())
+            && word.chars().all(|letter| letter.is_ascii_alphanumeric()
+                || matches!(letter, '_' | '-'))
+    };
+    match uncommented(line).split_once('=') {
+        Some((key, _)) => key.trim().contains(' ') && key.split_whitespace().all(is_plain),
+        None => false,
+    }
 }
 
 /// What was likely meant by a line with nothing but plain signs, by the reader's message; empty where that isn't known.
 fn hint_of_message(stop: Stop<'_>, word: &str) -> &'static str {
     let Stop { rest, message, .. } = stop;
-    if is_unclosed(stop, word) {
-        "A list that begins above this line is not closed: its ] is missing.\n"
-    } else if message.starts_with("invalid escape") {
+    if message.starts_with("invalid escape") && name_of(word) == "name" {
         "A name has no other characters than a-z, A-Z, 0-9, _ and -.\n"
-    } else if message.starts_with("key with no value") && word.contains('=') {
+    } else if message.starts_with("key with no value") && has_key_of_words(word) {
         "A key is one word, as out_bytes, with _ and no space.\n"
+    } else if message.starts_with("key with no value") {
+        FORM
     } else if message.starts_with("number out of range") {
-        "No key takes so large a number.\n"
+        "No key takes such a number.\n"
     } else if message.starts_with("unexpected key or value") {
         hint_behind(stop, word)
     } else if !word.is_empty() && !word.starts_with('[') && !word.contains('=') {
-        "A line is key = value, or a header in brackets.\n"
+        FORM
     } else if message.starts_with("invalid value") {
         hint_of_value(rest)
     } else if message.contains("between digits") {
@@ -250,5 +289,7 @@ pub(crate) fn hint(stop: Stop<'_>) -> &'static str {
     if stop.message.contains("duplicate") {
         return hint_of_twice(stop);
     }
-    hint_of_signs(stop, word).unwrap_or_else(|| hint_of_message(stop, word))
+    hint_of_signs(stop, word)
+        .or_else(|| hint_in_list(stop, word))
+        .unwrap_or_else(|| hint_of_message(stop, word))
 }

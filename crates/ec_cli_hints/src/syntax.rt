@@ -67,6 +67,7 @@ fn add_hint(out: &mut Draft, text: &str, line: usize, count: usize, message: &st
     let stop = Stop {
         line: text.split('\n').nth(line).unwrap_or(""),
         rest: behind.split('\n').next().unwrap_or(""),
+        before: text.get(..count).unwrap_or(""),
         message,
     };
     if !add_mixed(out, text, line, stop) {

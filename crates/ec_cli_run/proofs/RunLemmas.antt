@@ -24,7 +24,7 @@ use Rattle.ec_cli_answers.specs.Planned.{Gets, GetsFront}
 use Rattle.ec_cli_answers.specs.Told.{HasInput, IsTold, TellsFor, file_of, told}
 use Rattle.ec_cli_answers.specs.declared.told.Told.{Told}
 use Rattle.ec_cli_answers.proofs.ToldLemmas.{unread_tells}
-use Rattle.ec_cli_run.specs.Runs.{AnswersLine, AnswersOf, Does, DoesLine, DoesWith, HasCert, IsDelivered, LineTold, Refuses, Tells, reported, where_used}
+use Rattle.ec_cli_run.specs.Runs.{AnswersLine, AnswersOf, Does, DoesLine, DoesWith, HasCert, IsDelivered, LineRead, LineTold, Refuses, Tells, reported, where_used}
 use Rattle.ec_cli_files.specs.declared.fault.FileFault.{FileFault}
 use Rattle.ec_cli_command.specs.declared.line.Line.{Line}
 use Rattle.ec_cli_command.specs.Words.{cert_of, job_of, out_of, reads_cert, writes_file}
@@ -282,23 +282,21 @@ none_given j (Err r) has none = tt
 
 -- ---- a command line
 
--- what is told where the file wasn't at its path
-line_refused : (j : Job) (from : Option (String Global)) (to : String Global) (bytes : List ℕ) (w : Written) → Refuses refusal.Write w → LineTold j from (Some to) w bytes
-line_refused j None to bytes w is = inl is
-line_refused j (Some path) to bytes w is = inl (inr is)
-
 -- what is written for an answer is what is told of it
+line_read : (j : Job) (from : Option (String Global)) (bytes : List ℕ) (answer : Result Told Refusal) (w : Written) → w ≡ told answer → AnswersLine j from bytes answer → LineRead j from w bytes
+line_read j None bytes answer w is h = (h.file, subst (λ (x : Written). IsTold j bytes None x h.file) (sym is) h.is)
+line_read j (Some path) bytes answer w is (inl read) = inl (is ∙ ap told read)
+line_read j (Some path) bytes answer w is (inr h) = inr (h.0, h.1.file, subst (λ (x : Written). IsTold j bytes (Some h.0) x h.1.file) (sym is) h.1.is)
+
 line_answered : (j : Job) (from to : Option (String Global)) (bytes : List ℕ) (answer : Result Told Refusal) (w : Written) → w ≡ told answer → AnswersLine j from bytes answer → LineTold j from to w bytes
-line_answered j None None bytes answer w is h = (h.file, subst (λ (x : Written). IsTold j bytes None x h.file) (sym is) h.is)
-line_answered j None (Some to) bytes answer w is h = inr (h.file, subst (λ (x : Written). IsTold j bytes None x h.file) (sym is) h.is)
-line_answered j (Some path) to bytes answer w is (inl read) = inl (inl (is ∙ ap told read))
-line_answered j (Some path) to bytes answer w is (inr h) = inr (h.0, h.1.file, subst (λ (x : Written). IsTold j bytes (Some h.0) x h.1.file) (sym is) h.1.is)
+line_answered j from None bytes answer w is h = line_read j from bytes answer w is h
+line_answered j from (Some to) bytes answer w is h = inr (line_read j from bytes answer w is h)
 
 -- what is reported is told
 line_reported : (j : Job) (from to : Option (String Global)) (bytes : List ℕ) (answer : Result Told Refusal) (fault : Option FileFault) (w : Written) → (to ≡ None → fault ≡ None) → w ≡ reported refused answer fault → AnswersLine j from bytes answer → LineTold j from to w bytes
 line_reported j from to bytes (Err r) fault w none is h = line_answered j from to bytes (Err r) w is h
 line_reported j from to bytes (Ok t) None w none is h = line_answered j from to bytes (Ok t) w is h
-line_reported j from (Some to) bytes (Ok t) (Some f) w none is h = line_refused j from to bytes w is
+line_reported j from (Some to) bytes (Ok t) (Some f) w none is h = inl is
 line_reported j from None bytes (Ok t) (Some f) w none is h = absurd (some-none (none refl))
 
 line_all : (j : Job) (from to : Option (String Global)) (left : Option (List ℕ)) (answer : Result Told Refusal) (fault : Option FileFault) (w : Written) → (to ≡ None → fault ≡ None) → w ≡ reported refused answer fault → IfSome left (λ bytes. AnswersLine j from bytes answer) → IfSome left (LineTold j from to w)

@@ -19,7 +19,7 @@ use Rattle.ec_cli_text.specs.Output.{Written, IsNoMemory, IsOutput}
 use Rattle.ec_cli_answers.specs.Planned.{Gets}
 use Rattle.ec_cli_answers.specs.Told.{IsTold}
 use Rattle.ec_workers.specs.Answers.{asked_for}
-use Rattle.ec_cli_run.specs.Runs.{DoesLine, DoesWith, HasCert, LineTold, Refuses}
+use Rattle.ec_cli_run.specs.Runs.{DoesLine, DoesWith, HasCert, LineRead, LineTold, Refuses}
 use Rattle.ec_cli_run.specs.Sound.{LineIsTrue, RunIsTrue, TellsTruth, YesTellsTruth}
 use Rattle.ec_cli_run.proofs.PlanSound.{plan_true, refusal_true, resume_true}
 use Rattle.ec_cli_run.proofs.RunLemmas.{lent_at, true_or_false}
@@ -118,25 +118,26 @@ truly trees levels j u cert out w has d = (d, run_true trees levels j u cert out
 
 -- ---- what a command line tells
 
+read_search : LevelsBound → (j : Job) → Searches j → (from : Option (String Global)) (bytes : List ℕ) (w : Written) → LineRead j from w bytes → (file : Option (List ℕ)) × TellsTruth bytes w file
+read_search levels j is None bytes w h = (h.0, search_true levels j is bytes None w h.0 h.1)
+read_search levels j is (Some from) bytes w (inl read) = (None, refusal_true bytes w None refusal.Read read)
+read_search levels j is (Some from) bytes w (inr h) = (h.1, search_true levels j is bytes (Some h.0) w h.1 h.2)
+
 line_search : LevelsBound → (j : Job) → Searches j → (from to : Option (String Global)) (left : Option (List ℕ)) (w : Written) → IfSome left (LineTold j from to w) → IfSome left (λ bytes. (file : Option (List ℕ)) × TellsTruth bytes w file)
 line_search levels j is from to None w h = tt
-line_search levels j is None None (Some bytes) w h = (h.0, search_true levels j is bytes None w h.0 h.1)
-line_search levels j is None (Some to) (Some bytes) w (inl write) = (None, refusal_true bytes w None refusal.Write write)
-line_search levels j is None (Some to) (Some bytes) w (inr h) = (h.0, search_true levels j is bytes None w h.0 h.1)
-line_search levels j is (Some from) to (Some bytes) w (inl (inl read)) = (None, refusal_true bytes w None refusal.Read read)
-line_search levels j is (Some from) to (Some bytes) w (inl (inr write)) = (None, refusal_true bytes w None refusal.Write write)
-line_search levels j is (Some from) to (Some bytes) w (inr h) = (h.1, search_true levels j is bytes (Some h.0) w h.1 h.2)
+line_search levels j is from None (Some bytes) w h = read_search levels j is from bytes w h
+line_search levels j is from (Some to) (Some bytes) w (inl write) = (None, refusal_true bytes w None refusal.Write write)
+line_search levels j is from (Some to) (Some bytes) w (inr h) = read_search levels j is from bytes w h
 
-line_check : TreesBound → LevelsBound → (from : String Global) (to : Option (String Global)) (left : Option (List ℕ)) (w : Written) → IfSome left (LineTold job.Check (Some from) to w) → IfSome left (λ bytes. YesTellsTruth bytes w)
-line_check trees levels from to None w h = tt
-line_check trees levels from to (Some bytes) w (inl (inl read)) = truth_refused bytes w refusal.Read read
-line_check trees levels from to (Some bytes) w (inl (inr write)) = truth_refused bytes w refusal.Write write
-line_check trees levels from to (Some bytes) w (inr h) = check_true trees levels bytes h.0 w h.2.0
+line_check : TreesBound → LevelsBound → (from : String Global) (left : Option (List ℕ)) (w : Written) → IfSome left (LineTold job.Check (Some from) None w) → IfSome left (λ bytes. YesTellsTruth bytes w)
+line_check trees levels from None w h = tt
+line_check trees levels from (Some bytes) w (inl read) = truth_refused bytes w refusal.Read read
+line_check trees levels from (Some bytes) w (inr h) = check_true trees levels bytes h.0 w h.2.0
 
 pub line_true : {R : Type 0} → TreesBound → LevelsBound → (l : Line) (u : Use R) (w : Written) → DoesLine l u w → LineIsTrue (job_of l) u w
 line_true trees levels (line.Cost None svg) u w d = tt
 line_true trees levels (line.Plan effort strong out places) u w d = λ sound. line_search levels (job.Plan effort.workers effort.nodes strong) tt None out (before u) w (d.told sound)
 line_true trees levels (line.Resume cert effort part out places) u w d = λ sound. line_search levels (job.Resume effort.workers effort.nodes part) tt (Some cert) out (before u) w (d.told sound)
-line_true trees levels (line.Check cert) u w d = λ sound. line_check trees levels cert None (before u) w (d.told sound)
+line_true trees levels (line.Check cert) u w d = λ sound. line_check trees levels cert (before u) w (d.told sound)
 line_true trees levels (line.Frames cert None header table report) u w d = tt
 line_true trees levels l u w d = tt

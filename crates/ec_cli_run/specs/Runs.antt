@@ -83,12 +83,15 @@ reported line (Ok t) None = shown t.answer
 reported line (Ok t) (Some fault) = refused refusal.Write
 reported line (Err why) fault = line why
 
--- what is told where the job, the path of a certificate to read and that of a file to write are these: of a certificate whose file isn't known, what is told for
--- some text, unless a read or a write failed
+-- what is told where the path of a certificate to read is this: of one whose file isn't known, what is told for some text, unless it couldn't be read
+abbrev pub LineRead : Job → Option (String Global) → Written → List ℕ → Type 0
+LineRead j None w bytes = (file : Option (List ℕ)) × IsTold j bytes None w file
+LineRead j (Some from) w bytes = Refuses refusal.Read w ⊎ ((text : List ℕ) × (file : Option (List ℕ)) × IsTold j bytes (Some text) w file)
+
+-- the same, and where there is the path of a file to write, that this failed
 abbrev pub LineTold : Job → Option (String Global) → Option (String Global) → Written → List ℕ → Type 0
-LineTold j None None w bytes = (file : Option (List ℕ)) × IsTold j bytes None w file
-LineTold j None (Some to) w bytes = Refuses refusal.Write w ⊎ ((file : Option (List ℕ)) × IsTold j bytes None w file)
-LineTold j (Some from) to w bytes = (Refuses refusal.Read w ⊎ Refuses refusal.Write w) ⊎ ((text : List ℕ) × (file : Option (List ℕ)) × IsTold j bytes (Some text) w file)
+LineTold j from None w bytes = LineRead j from w bytes
+LineTold j from (Some to) w bytes = Refuses refusal.Write w ⊎ LineRead j from w bytes
 
 pub record DoesLine {R : Type 0} (line : Line) (units : Use R) (w : Written) : Type 0 where
   pub read : ReadsUpTo units most_of_units (Refuses refusal.Read w)

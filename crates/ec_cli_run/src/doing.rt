@@ -2,7 +2,7 @@
 
 ghost use Rattle.std.specs.Prelude.{◌≡◌, true, false, IfOk, IfSome, None};
 ghost use Rattle.ec_wire.specs.Stream.{has_failed, stream};
-ghost use Rattle.ec_cli_command.specs.Words.{JobFits, cert_of, job_of, reads_cert};
+ghost use Rattle.ec_cli_command.specs.Words.{JobFits, cert_of, job_of, out_of, reads_cert};
 ghost use Rattle.ec_cli_inputs.specs.Input.{ReadsUpTo, most_of_units};
 ghost use Rattle.ec_cli_inputs.specs.Use.{used};
 ghost use Rattle.ec_cli_text.specs.Output.{refused};
@@ -165,7 +165,8 @@ fn report_line<R: Read, W: Write, F: Files, T: Threads + Wait + Sync, G: Gate + 
     requires fits { JobFits (job_of line.now) }
     requires units { has_failed units.old ≡ false }
     requires text { has_failed text.old ≡ false }
-    ensures { Tells (λ w. (w ≡ reported refused result.told result.fault) × DoesLine line.now (used R.remaining units.old units.new) w) (used W.contents text.old text.new) result.status.code }
+    ensures does { Tells (λ w. (w ≡ reported refused result.told result.fault) × DoesLine line.now (used R.remaining units.old units.new) w) (used W.contents text.old text.new) result.status.code }
+    ensures fault { out_of line.now ≡ None → result.fault ≡ None }
 {
     let Some(path) = line.out() else {
         let told = tell_line(wait, files, alloc, line, units, gate);
@@ -201,6 +202,7 @@ pub fn do_line<R: Read, W: Write, F: Files, T: Threads + Wait + Sync, G: Gate + 
     requires text { has_failed text.old ≡ false }
     ensures does { Tells (λ w. (w ≡ reported refused result.told result.fault) × DoesLine line.now (used R.remaining units.old units.new) w) (used W.contents text.old text.new) result.status.code }
     ensures truth { Tells (LineIsTrue (job_of line.now) (used R.remaining units.old units.new)) (used W.contents text.old text.new) result.status.code }
+    ensures fault { out_of line.now ≡ None → result.fault ≡ None }
 {
     law_trees_bound();
     law_levels_bound();

@@ -1,6 +1,6 @@
 //! Merges certificates, with the paths that are named.
 
-ghost use Rattle.std.specs.Prelude.{◌≡◌, ◌≤◌, ℕ, List, false, length, IfOk, IfErr, IfSome, Ok as OkOf};
+ghost use Rattle.std.specs.Prelude.{◌≡◌, ◌≤◌, ℕ, List, false, length, IfOk, IfErr, IfSome, None, Ok as OkOf};
 ghost use Rattle.ec_wire.specs.Stream.{has_failed, stream};
 ghost use Rattle.ec_units.specs.Load.{loads_of};
 ghost use Rattle.ec_loads.specs.Held.{no_places};
@@ -220,6 +220,7 @@ pub fn do_merge<R: Read, W: Write, F: Files>(
     ensures truth { Tells (MergeTellsTruth (used R.remaining units.old units.new)) (used W.contents text.old text.new) result.status.code }
     ensures err { has_failed units.new ≡ false → IfSome (R.remaining (stream units.old)) (λ bytes. IfErr result.told (IsMergeFault bytes (length paths.now))) }
     ensures read { ReadsUpTo (used R.remaining units.old units.new) most_of_units (result.told ≡ Err (MergeFault.Refused Refusal.Read)) }
+    ensures fault { out.entry ≡ None → result.fault ≡ None }
 {
     let Some(path) = out else {
         let told = tell_merge(files, alloc, paths, units);

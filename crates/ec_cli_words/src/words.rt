@@ -4,7 +4,7 @@ ghost use Rattle.std.specs.Prelude.{◌≡◌, ◌≤◌, true, Some, codes, IfO
 ghost use Rattle.std.specs.Option.{ForSome};
 ghost use Rattle.ec_cli_command.specs.Words.{JobFits, job_of};
 ghost use Rattle.ec_cli_words.specs.Names.{name_of};
-ghost use Rattle.ec_cli_words.specs.Numbers.{EffortFits, HasEffortOf, HasNumbersOf, IsSaidBy};
+ghost use Rattle.ec_cli_words.specs.Numbers.{EffortFits, HasEffortOf, HasNodesOf, HasNumbersOf, IsMaybeSaidBy, usual_nodes as usual_nodes_spec};
 ghost use Rattle.ec_cli_words.specs.Parts.{HasPartOf, PartFits};
 ghost use Rattle.ec_cli_words.specs.Paths.{HasPathsOf, IsPathOf};
 ghost use Rattle.ec_cli_words.specs.Trials.{AreSaidBy, HasCaptureOf, HasLostOf};
@@ -27,7 +27,7 @@ const NO_PART: &str = "error: --part is I/N with 1 <= I <= N <= 10000, as 3/8\n"
 const CERT_TIP: &str = "\n  tip: the path of each certificate has --cert before it\n";
 
 /// What is told of a value that is no number.
-const NUMBER_TIP: &str = "\n  tip: a whole number is needed\n";
+const NUMBER_TIP: &str = "\n  tip: a whole number is needed, in decimal digits alone\n";
 
 /// Why words are no command line.
 #[derive(Debug, Drop)]
@@ -162,9 +162,18 @@ fn cert_path(alloc: Global, matches: &ArgMatches<'_>) -> Result<String, LineFaul
     ))
 }
 
+/// The minutes that a search may take, if any are said; none of a word that is no number.
+fn minutes_of(matches: &ArgMatches<'_>) -> Option<Option<u32>>
+    ensures { IfSome result (IsMaybeSaidBy matches.now (codes "minutes")) }
+{
+    matches.try_get_one::<u32>("minutes").ok()
+}
+
 /// The nodes that a search may visit where no number is given: a million, and where time ends it, as many as may be asked
 /// for.
-fn usual_nodes(minutes: Option<u32>) -> u32 {
+fn usual_nodes(minutes: Option<u32>) -> u32
+    ensures { result ≡ usual_nodes_spec minutes }
+{
     match minutes {
         Some(_) => 10_000_000,
         None => 1_000_000,
@@ -173,12 +182,12 @@ fn usual_nodes(minutes: Option<u32>) -> u32 {
 
 /// The nodes that a search may visit; none of a word that is no number.
 fn nodes_of(matches: &ArgMatches<'_>, minutes: Option<u32>) -> Option<u32>
-    ensures { IfSome result (IsSaidBy matches.now (codes "nodes")) }
+    ensures { IfSome result (HasNodesOf matches.now minutes) }
 {
-    if matches.contains_id("nodes") {
-        matches.get_one::<u32>("nodes")
-    } else {
-        Some(usual_nodes(minutes))
+    match matches.try_get_one::<u32>("nodes") {
+        Ok(Some(nodes)) => Some(nodes),
+        Ok(None) => Some(usual_nodes(minutes)),
+        Err(_) => None,
     }
 }
 
@@ -198,7 +207,7 @@ fn effort_of(matches: &ArgMatches<'_>) -> Option<Effort>
     ensures said { IfSome result (HasEffortOf matches.now) }
 {
     let workers = matches.get_one::<usize>("workers")?;
-    let minutes = matches.get_one::<u32>("minutes");
+    let minutes = minutes_of(matches)?;
     let nodes = nodes_of(matches, minutes)?;
     if workers < 1 || workers > 16 || nodes < 1 || nodes > 10_000_000 || !are_minutes(minutes) {
         return None;

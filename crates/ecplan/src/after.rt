@@ -17,7 +17,6 @@ use ec_unit_rewrite::{PlacingFault, place_text};
 use ec_unit_text::read_units;
 use ec_units::Units;
 use std::alloc::{AllocError, Global};
-use std::fs;
 use std::rt::Files;
 
 /// What is told before a path to which the places are not written.
@@ -166,17 +165,15 @@ fn reason_to_leave<R: Files + AllocGlobal>(
     Some(KeepReason::Cheaper).filter(|_| is_better(rt, target, units, told))
 }
 
-/// Why what is written after the job isn't at its path. Places for another text than the one that stands there are taken away.
-fn after_fault<R: Files>(files: &R, fault: FileFault) -> AfterFault {
-    if let FileFault::Kept {
-        at,
-        why: KeepReason::Changed,
-    } = &fault
-    {
-        let _ = fs::remove_file(files, at.as_str());
-        return AfterFault::Unplaced(KeepReason::Changed.as_str());
+/// Why what is written after the job isn't at its path. Places for another text than the one that stands there are nowhere.
+fn after_fault(fault: FileFault) -> AfterFault {
+    match fault {
+        FileFault::Kept {
+            why: KeepReason::Changed,
+            ..
+        } => AfterFault::Unplaced(KeepReason::Changed.as_str()),
+        fault => AfterFault::File(fault),
     }
-    AfterFault::File(fault)
 }
 
 /// Writes to a path what is to be there. The units' own file must hold their text still, and no unit text better places for them; so
@@ -195,7 +192,7 @@ fn write_to<R: Files + AllocGlobal>(
     match make_whole(rt, rt.alloc(), path, content, text.as_bytes())? {
         Some(whole) => match whole.settle(|_| reason_to_leave(rt, target, units, told)) {
             Ok(()) => Ok(()),
-            Err(fault) => Err(after_fault(rt, fault)),
+            Err(fault) => Err(after_fault(fault)),
         },
         None => Ok(()),
     }

@@ -14,6 +14,9 @@ const EVERY: u64 = 4096;
 /// The most workers of a search.
 const MOST_WORKERS: usize = 16;
 
+/// The milliseconds that stand for none.
+const UNASKED: u64 = u64::MAX;
+
 /// What covers a line on a terminal: the longest one has 54 characters.
 pub(crate) const BLANKS: &str = "\r                                                      \r";
 
@@ -70,6 +73,8 @@ pub(crate) struct Progress<'a, H> {
     /// The milliseconds that it may take; none where time doesn't end it.
     most: Option<u64>,
     began: Option<Instant>,
+    /// The milliseconds at which the search asked for the time first: what it reads may take long to come.
+    asked_at: AtomicU64,
     /// How many nodes each worker has visited.
     counts: Vec<CachePadded<AtomicU64>>,
     /// The milliseconds at which the last line was told.
@@ -98,6 +103,7 @@ impl<'a, H: AllocGlobal + Eprint + Clock> Progress<'a, H> {
             budget: effort.map_or(0, |effort| effort.nodes),
             most: most_millis(effort),
             began: Instant::now(rt).ok(),
+            asked_at: AtomicU64::new(UNASKED),
             counts: new_counts(rt.alloc(), telling),
             told_at: AtomicU64::new(0),
         }
@@ -112,11 +118,17 @@ impl<'a, H: AllocGlobal + Eprint + Clock> Progress<'a, H> {
         nodes
     }
 
-    /// The milliseconds since the search began.
+    /// The milliseconds since the search asked for them first.
     fn millis(&self) -> Option<u64> {
-        let began = self.began?;
-        let passed = began.elapsed(self.rt).ok()?;
-        u64::try_from(passed.as_millis()).ok()
+        let passed = self.began?.elapsed(self.rt).ok()?;
+        let passed = u64::try_from(passed.as_millis()).ok()?;
+        let first = self
+            .asked_at
+            .compare_exchange(UNASKED, passed, Ordering::SeqCst, Ordering::SeqCst);
+        Some(match first {
+            Ok(_) => 0,
+            Err(asked_at) => passed.saturating_sub(asked_at),
+        })
     }
 
     /// What is told now, with the best value that a worker knows.
@@ -177,10 +189,14 @@ impl<'a, H: AllocGlobal + Eprint + Clock> Gate for Progress<'a, H> {
         }
     }
 
+    /// Also where the clock can't be read: a search that time is to end would go on for ever.
     fn is_over(&self) -> bool {
         let Some(most) = self.most else {
             return false;
         };
-        self.millis().is_some_and(|millis| millis >= most)
+        match self.millis() {
+            Some(millis) => millis >= most,
+            None => true,
+        }
     }
 }

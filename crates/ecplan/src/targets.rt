@@ -83,6 +83,12 @@ pub(crate) fn targets_of<'a, H: Files + AllocGlobal>(rt: &H, words: &'a Words) -
     }
 }
 
+/// That something is to be written to an empty path.
+fn nameless_text(alloc: Global, target: Target<'_>) -> Result<String, AllocError> {
+    let name = target.content.as_str();
+    format!(in alloc; "The path of the {name} is empty: give one, or leave the option out.\n")
+}
+
 /// That what stands at a path is left as it is, and why.
 fn kept_text(alloc: Global, target: Target<'_>, why: KeepReason) -> Result<String, AllocError> {
     let Target { path, content, .. } = target;
@@ -95,9 +101,13 @@ fn kept_text(alloc: Global, target: Target<'_>, why: KeepReason) -> Result<Strin
     format!(in alloc; "The {name} {is} not written over the file {path}.\n{why}.\n")
 }
 
-/// Whether what stands at a path is left as it is; tells why. The units' own file is judged as the units are, and kept only where
-/// standard output or standard error goes to it.
+/// Whether nothing may be written to a path: it is empty, or what stands there is left as it is; tells why. The units' own file is judged
+/// as the units are, and kept only where standard output or standard error goes to it.
 fn is_kept<H: Files + AllocGlobal + Eprint>(rt: &H, target: Target<'_>) -> bool {
+    if target.path.is_empty() {
+        tell(rt, nameless_text(rt.alloc(), target));
+        return true;
+    }
     match reason_to_keep(rt, rt.alloc(), target.path, target.content) {
         Some(why) if !target.is_own || matches!(why, KeepReason::IsOutput | KeepReason::IsTold) => {
             tell(rt, kept_text(rt.alloc(), target, why));
@@ -171,7 +181,7 @@ fn unwritable_text(
     let (name, path) = (target.content.as_str(), quoted_path(alloc, target.path)?);
     let more = more_on(why);
     format!(in alloc;
-        "The search goes on and tells its plan, but the {name} cannot be written to {path}.\n{why}.\n{more}"
+        "A search tells its plan all the same, but the {name} cannot be written to {path}.\n{why}.\n{more}"
     )
 }
 
