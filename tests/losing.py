@@ -370,7 +370,6 @@ UNWRITABLE = {
     "under a file": ("a-file/x", "Not a directory"),
     "of a folder": ("a-folder", ""),
     "of a link that leads nowhere": ("a-link", ""),
-    "of no letters": ("", ""),
     "in a folder that takes no new file": ("closed/x", "Permission denied"),
     "in a folder that takes no new file, over an older one": ("closed/x", "Permission denied"),
 }
@@ -388,9 +387,20 @@ def try_unwritable(output, path, reason, is_older, trial):
     trial.left(before)
 
 
+def try_nameless(output, trial):
+    """Where the path is empty, nothing is done."""
+    output.put(trial)
+    before = trial.seen()
+    done = trial.run(*output.line(""))
+    trial.ends(done, 4, REFUSED_WRITE)
+    trial.tells(done, "is empty")
+    trial.left(before)
+
+
 def unwritable(outputs):
     """Paths that can't be written."""
     for output in outputs:
+        yield f"{output.name} at a path of no letters", partial(try_nameless, output)
         for where, (path, reason) in UNWRITABLE.items():
             yield (f"{output.name} at a path {where}",
                    partial(try_unwritable, output, path, reason, where.endswith("older one")))

@@ -274,9 +274,8 @@ def told_before(searches):
     """Paths that can't be written, of a search."""
     for output in searches:
         for where, (path, reason) in UNWRITABLE.items():
-            if path:
-                yield (f"{output.name} at a path {where}, told before the search",
-                       partial(try_told, output, path, reason, where.endswith("older one")))
+            yield (f"{output.name} at a path {where}, told before the search",
+                   partial(try_told, output, path, reason, where.endswith("older one")))
         yield f"{output.name} over a file of another user, told before the search", partial(try_owned, output)
 
 

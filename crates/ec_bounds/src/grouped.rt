@@ -9,29 +9,26 @@ ghost use Rattle.ec_bounds.specs.Shown.{GroupsShow};
 
 use crate::counted::{NO_UNITS, fill_left};
 use crate::rest::Rest;
-use crate::rooms::{open_classes, room_beside};
+use crate::rooms::{MOST_PERIOD, open_classes, room_beside};
 use crate::tops::{Shown, Ticks, Tops, Walked};
 use ec_loads::{GROUP_BYTES, Loads, Pair};
 use ec_units::Load;
 
-/// The most different periods.
-const MOST_PERIODS: usize = 60;
-
 /// Notes the period of a unit.
-fn note_period(seen: &mut [bool; MOST_PERIODS + 1], load: Load)
+fn note_period(seen: &mut [bool; MOST_PERIOD + 1], load: Load)
     ensures { (p : ℕ) → p < 61 → get_or seen.new p false ≡ (get_or seen.old p false || of_period p load) }
 {
     let period = usize::from(load.period);
-    if period <= MOST_PERIODS {
+    if period <= MOST_PERIOD {
         seen[period] = true;
     }
 }
 
 /// Which periods, in ticks, the units have.
-fn periods_seen(left: &[Load]) -> [bool; MOST_PERIODS + 1]
+fn periods_seen(left: &[Load]) -> [bool; MOST_PERIOD + 1]
     ensures { (p : ℕ) → p < 61 → get_or result p false ≡ list_any (of_period p) left.now }
 {
-    let mut seen = [false; MOST_PERIODS + 1];
+    let mut seen = [false; MOST_PERIOD + 1];
     for i in 0..left.len() {
         note_period(&mut seen, left[i]);
     }
@@ -39,7 +36,7 @@ fn periods_seen(left: &[Load]) -> [bool; MOST_PERIODS + 1]
 }
 
 /// Whether one of the units has this period, in ticks, of which a table tells it.
-fn has_period(_left: &[Load], seen: &[bool; MOST_PERIODS + 1], period: u16) -> bool
+fn has_period(_left: &[Load], seen: &[bool; MOST_PERIOD + 1], period: u16) -> bool
     requires below { period < 61 }
     requires seen { (p : ℕ) → p < 61 → get_or seen.now p false ≡ list_any (of_period p) _left.now }
     ensures { result ≡ list_any (of_period period) _left.now }
@@ -48,7 +45,7 @@ fn has_period(_left: &[Load], seen: &[bool; MOST_PERIODS + 1], period: u16) -> b
 }
 
 /// Writes the different periods of units into a table, in ascending order, and says how many.
-fn fill_periods(left: &[Load], table: &mut [u16; MOST_PERIODS]) -> usize
+fn fill_periods(left: &[Load], table: &mut [u16; MOST_PERIOD]) -> usize
     ensures periods { take result table.new ≡ periods_in left.now }
     ensures few { result ≤ 60 }
     ensures positive { All (λ p. 1 ≤ p) (take result table.new) }
@@ -186,7 +183,7 @@ fn groups_bound_by<T: Tops>(
         return false;
     }
     let left = &units[..count];
-    let mut table = [0u16; MOST_PERIODS];
+    let mut table = [0u16; MOST_PERIOD];
     let few = fill_periods(left, &mut table);
     let periods = &table[..few];
     if !all_needed(loads, tops, left, periods, pairs, value) {

@@ -20,7 +20,7 @@ pub use law::{
     law_raw_at_most_cost, law_room_suffices, law_rooms_fall,
 };
 pub use mean::{MeanTick, mean_tick};
-pub use merged::merge_bound;
+pub use merged::{MOST_MERGED, is_above_slot_0, merge_bound};
 pub use rest::Rest;
 pub use tops::Ticks;
 pub use weight::weight_bound;

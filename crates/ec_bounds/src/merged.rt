@@ -9,10 +9,10 @@ use ec_units::Place;
 
 /// The greatest value in bytes at which two slots can be one: up to there a legal plan below the value stays one where
 /// all its units are in slot 0, and no tick costs more.
-const MOST_MERGED: u64 = 1579;
+pub const MOST_MERGED: u64 = 1579;
 
-/// Whether it is a place in a slot above 0.
-fn is_above_slot_0(place: &Option<Place>) -> bool
+/// Whether it is a place in a slot above 0. Takes no memory.
+pub fn is_above_slot_0(place: &Option<Place>) -> bool
     ensures { result ≡ is_above place.now }
 {
     match place {

@@ -20,11 +20,11 @@ fn is_placed_in(load: Load, place: Option<Place>, period: u16, phase: u16) -> bo
     }
 }
 
-/// The most ticks of a period.
-pub(crate) const MOST_TICKS: usize = 60;
+/// The greatest period, in ticks.
+pub(crate) const MOST_PERIOD: usize = 60;
 
 /// Notes that the class of a unit is open, where it has a place and this period.
-fn open_at(opens: &mut [bool; MOST_TICKS], load: Load, place: Option<Place>, period: u16)
+fn open_at(opens: &mut [bool; MOST_PERIOD], load: Load, place: Option<Place>, period: u16)
     ensures { (f : ℕ) → f < 60 → get_or opens.new f false ≡ (get_or opens.old f false || placed_in period f load place) }
 {
     let Some(place) = place else {
@@ -34,18 +34,18 @@ fn open_at(opens: &mut [bool; MOST_TICKS], load: Load, place: Option<Place>, per
         return;
     }
     let phase = usize::from(place.phase);
-    if phase < MOST_TICKS {
+    if phase < MOST_PERIOD {
         opens[phase] = true;
     }
 }
 
 /// Which classes of a period are open, by phase.
-pub(crate) fn open_classes(loads: &Loads, period: u16) -> [bool; MOST_TICKS]
+pub(crate) fn open_classes(loads: &Loads, period: u16) -> [bool; MOST_PERIOD]
     ensures { (f : ℕ) → f < 60 → get_or result f false ≡ open_in (items_of loads.now) period f }
 {
     let all = loads.loads();
     let places = loads.places();
-    let mut opens = [false; MOST_TICKS];
+    let mut opens = [false; MOST_PERIOD];
     for i in 0..all.len() {
         open_at(&mut opens, all[i], places[i], period);
     }
@@ -53,12 +53,12 @@ pub(crate) fn open_classes(loads: &Loads, period: u16) -> [bool; MOST_TICKS]
 }
 
 /// Whether a class is open, of which a table tells it below 60.
-fn is_open_in(loads: &Loads, opens: &[bool; MOST_TICKS], period: u16, phase: u16) -> bool
+fn is_open_in(loads: &Loads, opens: &[bool; MOST_PERIOD], period: u16, phase: u16) -> bool
     requires { (f : ℕ) → f < 60 → get_or opens.now f false ≡ open_in (items_of loads.now) period f }
     ensures { result ≡ open_in (items_of loads.now) period phase }
 {
     let at = usize::from(phase);
-    if at < MOST_TICKS {
+    if at < MOST_PERIOD {
         return opens[at];
     }
     is_open(loads, period, phase)
@@ -83,7 +83,7 @@ fn is_open(loads: &Loads, period: u16, phase: u16) -> bool
 pub(crate) fn room<T: Tops>(
     loads: &Loads,
     tops: &T,
-    opens: &[bool; MOST_TICKS],
+    opens: &[bool; MOST_PERIOD],
     period: u16,
     phase: u16,
     value: u64,
@@ -104,7 +104,7 @@ pub(crate) fn room<T: Tops>(
 pub(crate) fn room_beside<T: Tops>(
     loads: &Loads,
     tops: &T,
-    opens: &[bool; MOST_TICKS],
+    opens: &[bool; MOST_PERIOD],
     period: u16,
     phase: u16,
     bytes: u16,

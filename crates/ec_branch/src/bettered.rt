@@ -11,15 +11,11 @@ ghost use Rattle.ec_branch.specs.Greedy.{IsGreedyPlan};
 
 use crate::greedy_plan::{fitting_cost, greedy};
 use crate::moves::{Aim, Draws, step};
+use ec_bounds::MOST_MERGED;
+use ec_cert::MOST_BUSIEST;
 use ec_loads::{Loads, Places, Plan, busiest};
 use ec_units::{Place, Units};
 use std::alloc::{AllocError, Global};
-
-/// The most bytes that a tick of a legal plan costs.
-const MOST_COST: u64 = 12304;
-
-/// The most bytes of a busiest tick at which one slot is enough.
-const MOST_OF_ONE_SLOT: u64 = 1579;
 
 /// The best plan so far, and what its busiest tick costs in bytes. While there is no plan, the places are any within
 /// the ranges of their units.
@@ -35,7 +31,7 @@ fn limit_of(cost: Option<u64>) -> u64
 {
     match cost {
         Some(cost) => cost.saturating_sub(1),
-        None => MOST_COST,
+        None => MOST_BUSIEST,
     }
 }
 
@@ -45,7 +41,7 @@ fn width_of(cost: Option<u64>, slots: u8) -> u8
     ensures { (1 ≤ result) × (result ≤ slots) }
 {
     match cost {
-        Some(cost) if cost <= MOST_OF_ONE_SLOT => 1,
+        Some(cost) if cost <= MOST_MERGED => 1,
         _ => slots,
     }
 }

@@ -4,7 +4,7 @@ ghost use Rattle.std.specs.Prelude.{◌+◌, ◌≤◌, length};
 
 use crate::needs::Size;
 use crate::tops::{Class, is_open};
-use crate::waiting::MOST_TICKS;
+use crate::waiting::MOST_PERIOD;
 
 /// A limit in bytes at which every unit has room.
 pub(crate) const MOST_LIMIT: u32 = 100_000;
@@ -50,7 +50,7 @@ fn with_room(rooms: Rooms, room: u32, class: Class) -> Rooms
 }
 
 /// Writes the room of each of these classes below a limit into a table.
-pub(crate) fn fill_rooms(row: &[Class], limit: u32, rooms: &mut [u32; MOST_TICKS]) -> Rooms
+pub(crate) fn fill_rooms(row: &[Class], limit: u32, rooms: &mut [u32; MOST_PERIOD]) -> Rooms
     requires few { length row.now ≤ 60 }
     requires limit { limit ≤ 100000 }
     ensures open { result.open ≤ 6000000 }

@@ -32,3 +32,4 @@ pub use greedy_plan::greedy;
 pub use guide::Guide;
 pub use order::search_order;
 pub use strong::strong_order;
+pub use value::lesser;

@@ -3,7 +3,7 @@
 ghost use Rattle.std.specs.Prelude.{◌≡◌, ◌<◌, ◌≤◌, length};
 
 use crate::waiting::{
-    MOST_TICKS, MOST_UNITS, NO_UNITS, bytes_of, insert, is_last, period_end, period_of,
+    MOST_PERIOD, MOST_UNITS, NO_UNITS, bytes_of, insert, is_last, period_end, period_of,
     period_start,
 };
 use ec_loads::{GROUP_BYTES, Loads};
@@ -45,7 +45,7 @@ pub(crate) struct Needs {
     ends: Vec<usize>,
     needs: Vec<Need>,
     sizes: Vec<Size>,
-    starts: [u16; MOST_TICKS + 1],
+    starts: [u16; MOST_PERIOD + 1],
     width: usize,
 }
 
@@ -64,7 +64,7 @@ impl Needs {
             ends: Vec::new(alloc),
             needs: Vec::new(alloc),
             sizes: Vec::new(alloc),
-            starts: [0; MOST_TICKS + 1],
+            starts: [0; MOST_PERIOD + 1],
             width: 0,
         }
     }
@@ -83,7 +83,7 @@ impl Needs {
     }
 
     /// Where the classes of each period begin in a row.
-    pub(crate) fn starts(&self) -> &[u16; MOST_TICKS + 1] {
+    pub(crate) fn starts(&self) -> &[u16; MOST_PERIOD + 1] {
         &self.starts
     }
 
@@ -111,7 +111,7 @@ impl Needs {
     /// Gives each period of these units its place in a row.
     fn lay_out(&mut self, loads: &Loads, order: &[u8]) {
         let all = loads.loads();
-        let mut seen = [false; MOST_TICKS + 1];
+        let mut seen = [false; MOST_PERIOD + 1];
         for unit in order {
             let unit = usize::from(*unit);
             if unit < all.len() {

@@ -6,7 +6,7 @@ ghost use Rattle.ec_loads.specs.Search.{IsShortPair};
 use crate::classes::{Rooms, fill_rooms};
 use crate::needs::Need;
 use crate::tops::{Class, Tops, is_open};
-use crate::waiting::{MOST_TICKS, MOST_UNITS};
+use crate::waiting::{MOST_PERIOD, MOST_UNITS};
 use ec_loads::Pair;
 use std::alloc::{AllocError, Global};
 
@@ -26,7 +26,7 @@ pub(crate) fn most_group_bytes(need: Need, rooms: Rooms) -> u64
 }
 
 /// Where the greatest of these rooms is, of the closed classes.
-fn greatest(row: &[Class], rooms: &[u32; MOST_TICKS]) -> usize
+fn greatest(row: &[Class], rooms: &[u32; MOST_PERIOD]) -> usize
     requires { length row.now ≤ 60 }
     ensures { result < 60 }
 {
@@ -42,7 +42,7 @@ fn greatest(row: &[Class], rooms: &[u32; MOST_TICKS]) -> usize
 }
 
 /// The pair by which so many bytes, more than the open classes have room for, need the greatest of the closed ones.
-fn needed(row: &[Class], rooms: &mut [u32; MOST_TICKS], bytes: u32) -> Pair
+fn needed(row: &[Class], rooms: &mut [u32; MOST_PERIOD], bytes: u32) -> Pair
     requires { length row.now ≤ 60 }
     ensures { IsShortPair result }
 {
@@ -72,7 +72,7 @@ fn pair_of(row: &[Class], bytes: u32, limit: u32) -> Pair
     requires limit { limit ≤ 100000 }
     ensures { IsShortPair result }
 {
-    let mut rooms = [0u32; MOST_TICKS];
+    let mut rooms = [0u32; MOST_PERIOD];
     let all = fill_rooms(row, limit, &mut rooms);
     if all.open + all.closed < bytes {
         return Pair {

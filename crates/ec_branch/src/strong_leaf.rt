@@ -15,15 +15,12 @@ use crate::leaf::costly_leaf;
 use crate::needs::{Need, Size, period_in};
 use crate::pairs::{most_group_bytes, pairs_of};
 use crate::tops::Tops;
-use crate::waiting::MOST_TICKS;
-use ec_bounds::{Rest, count_bound_at, groups_bound_at, merge_bound};
+use crate::waiting::MOST_PERIOD;
+use ec_bounds::{MOST_MERGED, Rest, count_bound_at, groups_bound_at, merge_bound};
 use ec_cert::{Pairs, Tree};
 use ec_loads::Loads;
 use ec_units::Place;
 use std::alloc::{AllocError, Global};
-
-/// The greatest value in bytes at which two slots can be one.
-const MOST_MERGED: u64 = 1579;
 
 /// Whether two slots can be one at a value where one more unit gets this place. They are known not to be before, where no
 /// unit is `above` slot 0.
@@ -96,7 +93,7 @@ fn period_leaf(
     requires left { IsRestOf rest.now loads.now }
     ensures { IfSome result (λ tree. IsClosing (line_of strong loads.now) value loads.now.places (shape_of tree)) }
 {
-    let mut rooms = [0u32; MOST_TICKS];
+    let mut rooms = [0u32; MOST_PERIOD];
     let row = tops.row(need, left);
     let all = fill_rooms(row, limit, &mut rooms);
     *most = most.saturating_add(most_group_bytes(need, all));

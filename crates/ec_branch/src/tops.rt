@@ -4,7 +4,7 @@
 ghost use Rattle.std.specs.Prelude.{◌≡◌, ◌+◌, ◌%◌, ◌<◌, ◌≤◌, get_or, length};
 
 use crate::needs::{Need, Needs, period_in};
-use crate::waiting::{MOST_TICKS, period_of};
+use crate::waiting::{MOST_PERIOD, period_of};
 use ec_bounds::Ticks;
 use ec_loads::{GROUP_BYTES, Loads};
 use ec_units::Load;
@@ -65,12 +65,12 @@ fn tick_at(classes: &[Class], at: usize) -> u32
 }
 
 /// Where the classes of a period begin in a row; 0 where it has none.
-fn start_at(starts: &[u16; MOST_TICKS + 1], period: u16) -> usize
+fn start_at(starts: &[u16; MOST_PERIOD + 1], period: u16) -> usize
     ensures value { result ≡ get_or starts.now period 0 }
     ensures bound { result ≤ 65535 }
 {
     let period = usize::from(period);
-    if period > MOST_TICKS {
+    if period > MOST_PERIOD {
         return 0;
     }
     usize::from(starts[period])
@@ -80,7 +80,7 @@ fn start_at(starts: &[u16; MOST_TICKS + 1], period: u16) -> usize
 #[derive(Clone, Copy)]
 pub(crate) struct Costly<'a> {
     classes: &'a [Class],
-    starts: &'a [u16; MOST_TICKS + 1],
+    starts: &'a [u16; MOST_PERIOD + 1],
 }
 
 impl<'a> Ticks for Costly<'a> {

@@ -10,8 +10,8 @@ pub(crate) struct Search {
     pub left: u32,
 }
 
-/// The lesser value; none is above every number.
-pub(crate) fn lesser(a: Option<u64>, b: Option<u64>) -> Option<u64>
+/// The lesser of two values in wire bytes; none is above every number. Takes no memory.
+pub fn lesser(a: Option<u64>, b: Option<u64>) -> Option<u64>
     ensures first { IsAtMost result a }
     ensures second { IsAtMost result b }
     ensures one { (result ≡ a) ⊎ (result ≡ b) }

@@ -17,11 +17,10 @@ use crate::level::{Level, Turn, next_child};
 use crate::node::{Entered, enter};
 use crate::tops::Tops;
 use crate::value::Search;
-use ec_bounds::Rest;
+use ec_bounds::{Rest, is_above_slot_0};
 use ec_cert::Tree;
 use ec_loads::Loads;
 use ec_symmetry::Rules;
-use ec_units::Place;
 use std::alloc::{AllocError, Global};
 
 /// What a step of the walk leads to.
@@ -43,14 +42,6 @@ fn undo(loads: &mut Loads, rest: &mut Rest, levels: &mut Vec<Level>)
     }
 }
 
-/// Whether it is a place above slot 0.
-fn is_above(place: &Option<Place>) -> bool {
-    match place {
-        Some(place) => place.slot > 0,
-        None => false,
-    }
-}
-
 /// Whether a unit has a place above slot 0 below the last split, by the strong rules: where it had so in the split, or
 /// the unit of the split has one.
 fn is_any_above(loads: &Loads, rules: Rules, levels: &[Level]) -> bool {
@@ -59,10 +50,10 @@ fn is_any_above(loads: &Loads, rules: Rules, levels: &[Level]) -> bool {
     }
     let places = loads.places();
     let Some(level) = levels.last() else {
-        return places.iter().any(|place| is_above(place));
+        return places.iter().any(|place| is_above_slot_0(place));
     };
     match places.get(level.unit) {
-        Some(place) => level.above || is_above(place),
+        Some(place) => level.above || is_above_slot_0(place),
         None => level.above,
     }
 }

@@ -6,7 +6,7 @@ ghost use Rattle.ec_bounds.specs.Left.{IsRestOf};
 ghost use Rattle.ec_cert.specs.Shapes.{shape_of};
 ghost use Rattle.ec_branch.specs.Walks.{IsClosing};
 
-use crate::waiting::{MOST_TICKS, period_of};
+use crate::waiting::{MOST_PERIOD, period_of};
 use ec_bounds::{Rest, weight_bound};
 use ec_cert::{Tree, Weights};
 use ec_loads::Loads;
@@ -54,7 +54,7 @@ fn below_mean(loads: &Loads, period: u32, total: u64) -> u64
 /// weights that it can travel in, in place of their mean. The weights of each period are looked at once.
 fn is_left(loads: &Loads, total: u64, over: u128) -> bool {
     let ticks = loads.ticks();
-    let mut known = [None; MOST_TICKS + 1];
+    let mut known = [None; MOST_PERIOD + 1];
     let mut over = over;
     let all = loads.loads();
     let places = loads.places();

@@ -24,7 +24,7 @@ pub use nodes::node_count;
 pub use order::Order;
 pub use pairs::Pairs;
 pub use part::Part;
-pub use ranges::{LEVELS, well_formed};
+pub use ranges::{LEVELS, MOST_BUSIEST, are_below, well_formed};
 pub use splitting::split_of;
 pub use tree::Tree;
 pub use weights::Weights;

@@ -13,6 +13,9 @@ use crate::tree::Tree;
 use ec_loads::Pair;
 use ec_units::{Place, is_name};
 
+/// The most that the busiest tick of a legal plan costs, in wire bytes: eight frames of the greatest length.
+pub const MOST_BUSIEST: u64 = 12304;
+
 /// The most levels of a tree: no node has more than 48 splits above it.
 pub const LEVELS: u8 = 49;
 
@@ -32,7 +35,8 @@ fn are_unit_lines(units: &[UnitLine]) -> bool
     units.iter().all(is_unit_line)
 }
 
-fn are_below(order: &[u8], units: usize) -> bool
+/// Whether each number is below that of the units. Takes no memory.
+pub fn are_below(order: &[u8], units: usize) -> bool
     ensures { IsTrue result ↔ All (λ i. i < units) order.now }
 {
     order.iter().all(|unit| usize::from(*unit) < units)
@@ -50,7 +54,10 @@ fn is_best(best: &Best, units: usize) -> bool
     ensures { IsTrue result ↔ IsBest units best.now }
 {
     let places = best.plan.places.as_slice();
-    84 <= best.busiest && best.busiest <= 12304 && places.len() == units && are_places(places)
+    84 <= best.busiest
+        && best.busiest <= MOST_BUSIEST
+        && places.len() == units
+        && are_places(places)
 }
 
 /// Whether certificates of this version have such a level.
@@ -59,7 +66,7 @@ fn is_level(version: u8, level: Option<u64>) -> bool
 {
     match level {
         None => version <= 2 || 4 <= version,
-        Some(level) => 3 <= version && level <= 12304,
+        Some(level) => 3 <= version && level <= MOST_BUSIEST,
     }
 }
 

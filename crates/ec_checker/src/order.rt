@@ -1,14 +1,10 @@
 //! Whether a list of numbers is an order of the units.
 
-ghost use Rattle.std.specs.Prelude.{◌≡◌, ◌==◌, ℕ, ◌<◌, ◌↔◌, IsTrue, All};
+ghost use Rattle.std.specs.Prelude.{◌≡◌, ◌==◌, ◌↔◌, IsTrue};
 ghost use Rattle.std.specs.List.{list_any};
 ghost use Rattle.ec_symmetry.specs.Orders.{IsOrder, has_repeat as has_repeat_of};
 
-fn are_below(order: &[u8], units: usize) -> bool
-    ensures { IsTrue result ↔ All (λ u. u < units) order.now }
-{
-    order.iter().all(|unit| usize::from(*unit) < units)
-}
+use ec_cert::are_below;
 
 fn names(order: &[u8], unit: u8) -> bool
     ensures { result ≡ list_any (λ other. unit == other) order.now }

@@ -16,22 +16,19 @@ ghost use Rattle.ec_checker.specs.Levels.{IsGreatestLevel, IsLowered, AreAtMost,
 
 use crate::look::looks_closed;
 use ec_bounds::{Rest, average_level};
-use ec_cert::{Best, Tree};
+use ec_cert::{Best, MOST_BUSIEST, Tree};
 use ec_loads::Loads;
 use ec_symmetry::{Rules, children_by};
 use ec_units::Units;
 use std::alloc::{AllocError, Global};
-
-/// The greatest level, what eight slots cost at most in wire bytes.
-const MOST_LEVEL: u64 = 12_304;
 
 /// The greatest level that is neither above 12,304 nor above what the best plan costs, if there is one.
 fn most_level(best: &Option<Best>) -> u64
     ensures { (m : ℕ) → ((m ≤ result) ↔ ((m ≤ 12304) × IsAtMost (Some m) (value_of best.now))) }
 {
     match best {
-        None => MOST_LEVEL,
-        Some(best) => MOST_LEVEL.min(best.busiest),
+        None => MOST_BUSIEST,
+        Some(best) => MOST_BUSIEST.min(best.busiest),
     }
 }
 

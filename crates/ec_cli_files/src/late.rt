@@ -125,7 +125,13 @@ impl<'a, F: Files> Late<'a, F> {
         match &self.place {
             Place::Beside { path } => {
                 let file = make_beside(self.files, &mut self.name, path.as_str())?;
-                self.made = Some(Identity::of(&file.metadata()?));
+                match file.metadata() {
+                    Ok(found) => self.made = Some(Identity::of(&found)),
+                    Err(why) => {
+                        let _ = fs::remove_file(self.files, self.name.as_str());
+                        return Err(why);
+                    }
+                }
                 Ok(file)
             }
             Place::Straight { path } => open_straight(self.files, path.as_str()),

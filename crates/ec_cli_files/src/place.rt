@@ -100,13 +100,12 @@ impl Identity {
     }
 }
 
-/// Takes the file of a name away, if it is this one: what another program put there in its place stays.
+/// Takes the file of a name away, if it is this one, or can't be looked at: what another program put there in its place stays.
 pub(crate) fn take_away<F: Files>(files: &F, name: &str, made: Identity) -> io::Result<()> {
-    let found = fs::symlink_metadata(files, name)?;
-    if Identity::of(&found) == made {
-        fs::remove_file(files, name)?;
+    match fs::symlink_metadata(files, name) {
+        Ok(found) if Identity::of(&found) != made => Ok(()),
+        _ => fs::remove_file(files, name),
     }
-    Ok(())
 }
 
 /// Whether two paths lead to one file or folder that is there (own profile).

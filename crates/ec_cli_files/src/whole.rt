@@ -5,14 +5,12 @@ use crate::guard::{Content, KeepReason, reason_to_keep};
 use crate::place::{Identity, NO_ENTRY, take_away};
 use crate::reading::read_front;
 use crate::settling::sync_folder;
+use ec_cert_text::MOST_BYTES;
 use std::alloc::Global;
 use std::io::ErrorKind;
 use std::os::unix::fs::MetadataExt;
 use std::rt::Files;
 use std::{fs, io};
-
-/// The most bytes of a certificate that are read.
-const MOST_CERT: u64 = 67_108_864;
 
 /// How often what stands at a path is judged, where other runs write to it.
 const MOST_LOOKS: usize = 8;
@@ -139,7 +137,7 @@ impl<'a, F: Files> Whole<'a, F> {
             ..
         } = self;
         let path = path.as_str();
-        if content == Content::Certificate && bytes > MOST_CERT && is_filled(files, path) {
+        if content == Content::Certificate && bytes > MOST_BYTES as u64 && is_filled(files, path) {
             return Err(FileFault::TooLarge { at: name, bytes });
         }
         if let Err(why) = fs::rename(files, name.as_str(), path) {

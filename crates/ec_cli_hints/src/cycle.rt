@@ -218,7 +218,7 @@ impl Cycle {
         let (frames, slots, periods) = (self.frames(), self.slots, self.periods());
         if frames > u64::from(MOST_SLOTS) {
             out.add(format_args!(
-                "No number of slots is enough: fewer bytes or {periods} would help.\n"
+                "No number of slots is enough: fewer bytes would help, or {periods}.\n"
             ));
         } else if self.is_overfull() {
             out.add(format_args!(

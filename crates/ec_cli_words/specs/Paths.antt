@@ -1,5 +1,5 @@
 -- The paths of a command line.
-use Rattle.std.specs.Prelude.{◌≡◌, ℕ, List, String, Option, Some, option_map, codes, string_bytes}
+use Rattle.std.specs.Prelude.{◌≡◌, ◌≢◌, ℕ, List, String, Option, Some, None, option_map, codes, string_bytes}
 use Rattle.std.proofs.Common.{Global}
 use Rattle.clap.specs.declared.parser.matches.ArgMatches.{ArgMatches}
 use Rattle.clap.specs.Words.{found_of, first_value}
@@ -9,6 +9,12 @@ use Rattle.ec_cli_command.specs.declared.line.Line.TheVariants as line
 -- the path is the one that the option says, where it is there
 abbrev pub IsPathOf : ArgMatches → List ℕ → Option (String Global) → Type 0
 IsPathOf m id path = option_map string_bytes path ≡ first_value (found_of m) id
+
+-- the path of the units is the one that stands among the words; none where there is none, and where it is `-`
+abbrev pub IsUnitsPathOf : ArgMatches → Option (String Global) → Type 0
+IsUnitsPathOf m path =
+    (first_value (found_of m) (codes "file") ≡ None → path ≡ None) × (first_value (found_of m) (codes "file") ≡ Some (codes "-") → path ≡ None)
+    × ((text : List ℕ) → first_value (found_of m) (codes "file") ≡ Some text → text ≢ codes "-" → option_map string_bytes path ≡ Some text)
 
 -- each path of a line is that of its option
 abbrev pub HasPathsOf : ArgMatches → Line → Type 0

@@ -4,9 +4,9 @@ ghost use Rattle.std.specs.Prelude.{◌≡◌, ◌≤◌, true, Some, codes, IfO
 ghost use Rattle.std.specs.Option.{ForSome};
 ghost use Rattle.ec_cli_command.specs.Words.{JobFits, job_of};
 ghost use Rattle.ec_cli_words.specs.Names.{name_of};
-ghost use Rattle.ec_cli_words.specs.Numbers.{EffortFits, HasEffortOf, HasNodesOf, HasNumbersOf, IsMaybeSaidBy, usual_nodes as usual_nodes_spec};
+ghost use Rattle.ec_cli_words.specs.Numbers.{EffortFits, HasEffortOf, HasNodesOf, HasNumbersOf, IsFlagOf, IsMaybeSaidBy, usual_nodes as usual_nodes_spec};
 ghost use Rattle.ec_cli_words.specs.Parts.{HasPartOf, PartFits};
-ghost use Rattle.ec_cli_words.specs.Paths.{HasPathsOf, IsPathOf};
+ghost use Rattle.ec_cli_words.specs.Paths.{HasPathsOf, IsPathOf, IsUnitsPathOf};
 ghost use Rattle.ec_cli_words.specs.Trials.{AreSaidBy, HasCaptureOf, HasLostOf};
 ghost use Rattle.ec_cli_words.specs.declared.words.LineFault.TheVariants.{Memory};
 
@@ -345,10 +345,12 @@ fn trial_of(alloc: Global, line: &Line, matches: &ArgMatches<'_>) -> Result<Tria
 pub(crate) fn units_path(
     alloc: Global,
     matches: &ArgMatches<'_>,
-) -> Result<Option<String>, AllocError> {
-    match matches.get_str("file") {
-        None | Some("-") => Ok(None),
-        Some(path) => Ok(Some(String::from_str(alloc, path)?)),
+) -> Result<Option<String>, AllocError>
+    ensures { IfOk result (IsUnitsPathOf matches.now) }
+{
+    match path_of(alloc, matches, "file")? {
+        Some(path) if path.as_str() == "-" => Ok(None),
+        path => Ok(path),
     }
 }
 
@@ -358,7 +360,14 @@ pub(crate) fn line_words(
     command: &str,
     options: &ArgMatches<'_>,
 ) -> Result<Words, LineFault>
-    ensures { IfOk result (λ words. JobFits (job_of words.line)) }
+    ensures named { IfOk result (λ words. name_of words.line ≡ command.now) }
+    ensures within { IfOk result (λ words. JobFits (job_of words.line)) }
+    ensures said { IfOk result (λ words. HasNumbersOf options.now words.line) }
+    ensures paths { IfOk result (λ words. HasPathsOf options.now words.line) }
+    ensures units { IfOk result (λ words. IsUnitsPathOf options.now words.units) }
+    ensures progress { IfOk result (λ words. IsFlagOf options.now (codes "progress") words.progress) }
+    ensures lost { IfOk result (λ words. HasLostOf options.now words.line words.trial) }
+    ensures capture { IfOk result (λ words. HasCaptureOf options.now words.line words.trial) }
 {
     let line = line_of(alloc, command, options)?;
     Ok(Words {

@@ -59,10 +59,3 @@ start_bytes f = written (f.datagram ∷ []) f.bytes
 -- the start frames of a line, in file order
 abbrev pub starts_of : Units → Mapping → List StartFrame
 starts_of us m = start_list (stations_of us.units) m.fmmus
-
--- their datagrams, and the counters with which these are to come back
-abbrev pub start_datagrams : Units → Mapping → List Datagram
-start_datagrams us m = map (λ f. f.datagram) (starts_of us m)
-
-abbrev pub start_counters : Units → Mapping → List ℕ
-start_counters us m = map (λ f. f.want) (starts_of us m)

@@ -39,6 +39,7 @@ fn add_limits(page: &mut Draft, units: &Units, laid: &Laid<'_>) {
     let (tick_ns, slots) = (units.tick_ns, units.slots);
     let room = u64::from(tick_ns) / BYTE_NS;
     let ticks = laid.loads.ticks();
+    let noun = if ticks == 1 { "tick" } else { "ticks" };
     add_fact(
         page,
         "Length of a tick",
@@ -47,7 +48,7 @@ fn add_limits(page: &mut Draft, units: &Units, laid: &Laid<'_>) {
     add_fact(
         page,
         "Hyperperiod",
-        format_args!("{ticks} ticks, after which all repeats"),
+        format_args!("{ticks} {noun}, after which all repeats"),
     );
     add_fact(
         page,

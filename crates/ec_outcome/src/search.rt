@@ -8,7 +8,7 @@ use std::alloc::AllocError;
 /// one worker tells which ended it; of several workers memory comes first. The rest is `Journal`.
 #[derive(Clone, Copy, Debug, PartialEq, Eq)]
 pub enum Cut {
-    /// What the workers wrote down doesn't agree.
+    /// The book refused a worker, or what the workers wrote down doesn't agree.
     Journal,
     /// All nodes that were allowed are split or closed, and a leaf is still open.
     Budget,

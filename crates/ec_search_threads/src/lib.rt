@@ -1,7 +1,6 @@
 //! Several workers on one book under a lock, each in a thread of its own.
 #![tactic(auto)]
 
-mod bounds;
 mod copying;
 mod crew;
 mod ended;

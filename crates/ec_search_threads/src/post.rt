@@ -17,14 +17,11 @@ use crate::pieces::{opened, published};
 use crossbeam_utils::sync::EventCount;
 use ec_book::{BookFault, Taken};
 use ec_book_shared::{Search, Seat, Shared};
-use ec_cert::Best;
+use ec_cert::{Best, MOST_BUSIEST};
 use ec_loads::Plan;
 use ec_search_queues::{Bound, Reader, Tickets};
 use ec_units::Units;
 use std::sync::Wait;
-
-/// The greatest cost of a legal plan's busiest tick, in wire bytes: eight frames of the greatest length.
-const MOST_VALUE: u64 = 12_304;
 
 /// A seat that is for the search of its shared book, with what the worker knows beside the book: numbers of pieces, the least
 /// value that was published, and what wakes workers that sleep since nothing could be handed out to them.
@@ -155,7 +152,7 @@ impl<'u, 'o, 'b, S: Search> Post<'u, 'o, 'b, S> {
         ensures lowered { value ≤ 12304 → IsLowered self.old.reader value self.new.reader }
         ensures falls { IsAtMost self.new.reader.known self.old.reader.known }
     {
-        if value <= MOST_VALUE {
+        if value <= MOST_BUSIEST {
             self.bound.lower(&mut self.reader, value);
         }
     }

@@ -3,13 +3,12 @@
 ghost use Rattle.std.specs.Option.{is_some};
 ghost use Rattle.ec_search_threads.specs.Turns.{IsTied};
 
-use crate::bounds::lesser;
 use crate::copying::copy_of;
 use crate::ended::Ended;
 use crate::gate::Gate;
 use crate::post::Post;
 use ec_book_shared::{Search, Shared};
-use ec_branch::Guide;
+use ec_branch::{Guide, lesser};
 use ec_cert::Best;
 use ec_loads::Plan;
 use std::alloc::Global;

@@ -51,8 +51,8 @@ asked_beyond strong workers nodes given parts = record { strong = strong; worker
 abbrev pub IsSpent : Asked → Shape → Type 0
 IsSpent asked tree = node_count tree ≡ node_count asked.given + asked.nodes
 
--- why a search ended without a proof: the notes of several workers disagree, which those of one never do; else a leaf is open, and all nodes are spent, else memory
--- was refused, else the time was over, else there are other parts, to which the open leaves are left
+-- why a search ended without a proof: the book refused one of several workers, or their notes disagree, which neither does with one; else a leaf is open, and all
+-- nodes are spent, else memory was refused, else the time was over, else there are other parts, to which the open leaves are left
 abbrev pub IsCut : Asked → Shape → Cut → Type 0
 IsCut asked tree cut.Journal = 1 < asked.workers
 IsCut asked tree cut.Budget = IsSpent asked tree × (0 < open_count tree)
