@@ -360,6 +360,28 @@ def try_saved(library, output, path, trial):
         trial.holds(is_there or stopped_in == "rename", f"at call {number}, {stopped_in}: an edit of the units is lost")
 
 
+def try_taken(library, output, path, trial):
+    """A run that stops at each call for files in turn, while another program puts a file of its own at the name of the run's: that one
+    stays there. Only where the run stops in the very call that removes its file, or in the last one before that which renames it, it comes
+    too late."""
+    calls = Calls(library, output, path, trial)
+    for number, _ in each_call(calls, "s"):
+        child = trial.start(*output.line(path), env=calls.env(number, "s"))
+        is_stopped = has_stopped(child)
+        stopped_in = calls.noted()[number - 1][0] if is_stopped else ""
+        taken = [name for name in trial.seen() if calls.is_of_run(name)] if is_stopped else []
+        for name in taken:
+            trial.put("new", EDIT)
+            os.replace(trial.at("new"), trial.at(name))
+        if is_stopped:
+            child.send_signal(signal.SIGCONT)
+        trial.end(child)
+        is_late = stopped_in in ("rename", "unlink") or any(name == "rename" for name, _ in calls.noted()[number : number + 1])
+        for name in taken:
+            stays = trial.get(name) == EDIT or is_late
+            trial.holds(stays, f"at call {number}, {stopped_in}: what another program put at {name} is gone")
+
+
 def try_synced(library, output, path, trial):
     """The file is on the disk before it takes its place, and its folder after it."""
     calls = Calls(library, output, path, trial)
@@ -394,6 +416,7 @@ def calls(outputs, library):
     """Each call for files, in turn."""
     kinds = ((try_failing, "each call for files fails in turn"), (try_killed, "it is killed at each call for files in turn"),
              (try_overtaken, "at each call for files another run overtakes it"),
+             (try_taken, "at each call for files another program takes the name of its file"),
              (try_synced, "it is on the disk when it takes its place"))
     cases = [(it, "of-run", it.name) for it in outputs] + [(outputs[4], UNITS, "the places in the units' own file")]
     for output, path, name in cases:
