@@ -4,8 +4,8 @@
  *     master INTERFACE TICKS [MS]  sends so many ticks; waits for the frames of a tick until the next one, or so many ms
  *     master --no-start ..         the same without the start frames, where something else wrote stations and FMMU records
  *
- * SIGINT and SIGTERM end it behind a tick. plan.h is what `ecplan frames --header plan.h` writes. The status is 0 where all came back right, 1 where something did not, and
- * 2 where it can't begin. */
+ * SIGINT and SIGTERM end it behind a tick. plan.h is what `ecplan frames --header plan.h` writes. The status is 0 where all came back
+ * right, 1 where something did not, and 2 where it can't begin. */
 #define _GNU_SOURCE
 #include "plan.h"
 #include <arpa/inet.h>
