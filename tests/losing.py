@@ -456,6 +456,20 @@ def try_better_places(units, trial):
     trial.holds(again.code == 0, f"places of the same cost: {again.said}")
 
 
+def try_places_of_a_proof(trial):
+    """Where the certificate of a proof stays, so do places that cost as much: they are that certificate's."""
+    trial.put("units.toml", example("assembly-line.toml"))
+    proof = ["--out", "c", "--places", "placed.toml", "units.toml"]
+    trial.holds(trial.run("plan", "--strong", *proof).code == 0, "no best plan")
+    before = trial.seen()
+    done = trial.run("plan", "--nodes", "200000", *proof)
+    trial.ends(done, 4, REFUSED_WRITE)
+    trial.tells(done, "c.part", "placed.toml", "may be those of the certificate")
+    trial.left(before, free=("c.part",))
+    again = trial.run("plan", "--nodes", "200000", "--places", "placed.toml", "units.toml")
+    trial.holds(again.code == 2 and trial.get("placed.toml") != before["placed.toml"].holds, f"places without a certificate: {again.said}")
+
+
 def try_other_places(change, trial):
     """Better places of a text that says something else are replaced."""
     trial.put("units.toml", example("assembly-line.toml"))
@@ -486,6 +500,7 @@ def better_places(_outputs):
     yield "plan --places p, over better places with a text that is too long", try_longer_text
     yield "plan --places p, over better places of another text for the same units", partial(try_better_places, "units.toml")
     yield "plan --places p p, over better places of its own", partial(try_better_places, "placed.toml")
+    yield "plan --out c --places p, over a proof and its places", try_places_of_a_proof
 
 
 def at_rest(outputs):

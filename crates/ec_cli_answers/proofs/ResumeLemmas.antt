@@ -24,7 +24,7 @@ use Rattle.ec_checker.specs.Laws.{FaultsRefute}
 use Rattle.ec_checker.proofs.CheckLemmas.{claim_from}
 use Rattle.ec_outcome.specs.declared.search.Outcome.{Outcome}
 use Rattle.ec_outcome.specs.declared.search.Outcome.TheVariants as outcome
-use Rattle.ec_workers.specs.Answers.{Asked, asked_beyond, GoesBeyond, IsOutcome, HasOrder, is_strong, KeepsToPart}
+use Rattle.ec_workers.specs.Answers.{Asked, asked_beyond, GoesBeyond, IsOutcome, HasOrder, HasRules, is_strong, KeepsToPart}
 use Rattle.ec_workers.specs.Outcomes.{Shows, IsOptimal, IsWithoutPlan}
 use Rattle.ec_book.specs.Parts.{LeavesOthers}
 use Rattle.ec_workers.proofs.GrowLemmas.{drawn-same, stays}
@@ -80,6 +80,11 @@ own_order c (outcome.Optimal plan b cert) own = ap (λ (x : CertView). x.order) 
 own_order c (outcome.NoPlan cert) own = ap (λ (x : CertView). x.order) own
 own_order c (outcome.Unproved best order tree strong why) own = absurd own
 
+own_rules : (c : CertView) (o : Outcome) → IsProofBy c o → HasRules (is_strong c) o
+own_rules c (outcome.Optimal plan b cert) own = ap is_strong own
+own_rules c (outcome.NoPlan cert) own = ap is_strong own
+own_rules c (outcome.Unproved best order tree strong why) own = absurd own
+
 no_level : (l : ℕ) → None ≡ Some l → ⊥
 no_level l e = absurd cc
 
@@ -119,6 +124,7 @@ goes_by_proof workers nodes part us c o right none is own = record {
   level = λ l some. absurd (no_level l (sym none ∙ some));
   proof = λ _. own;
   order = own_order c o own;
+  rules = own_rules c o own;
 }
 
 -- ---- why nothing comes of it
@@ -138,4 +144,4 @@ unresumed workers bytes text r (inr (inr h)) = inr (inr (h.0, h.1, inl (cert.Too
 
 -- an outcome of the text for the units that the bytes say
 pub resume_of : (workers nodes : ℕ) (part : Part) (bytes text : List ℕ) (us : Units) (o : Outcome) → AnswersUnits (Ok us) bytes → GoesOnFrom workers nodes part us text o → IsResumeOf workers nodes part bytes text us o
-resume_of workers nodes part bytes text us o read goes = record { short = read.0; said = read.1; cert = goes.0; read = goes.1; goes = goes.2 }
+resume_of workers nodes part bytes text us o read goes = record { read = read; cert = goes.0; said = goes.1; goes = goes.2 }

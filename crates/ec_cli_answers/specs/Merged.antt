@@ -1,8 +1,6 @@
 -- What is told of certificates that were merged.
-use Rattle.std.specs.Prelude.{◌≡◌, ℕ, ◌<◌, ◌≤◌, List, length, Option, Some, Ok}
+use Rattle.std.specs.Prelude.{◌≡◌, ℕ, ◌<◌, List, Option, Some, Ok}
 use Rattle.ec_units.specs.declared.units.Units.{Units}
-use Rattle.ec_unit_text.specs.Reading.{reading}
-use Rattle.ec_units.specs.Views.{units_view}
 use Rattle.ec_cert.specs.IsBestPlan.{value_of}
 use Rattle.ec_cert.specs.Shapes.{CertView}
 use Rattle.ec_loads.specs.Search.{open_count}
@@ -10,14 +8,14 @@ use Rattle.ec_outcome.specs.declared.search.Cut.TheVariants as cut
 use Rattle.ec_outcome.specs.declared.search.Outcome.{Outcome}
 use Rattle.ec_workers.specs.Answers.{Asked, HasCut, HasLevelFrom, HasOrder, HasRules, IsOutcome, is_strong, tree_in, value_in}
 use Rattle.ec_cert_merge.specs.Certs.{HasBest, IsProved, IsProven}
+use Rattle.ec_cli_inputs.specs.Input.{AnswersUnits}
 use Rattle.ec_cli_text.specs.Output.{Written}
 use Rattle.ec_cli_answers.specs.Planned.{IsOutcomeWritten}
 
 -- what comes of a certificate to which the checker says yes, for the units that the bytes say: it has its tree, its value, its order of the units and its rules, and
 -- shows at least its level; its plan is the certificate's. Where no leaf of the tree is open it is a proof; else the open leaves are left to other parts
 pub record IsMergeOf (bytes : List ℕ) (cert : CertView) (us : Units) (o : Outcome) : Type 0 where
-  pub short : length bytes ≤ 1048576
-  pub said : reading bytes ≡ Ok (units_view us)
+  pub read : AnswersUnits (Ok us) bytes
   pub right : IsProven us.units us.slots cert
   pub best : HasBest cert.best o
   pub tree : tree_in o ≡ cert.tree

@@ -1,12 +1,10 @@
 -- What a search writes, begun or resumed: the text of an outcome, and before it its certificate.
-use Rattle.std.specs.Prelude.{◌≡◌, ◌⊎◌, ℕ, ◌≤◌, List, length, Option, Some, None, Ok, option_map}
+use Rattle.std.specs.Prelude.{◌≡◌, ◌⊎◌, ℕ, List, Option, Some, None, Ok, option_map}
 use Rattle.std.specs.Io.KnownBytes.{Appends}
 use Rattle.ec_wire.specs.declared.io.Io.{Io}
 use Rattle.ec_wire.specs.Stream.{stream, WritesFront}
 use Rattle.ec_units.specs.declared.units.Units.{Units}
 use Rattle.ec_units.specs.Load.{loads_of}
-use Rattle.ec_unit_text.specs.Reading.{reading}
-use Rattle.ec_units.specs.Views.{units_view}
 use Rattle.ec_loads.specs.Shape.{open_leaf}
 use Rattle.ec_cert.specs.declared.part.Part.{Part}
 use Rattle.ec_cert.specs.IsBestPlan.{value_of}
@@ -18,14 +16,14 @@ use Rattle.ec_checker.specs.declared.fault.Verdict.TheVariants as verdict
 use Rattle.ec_outcome.specs.declared.search.Outcome.{Outcome}
 use Rattle.ec_outcome.specs.declared.search.Outcome.TheVariants as outcome
 use Rattle.ec_outcome.specs.declared.search.SolveFault.{SolveFault}
-use Rattle.ec_workers.specs.Answers.{Asked, asked_beyond, GoesBeyond, HasLevelFrom, IsOutcome, IsSolveFault, HasOrder, HasSearchOrder, is_strong, KeepsToPart}
+use Rattle.ec_workers.specs.Answers.{Asked, asked_beyond, GoesBeyond, HasLevelFrom, HasRules, IsOutcome, IsSolveFault, HasOrder, HasSearchOrder, is_strong, KeepsToPart}
 use Rattle.ec_workers.specs.Outcomes.{partial_for, Shows}
 use Rattle.ec_cli_refusals.specs.declared.refusal.Refusal.{Refusal}
 use Rattle.ec_cli_refusals.specs.declared.refusal.Refusal.TheVariants as refusal
-use Rattle.ec_cli_inputs.specs.Input.{AnswersUnits, IsUnitsFault}
+use Rattle.ec_cli_inputs.specs.Input.{AnswersUnits}
 use Rattle.ec_cli_text.specs.Outcomes.{outcome_output, IsLevelOf}
 use Rattle.ec_cli_text.specs.Output.{Written, refused}
-use Rattle.ec_cli_refusals.specs.Refusals.{out_of_memory, check_memory}
+use Rattle.ec_cli_refusals.specs.Refusals.{IsUnitsFault, out_of_memory, check_memory}
 use Rattle.ec_cli_answers.specs.RightTexts.{IsWrongText}
 
 -- the certificate that is written for an outcome of these units: its own, or that of a search without a proof, with its level
@@ -37,13 +35,14 @@ outcome_cert us (outcome.Unproved best order tree strong why) level =
 
 -- ---- what comes of a search over the units that were read, and why nothing does
 
--- of a plan: what comes of a search over the units that the bytes say, which begins afresh, within this budget and in the order of a search
+-- of a plan: what comes of a search over the units that the bytes say, which begins afresh, within this budget, in the order of a search and by the rules that were
+-- asked for
 pub record IsPlanOf (asked : Asked) (bytes : List ℕ) (us : Units) (o : Outcome) : Type 0 where
-  pub short : length bytes ≤ 1048576
-  pub said : reading bytes ≡ Ok (units_view us)
+  pub read : AnswersUnits (Ok us) bytes
   pub answer : IsOutcome us.units us.slots asked o
   pub beyond : GoesBeyond open_leaf None asked.nodes o
   pub order : HasSearchOrder asked.strong (loads_of us.units) o
+  pub rules : HasRules asked.strong o
 
 -- why a search by so many workers over the units that bytes say has no outcome: they give no units, memory ran out over them, before the search or over the text
 -- that is written, or the search has none: memory ran out before it began, or none of several workers could be started
@@ -61,7 +60,7 @@ IsProofBy c (outcome.NoPlan cert) = cert_view cert ≡ c
 IsProofBy c (outcome.Unproved best order tree strong why) = ⊥
 
 -- what comes of going on with a certificate to which the checker says yes: where it is a proof, that one; else what a search finds that goes on with its tree, in
--- its order of the units, where new nodes alone are counted. Its tree grows from the certificate's, by the open leaves of the part alone. Its value is
+-- its order of the units and by its rules, where new nodes alone are counted. Its tree grows from the certificate's, by the open leaves of the part alone. Its value is
 -- at most that of the certificate, and what it shows of every plan is at least the certificate's level
 pub record GoesOn (workers nodes : ℕ) (part : Part) (us : Units) (c : CertView) (o : Outcome) : Type 0 where
   pub right : IsCertified us.units us.slots c
@@ -71,6 +70,7 @@ pub record GoesOn (workers nodes : ℕ) (part : Part) (us : Units) (c : CertView
   pub level : (l : ℕ) → c.level ≡ Some l → HasLevelFrom us.units us.slots l o
   pub proof : c.level ≡ None → IsProofBy c o
   pub order : HasOrder c.order o
+  pub rules : HasRules (is_strong c) o
 
 -- the same of the certificate that a text says
 abbrev pub GoesOnFrom : ℕ → ℕ → Part → Units → List ℕ → Outcome → Type 0
@@ -82,10 +82,9 @@ IsStoppedFrom workers us text r = (r ≡ out_of_memory) ⊎ (((f : SolveFault) �
 
 -- of a resumed search: what comes of going on with the certificate that the text says, for the units that the bytes say
 pub record IsResumeOf (workers nodes : ℕ) (part : Part) (bytes text : List ℕ) (us : Units) (o : Outcome) : Type 0 where
-  pub short : length bytes ≤ 1048576
-  pub said : reading bytes ≡ Ok (units_view us)
+  pub read : AnswersUnits (Ok us) bytes
   pub cert : CertView
-  pub read : cert_reading text ≡ Ok cert
+  pub said : cert_reading text ≡ Ok cert
   pub goes : GoesOn workers nodes part us cert o
 
 -- why there is no outcome of it: as of a plan, or memory ran out over the room for the check, or the text says no certificate to which the checker says yes for the

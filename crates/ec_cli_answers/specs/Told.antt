@@ -11,6 +11,7 @@ use Rattle.ec_cli_refusals.specs.declared.refusal.Refusal.{Refusal}
 use Rattle.ec_cli_command.specs.declared.job.Job.{Job}
 use Rattle.ec_cli_command.specs.declared.job.Job.TheVariants as job
 use Rattle.ec_units.specs.declared.slave.Place.{Place}
+use Rattle.ec_units.specs.declared.units.Units.{Units}
 use Rattle.ec_units.specs.Views.{UnitsView}
 use Rattle.ec_frame_text.specs.Lines.{IsFramesText}
 use Rattle.ec_frame_text.specs.Captures.{IsCapture}
@@ -20,7 +21,8 @@ use Rattle.ec_cli_text.specs.declared.answer.Answer.{Answer}
 use Rattle.ec_workers.specs.Answers.{asked_for}
 use Rattle.ec_cli_text.specs.Output.{Written, Answers, IsCostsText, IsOutput, IsNoMemory, refused, shown, written_of}
 use Rattle.ec_cli_answers.specs.Captures.{IsFramesWritten}
-use Rattle.ec_cli_answers.specs.Planned.{IsPlanWritten, IsResumeWritten}
+use Rattle.ec_cli_text.specs.Outcomes.{IsLevelOf, outcome_output}
+use Rattle.ec_cli_answers.specs.Planned.{IsPlanWritten, IsResumeWritten, IsShownAt, outcome_cert}
 use Rattle.ec_cli_answers.specs.declared.told.File.{File}
 use Rattle.ec_cli_answers.specs.declared.told.File.TheVariants as file
 use Rattle.ec_cli_answers.specs.declared.told.Told.{Told}
@@ -75,15 +77,24 @@ IsTold (job.Resume workers nodes part) bytes (Some text) w file = IsResumeWritte
 IsTold job.Capture bytes cert w file = IsFramesWritten cert bytes w file
 IsTold j bytes cert w file = IsPlainTold j bytes cert w file
 
--- an answer is what is told, and has the file that is told
-pub record TellsFor (j : Job) (bytes : List ℕ) (cert : Option (List ℕ)) (answer : Result Told Refusal) : Type 0 where
+-- an answer is as said of what is written and of the file before it, and has that file
+pub record TellsBy (said : Written → Option (List ℕ) → Type 0) (answer : Result Told Refusal) : Type 0 where
   pub file : Option (List ℕ)
-  pub is : IsTold j bytes cert (told answer) file
+  pub is : said (told answer) file
   pub made : file_of answer ≡ file
+
+-- an answer is what is told for these bytes, and has the file that is told
+abbrev pub TellsFor : Job → List ℕ → Option (List ℕ) → Result Told Refusal → Type 0
+TellsFor j bytes cert answer = TellsBy (IsTold j bytes cert) answer
 
 -- its certificate has a text
 abbrev pub IsWritable : Result Told Refusal → Type 0
 IsWritable answer = IfOk answer (λ t. HasText t.file)
+
+-- an answer has the text of the outcome of a search and its certificate, at a level that its tree shows
+abbrev pub IsOutcomeTold : Units → Outcome → Result Told Refusal → Type 0
+IsOutcomeTold us o answer = IfOk answer (λ t. (level : Option ℕ) × IsLevelOf us.units us.slots o level × (shown t.answer ≡ outcome_output us.units o level)
+    × (file_bytes t.file ≡ outcome_cert us o level) × IsShownAt us o level)
 
 -- ---- what is told of a plan
 
@@ -100,6 +111,7 @@ IsCaptureTold v places (Err r) = IsFramesMemory r
 
 abbrev pub IsPlanTold : Job → UnitsView → List Place → Result Told Refusal → Type 0
 IsPlanTold job.Capture v places answer = IsCaptureTold v places answer
+IsPlanTold job.Cost v places answer = IsTextTold job.Cost IsCostsText v places answer
 IsPlanTold job.Play v places answer = IsTextTold job.Play IsPlayText v places answer
 IsPlanTold job.PlanCost v places answer = IsTextTold job.Cost IsCostsText v places answer
 IsPlanTold _ v places answer = IsTextTold job.Frames IsFramesText v places answer
@@ -108,6 +120,7 @@ IsPlanTold _ v places answer = IsTextTold job.Frames IsFramesText v places answe
 
 -- the job tells of a plan
 abbrev pub IsOfPlan : Job → Type 0
+IsOfPlan job.Cost = Unit {0}
 IsOfPlan job.Frames = Unit {0}
 IsOfPlan job.Capture = Unit {0}
 IsOfPlan job.Play = Unit {0}

@@ -26,7 +26,7 @@ use std::sync::Wait;
 use std::thread::Threads;
 
 /// What a search for a plan tells of the units.
-fn tell_plan_of<T: Threads + Wait + Sync, G: Gate + Sync>(
+fn tell_plan<T: Threads + Wait + Sync, G: Gate + Sync>(
     rt: &T,
     alloc: Global,
     workers: usize,
@@ -70,24 +70,6 @@ fn tell_resumed<T: Threads + Wait + Sync, G: Gate + Sync>(
         rt, alloc, workers, nodes, part, &mut loads, units, text, gate,
     )?;
     tell_outcome(alloc, units, &mut loads, lines, outcome)
-}
-
-/// What a search for a plan tells of its inputs.
-fn tell_plan<T: Threads + Wait + Sync, G: Gate + Sync>(
-    rt: &T,
-    alloc: Global,
-    workers: usize,
-    nodes: u32,
-    strong: bool,
-    inputs: Inputs,
-    gate: &G,
-) -> Result<Told, Refusal>
-    requires workers { (1 ≤ workers) × (workers ≤ 16) }
-    requires nodes { (1 ≤ nodes) × (nodes ≤ 10000000) }
-    ensures told { (bytes : List ℕ) (cert : Option (List ℕ)) → Says bytes cert inputs → TellsFor (Plan workers nodes strong) bytes cert result }
-    ensures text { IsWritable result }
-{
-    tell_plan_of(rt, alloc, workers, nodes, strong, &inputs.units, gate)
 }
 
 /// What a search tells of its inputs that goes on with the certificate in them.
@@ -140,7 +122,7 @@ pub fn answer<T: Threads + Wait + Sync, G: Gate + Sync>(
             workers,
             nodes,
             strong,
-        } => tell_plan(rt, alloc, *workers, *nodes, *strong, inputs, gate),
+        } => tell_plan(rt, alloc, *workers, *nodes, *strong, &inputs.units, gate),
         Job::Resume {
             workers,
             nodes,

@@ -4,7 +4,8 @@ ghost use Rattle.std.specs.Prelude.{◌≡◌, ℕ, List, IfOk, IfErr, Ok as OkO
 ghost use Rattle.ec_units.specs.Load.{loads_of};
 ghost use Rattle.ec_loads.specs.Held.{no_places};
 ghost use Rattle.ec_cert.specs.Shapes.{cert_view, shape_of};
-ghost use Rattle.ec_cert_merge.specs.Certs.{IsLesserBest, IsMisfit, IsProven};
+ghost use Rattle.ec_cert.specs.Versions.{rules_of};
+ghost use Rattle.ec_cert_merge.specs.Certs.{IsLesserBest, IsLevelOfBoth, IsMisfit, IsProven, version_by};
 ghost use Rattle.ec_cert_merge.specs.Merged.{IsMerged};
 ghost use Rattle.ec_cli_refusals.specs.Refusals.{out_of_memory};
 ghost use Rattle.ec_cli_inputs.specs.Input.{AnswersUnits};
@@ -34,6 +35,9 @@ pub fn joined(units: &Units, first: Cert, second: Cert) -> Result<Cert, Misfit>
     ensures tree { IfOk result (λ both. IsMerged (shape_of first.tree) (shape_of second.tree) (shape_of both.tree)) }
     ensures best { IfOk result (λ both. IsLesserBest first.best second.best both.best) }
     ensures order { IfOk result (λ both. both.order ≡ first.order) }
+    ensures rules { IfOk result (λ both. rules_of both.version ≡ rules_of first.version) }
+    ensures version { IfOk result (λ both. both.version ≡ version_by (rules_of first.version) both.level) }
+    ensures level { IfOk result (λ both. IsLevelOfBoth first.level second.level (shape_of both.tree) both.level) }
     ensures err { IfErr result (IsMisfit (cert_view first) (cert_view second)) }
 {
     match misfit(&first, &second) {

@@ -8,10 +8,9 @@ ghost use Rattle.ec_cert.specs.Shapes.{cert_view};
 ghost use Rattle.ec_cert.specs.WellFormed.{IsWellFormed};
 ghost use Rattle.ec_cert_text.specs.Text.{certificate_text};
 ghost use Rattle.ec_checker.specs.Certified.{lines_of as lines_spec};
-ghost use Rattle.ec_cli_text.specs.Outcomes.{HasPlaces, IsLevelOf, outcome_output};
-ghost use Rattle.ec_cli_text.specs.Output.{shown};
+ghost use Rattle.ec_cli_text.specs.Outcomes.{HasPlaces, IsLevelOf};
 ghost use Rattle.ec_cli_answers.specs.Planned.{outcome_cert, IsShownAt};
-ghost use Rattle.ec_cli_answers.specs.Told.{ending_of, file_bytes, HasText};
+ghost use Rattle.ec_cli_answers.specs.Told.{ending_of, HasText, IsOutcomeTold};
 ghost use Rattle.ec_cli_refusals.specs.Refusals.{out_of_memory};
 
 use crate::told::{File, Told};
@@ -116,8 +115,7 @@ pub(crate) fn tell_outcome(
     requires lines { lines ≡ lines_spec units.now.units }
     requires outcome { (asked : Asked) × IsOutcome units.now.units units.now.slots asked outcome }
     requires places { HasPlaces units.now.units outcome }
-    ensures ok { IfOk result (λ t. (level : Option ℕ) × IsLevelOf units.now.units units.now.slots outcome level
-        × (shown t.answer ≡ outcome_output units.now.units outcome level) × (file_bytes t.file ≡ outcome_cert units.now outcome level) × IsShownAt units.now outcome level) }
+    ensures ok { IsOutcomeTold units.now outcome result }
     ensures text { IfOk result (λ t. HasText t.file) }
     ensures ending { IfOk result (λ t. (level : Option ℕ) × IsLevelOf units.now.units units.now.slots outcome level × (t.ending ≡ ending_of outcome level)) }
     ensures err { IfErr result (λ r. r ≡ out_of_memory) }

@@ -18,7 +18,7 @@ use ec_checker::Verdict;
 use ec_cli_command::Job;
 use ec_cli_inputs::{Given, Inputs};
 use ec_cli_refusals::Refusal;
-use ec_cli_text::{Answer, Player, cost_of, plan_capture, plan_cost, plan_frames, verdict_answer};
+use ec_cli_text::{Answer, Player, plan_capture, plan_cost, plan_frames, verdict_answer};
 use ec_loads::{Loads, Plan};
 use ec_units::Units;
 use std::alloc::Global;
@@ -72,8 +72,7 @@ fn tell_plan<P: Player>(
         Job::Frames => without_file(plan_frames(alloc, units, plan)),
         Job::Capture => tell_capture(alloc, units, plan),
         Job::Play => without_file(player.play(alloc, units, plan)),
-        Job::PlanCost => without_file(plan_cost(alloc, units, plan)),
-        Job::Cost => unreachable!(),
+        Job::Cost | Job::PlanCost => without_file(plan_cost(alloc, units, plan)),
         Job::Check => unreachable!(),
         Job::Plan { .. } => unreachable!(),
         Job::Resume { .. } => unreachable!(),
@@ -123,7 +122,6 @@ pub fn answer_plain<P: Player>(
 {
     let Inputs { units, given } = inputs;
     match job {
-        Job::Cost => without_file(cost_of(alloc, &units)),
         Job::Check => match given {
             Some(given) => {
                 let Given { mut loads, text } = given;
@@ -133,7 +131,7 @@ pub fn answer_plain<P: Player>(
         },
         Job::Plan { .. } => unreachable!(),
         Job::Resume { .. } => unreachable!(),
-        Job::Frames | Job::Capture | Job::Play | Job::PlanCost => {
+        Job::Frames | Job::Capture | Job::Play | Job::PlanCost | Job::Cost => {
             let mut verdict = None;
             let plan = plan_for(alloc, &units, given, &mut verdict)?;
             let told = tell_plan(player, alloc, job, &units, &plan);

@@ -5,10 +5,10 @@ ghost use Rattle.ec_units.specs.Load.{loads_of};
 ghost use Rattle.ec_units.specs.Views.{units_view};
 ghost use Rattle.ec_loads.specs.Held.{no_places};
 ghost use Rattle.ec_loads.specs.Legal.{IsLegal};
-ghost use Rattle.ec_frame_text.specs.Lines.{IsFramesText};
-ghost use Rattle.ec_cli_refusals.specs.Refusals.{IsFramesMemory};
-ghost use Rattle.ec_cli_text.specs.Framed.{IsCertPlan, IsFramedPlan};
-ghost use Rattle.ec_cli_text.specs.Output.{IsReadText, IsTextFor, refused};
+ghost use Rattle.ec_cli_command.specs.declared.job.Job.TheVariants.{Check};
+ghost use Rattle.ec_cli_refusals.specs.Refusals.{IsMemory};
+ghost use Rattle.ec_cli_text.specs.Plans.{IsCertless, IsCertPlan, IsFramedPlan, IsPlanless};
+ghost use Rattle.ec_cli_answers.specs.Captures.{IsPlanWant};
 
 use crate::right::{Right, right_cert};
 use ec_cert::Cert;
@@ -32,7 +32,7 @@ fn text_plan(
     requires { loads.old ≡ record { loads = loads_of units.now.units; slots = units.now.slots; places = no_places (loads_of units.now.units) } }
     ensures ok { IfOk result (λ plan. IsCertPlan text.items (units_view units.now) plan.places) }
     ensures legal { IfOk result (λ plan. IsLegal (loads_of units.now.units) units.now.slots plan.places) }
-    ensures err { IfErr result (λ r. IsFramesMemory r ⊎ IsReadText IsFramesText (units_view units.now) text.items (refused r)) }
+    ensures err { IfErr result (λ r. IsMemory Check r ⊎ IsCertless text.items (units_view units.now) r) }
 {
     let Right {
         cert,
@@ -57,7 +57,7 @@ pub(crate) fn plan_for(
     requires room { IfSome given (λ g. g.loads ≡ record { loads = loads_of units.now.units; slots = units.now.slots; places = no_places (loads_of units.now.units) }) }
     ensures ok { IfOk result (λ plan. IsFramedPlan (option_map (λ g. g.text.items) given) (units_view units.now) plan.places) }
     ensures legal { IfOk result (λ plan. IsLegal (loads_of units.now.units) units.now.slots plan.places) }
-    ensures err { IfErr result (λ r. IsFramesMemory r ⊎ IsTextFor IsFramesText (option_map (λ g. g.text.items) given) (units_view units.now) (refused r)) }
+    ensures err { IfErr result (λ r. IsPlanWant (option_map (λ g. g.text.items) given) r ⊎ IsPlanless (option_map (λ g. g.text.items) given) (units_view units.now) r) }
 {
     match given {
         Some(given) => {

@@ -27,7 +27,7 @@ pub enum File {
 pub struct Told {
     pub answer: Answer,
     pub file: File,
-    /// The plan whose frames, play or costs are told; none of a check, of a search, and of the costs of the units' own places.
+    /// The plan whose frames, play or costs are told; none of a check and of a search.
     pub plan: Option<Plan>,
     /// How a search ended without a proof; none of a proof, and of other jobs.
     pub ending: Option<Ending>,

@@ -78,12 +78,16 @@ pub enum KeepReason {
     Unreadable,
     /// It holds a certificate of the same units that says more, and no proof.
     SaysMore,
+    /// It holds a certificate of the same search that has closed what the new one leaves open.
+    HasOther,
     /// It holds a proof for the same units.
     IsProof,
     /// It holds another unit text than the one that the run began with. The new file is taken away.
     Changed,
     /// It holds the same units with places whose busiest tick costs less.
     Cheaper,
+    /// It holds the same units with places whose busiest tick costs as much, which may be those of a certificate that was left.
+    AsCheap,
     /// Other runs write to it at the same time.
     Changing,
 }
@@ -106,6 +110,9 @@ impl KeepReason {
             KeepReason::SaysMore => {
                 "It holds a certificate of the same units that says more: where check says that it is right, go on from it, else give another path"
             }
+            KeepReason::HasOther => {
+                "It holds a certificate of the same search that has closed what this one leaves open: merge both, or give another path"
+            }
             KeepReason::IsProof => {
                 "It holds a proof for the same units: where check says that it is right nothing better can be found, else give another path"
             }
@@ -114,6 +121,9 @@ impl KeepReason {
             }
             KeepReason::Cheaper => {
                 "Its places make a busiest tick that costs less than that of this plan, as cost tells: give another path"
+            }
+            KeepReason::AsCheap => {
+                "Its places cost as much in their busiest tick, and may be those of the certificate that was left as it is: give another path"
             }
             KeepReason::Changing =>
                 "Other runs write to it at this time: give each a path of its own",

@@ -181,9 +181,16 @@ impl Search<'_> {
         let resume = Command::Resume { cert, units, again };
         let merge = Command::Merge { cert, units };
         match self.asked {
-            Asked::Whole | Asked::Most => out.add(format_args!(
-                "The command {resume}{on_input} goes on with this search, and counts new nodes alone.\n"
-            )),
+            Asked::Whole | Asked::Most => {
+                out.add(format_args!(
+                    "The command {resume}{on_input} goes on with this search, and counts new nodes alone.\n"
+                ));
+                if self.ending.cut == Cut::Memory {
+                    out.add(
+                        "It reads the certificate too, and so needs more memory than this run had.\n",
+                    );
+                }
+            }
             Asked::Part => out.add(format_args!(
                 "The command {merge}{on_input} merges it: add a --cert for each of the others, and an --out for what they show together.\n"
             )),

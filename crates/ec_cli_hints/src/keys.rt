@@ -124,7 +124,7 @@ pub(crate) fn add_meant(out: &mut Draft, word: &str, key: Key) {
 }
 
 /// Adds a key that isn't known at a spot, at the top of the file with its line, and where it stands if it is one of another table; else
-/// which key was meant.
+/// which key was meant, if that isn't there.
 pub(crate) fn add_unknown(out: &mut Draft, doc: Doc<'_>, word: &str, spot: Spot) {
     let kind = Kind::at(spot);
     let line = match spot.unit {
@@ -140,8 +140,8 @@ pub(crate) fn add_unknown(out: &mut Draft, doc: Doc<'_>, word: &str, spot: Spot)
         return out.add(place);
     }
     match nearest(doc.alloc, word, kind.keys) {
-        Ok(Some(key)) => add_meant(out, word, key),
-        Ok(None) => out.add(kind.told),
+        Ok(Some(key)) if !doc.table(spot).has(key) => add_meant(out, word, key),
+        Ok(_) => out.add(kind.told),
         Err(_) => out.give_up(),
     }
 }
@@ -180,6 +180,9 @@ fn type_of(key: Key, value: &Value) -> &'static str {
     match (key, value.is_table()) {
         (Key::Unit, true) => "Write [[unit]] in double brackets, once for each.\n",
         (Key::Unit, false) => "It has to be tables, each begun by a line [[unit]].\n",
+        (Key::Slave, true) if Fields::of(value).has(Key::Slave) => {
+            "Write [[unit.slave]], with slave once, for each.\n"
+        }
         (Key::Slave, true) => "Write [[unit.slave]] in double brackets, once for each.\n",
         (Key::Slave, false) => "It has to be tables, each begun by a line [[unit.slave]].\n",
         (Key::Name, _) => "A name is a text in quotes, as name = \"press-4\".\n",

@@ -26,6 +26,14 @@ fn key_for(word: &str) -> Option<Key> {
     }
 }
 
+/// The bytes that a word counts which begins as those of PDOs do: what a slave receives are the master's outputs.
+fn bytes_for(word: &str) -> Option<Key> {
+    if word.starts_with("rx") {
+        return Some(Key::OutBytes);
+    }
+    Some(Key::InBytes).filter(|_| word.starts_with("tx"))
+}
+
 /// Whether so many edits lead to the key from a word that was meant for it: a third of its letters, roughly.
 fn is_near(edits: usize, key: Key) -> bool {
     edits < 32 && edits * 3 <= key.as_str().len() + 1
@@ -61,7 +69,8 @@ pub(crate) fn nearest(alloc: Global, word: &str, keys: &[Key]) -> Result<Option<
     }
     let small = word.to_ascii_lowercase(alloc)?;
     let word = small.as_str();
-    match key_for(word).or_else(|| by_front(word, keys)) {
+    let key = key_for(word).or_else(|| bytes_for(word));
+    match key.or_else(|| by_front(word, keys)) {
         Some(key) if keys.contains(&key) => Ok(Some(key)),
         _ => by_letters(alloc, word, keys),
     }

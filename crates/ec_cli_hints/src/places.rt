@@ -2,6 +2,7 @@
 
 use crate::inputs::{Doc, Fields};
 use crate::label::{In, Named, Pair};
+use crate::periods::times;
 use crate::quoted::Quoted;
 use ec_loads::Illegal;
 use ec_text_builder::Draft;
@@ -109,14 +110,38 @@ pub(crate) fn add_illegal(out: &mut Draft, doc: Doc<'_>, illegal: Illegal) {
     }
 }
 
-/// Whether some unit that travels in a tick and a slot can have another phase; also where no unit is known to travel in it.
+/// Whether units with these periods can stand apart by their phases.
+fn can_part(one: i64, other: i64) -> bool {
+    let (one, other) = (one.unsigned_abs(), other.unsigned_abs());
+    times(one, other) != other
+}
+
+/// Whether another phase may part some of the units that travel in a tick and a slot: the periods of two of them have a common divisor.
+/// Also where no unit is known to travel in it.
 fn has_phases(units: &[Value], tick: i64, slot: i64) -> bool {
-    let mut travelling = units
-        .iter()
-        .map(Fields::of)
-        .filter(|unit| travels(*unit, tick, slot))
-        .peekable();
-    travelling.peek().is_none() || travelling.any(|unit| unit.number(Key::Period) != Some(1))
+    let mut is_alone = true;
+    for (at, unit) in units.iter().map(Fields::of).enumerate() {
+        if travels(unit, tick, slot) {
+            is_alone = false;
+            let period = unit.number(Key::Period).unwrap_or(1);
+            let after = units.get(at.saturating_add(1)..).unwrap_or(&[]);
+            if is_any_parted(after, tick, slot, period) {
+                return true;
+            }
+        }
+    }
+    is_alone
+}
+
+/// Whether a unit with a period can stand apart from one of these that travel in a tick and a slot.
+fn is_any_parted(units: &[Value], tick: i64, slot: i64, period: i64) -> bool {
+    for unit in units.iter().map(Fields::of) {
+        let other = unit.number(Key::Period).unwrap_or(1);
+        if travels(unit, tick, slot) && can_part(period, other) {
+            return true;
+        }
+    }
+    false
 }
 
 /// Tells why the places of the file are no legal plan: which slot carries too much in which tick, and which units travel in it. Of

@@ -34,10 +34,14 @@ impl fmt::Display for Bytes<'_> {
     }
 }
 
-/// Whether a character is told as it stands. A control character isn't, nor one that ends a line or turns the direction of
-/// what stands beside it.
+/// Whether a character is told as it stands. A control character isn't, nor one that ends a line, that turns the direction of
+/// what stands beside it, or that takes no room.
 fn is_shown(letter: char) -> bool {
-    !letter.is_control() && !matches!(letter, '\u{2028}'..='\u{202e}' | '\u{2066}'..='\u{2069}')
+    !letter.is_control()
+        && !matches!(
+            letter,
+            '\u{ad}' | '\u{200b}' | '\u{200e}' | '\u{200f}' | '\u{2028}'..='\u{202e}' | '\u{2060}'..='\u{2069}' | '\u{feff}'
+        )
 }
 
 /// Whether a path is told as it stands, so that it can be given again.

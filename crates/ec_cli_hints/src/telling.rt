@@ -21,7 +21,7 @@ const TOP: Spot = Spot {
 fn tell_units(out: &mut Draft, inputs: &Inputs<'_>, doc: Doc<'_>, fault: UnitFault) {
     match fault {
         UnitFault::OutOfMemory => out.add(
-            "Memory ran out: nothing is said of the units. Run it with more memory, or with fewer nodes.\n",
+            "Memory ran out: nothing is said of the units. Run it with more memory; a search also with fewer nodes.\n",
         ),
         UnitFault::NotToml => syntax::tell_not_toml(out, inputs.units, doc.top.err()),
         UnitFault::Missing(spot, key) => missing::tell_missing(out, doc, spot, key),

@@ -1,7 +1,6 @@
 -- What is read.
 use Rattle.std.specs.Prelude.{◌≡◌, ◌⊎◌, ℕ, ◌+◌, ◌<◌, ◌≤◌, List, length, Option, Some, None, Result, Ok, Err, IfSome, option_map}
 use Rattle.std.specs.Io.KnownBytes.{Consumes}
-use Rattle.ec_unit_text.specs.declared.fault.UnitFault.{UnitFault}
 use Rattle.ec_cert_text.specs.declared.fault.CertFault.TheVariants as cert
 use Rattle.ec_units.specs.declared.units.Units.{Units}
 use Rattle.ec_unit_text.specs.Reading.{reading, IsValidText}
@@ -14,7 +13,7 @@ use Rattle.ec_cli_inputs.specs.declared.input.Given.{Given}
 use Rattle.ec_cli_inputs.specs.declared.input.Inputs.{Inputs}
 use Rattle.ec_cli_refusals.specs.declared.refusal.Refusal.{Refusal}
 use Rattle.ec_cli_refusals.specs.declared.refusal.Refusal.TheVariants as refusal
-use Rattle.ec_cli_refusals.specs.Refusals.{out_of_memory, check_memory}
+use Rattle.ec_cli_refusals.specs.Refusals.{IsUnitsFault, out_of_memory, check_memory}
 
 -- what is read is all that was left, and no more than the limit
 abbrev pub ReadsAll : Option (List ℕ) → ℕ → List ℕ → Type 0
@@ -31,12 +30,6 @@ ConsumesAtMost old new most = (bytes : List ℕ) × (length bytes ≤ most) × C
 -- bytes are a valid unit text of at most 1,048,576 bytes
 abbrev pub AreUnits : List ℕ → Type 0
 AreUnits bytes = (length bytes ≤ 1048576) × IsValidText bytes
-
--- why bytes give no units: they are too many, or their text has a fault
-abbrev pub IsUnitsFault : List ℕ → Refusal → Type 0
-IsUnitsFault bytes r =
-    ((length bytes ≤ 1048576) × ((f : UnitFault) × (reading bytes ≡ Err f) × (r ≡ refusal.Unit f)))
-    ⊎ ((1048576 < length bytes) × (r ≡ refusal.TooLarge))
 
 -- the units that bytes say, or why they say none, which may be want of memory
 abbrev pub AnswersUnits : Result Units Refusal → List ℕ → Type 0

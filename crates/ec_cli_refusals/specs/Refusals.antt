@@ -1,9 +1,10 @@
 -- The lines that refuse, and their statuses.
-use Rattle.std.specs.Prelude.{◌≡◌, ◌⊎◌, ℕ, List, ◌++◌, codes}
+use Rattle.std.specs.Prelude.{◌≡◌, ◌⊎◌, ℕ, ◌<◌, ◌≤◌, List, length, ◌++◌, codes, Err}
 use Rattle.std.specs.Fmt.{decimal}
 use Rattle.ec_unit_text.specs.declared.fault.UnitFault.{UnitFault}
 use Rattle.ec_unit_text.specs.declared.fault.UnitFault.TheVariants as fault
 use Rattle.ec_unit_text.specs.FaultText.{key_text, spot_text}
+use Rattle.ec_unit_text.specs.Reading.{reading}
 use Rattle.ec_loads.specs.declared.plan.Illegal.{Illegal}
 use Rattle.ec_loads.specs.declared.plan.Illegal.TheVariants as illegal
 use Rattle.ec_cert_text.specs.declared.fault.CertFault.{CertFault}
@@ -170,3 +171,9 @@ IsMemory job.PlanCost r = IsFramesMemory r
 -- what can be wrong with reading: memory, a read that failed, or too many bytes
 abbrev pub IsReadFault : Refusal → Type 0
 IsReadFault r = (r ≡ out_of_memory) ⊎ ((r ≡ refusal.Read) ⊎ (r ≡ refusal.TooLarge))
+
+-- why bytes give no units: they are too many, or their text has a fault
+abbrev pub IsUnitsFault : List ℕ → Refusal → Type 0
+IsUnitsFault bytes r =
+    ((length bytes ≤ 1048576) × ((f : UnitFault) × (reading bytes ≡ Err f) × (r ≡ refusal.Unit f)))
+    ⊎ ((1048576 < length bytes) × (r ≡ refusal.TooLarge))

@@ -20,7 +20,8 @@ use Rattle.ec_cli_text.specs.Lines.{cut_line, level_line, unit_lines, unproved_l
 use Rattle.ec_cli_text.specs.Outcomes.{unproved_text}
 use Rattle.ec_cli_text.specs.Output.{Written}
 use Rattle.ec_cli_run.specs.Sound.{AgreeWith, AnswersAgree, Claims, HasClaim, IsAnswer, TellsAtLeast, TellsLeast, TellsNoPlan, TellsOptimal, TellsUnproved, TellsWithoutPlan}
-use Rattle.ec_cli_run.proofs.PlanSound.{same_ok, some_same, told_least, told_true}
+use Rattle.ec_cli_run.proofs.OneOutput.{ok_once}
+use Rattle.ec_cli_run.proofs.PlanSound.{some_same, told_least, told_true}
 use Rattle.ec_cli_run.proofs.SoundLemmas.{yes_true}
 
 -- some legal plan costs so much, if a number is given
@@ -134,7 +135,7 @@ within ls n (Some b) l (places, legal, busiest) bounds =
 -- the same of another reading of the same bytes
 within_both : (bytes : List ℕ) (v w : Written) (h : IsClaimed bytes v) (k : IsClaimed bytes w) → IfSome h.plan (λ b. k.bound ≤ b)
 within_both bytes v w h k =
-    let same : k.units ≡ h.units = same_ok (reading bytes) k.units h.units k.said h.said in
+    let same : k.units ≡ h.units = ok_once (reading bytes) k.units h.units k.said h.said in
     within (view_loads h.units.units) h.units.slots h.plan k.bound h.reached (subst (λ (u : UnitsView). BoundsAll (view_loads u.units) u.slots (Some k.bound)) same k.bounds)
 
 agree : (bytes : List ℕ) (v w : Written) → IsClaimed bytes v → IsClaimed bytes w → AgreeWith v w
@@ -156,7 +157,7 @@ none_claimed w ls n (Some b) l none (places, legal, busiest) claims = absurd (no
 
 without : (bytes : List ℕ) (w : Written) → IsWithout bytes → IsClaimed bytes w → (bound : ℕ) × Claims w None bound
 without bytes w h k =
-    let same : h.units ≡ k.units = same_ok (reading bytes) h.units k.units h.said k.said in
+    let same : h.units ≡ k.units = ok_once (reading bytes) h.units k.units h.said k.said in
     none_claimed w (view_loads k.units.units) k.units.slots k.plan k.bound (subst (λ (u : UnitsView). HasNoPlan (view_loads u.units) u.slots) same h.none) k.reached k.claims
 
 pub all_agree : TreesBound → LevelsBound → AnswersAgree

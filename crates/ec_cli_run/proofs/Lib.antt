@@ -8,5 +8,5 @@ pub mod OneOutput
 pub mod PlanSound
 pub mod RunLemmas
 pub mod SoundLemmas
-pub mod TellLemmas
+pub mod StatusLemmas
 pub mod TruthLemmas

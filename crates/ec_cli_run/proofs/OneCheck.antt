@@ -1,6 +1,6 @@
 -- Each certificate has one answer for units that are seen alike.
 -- Units with the same data are `Alike` (count, lines, loads), and each fact of the checker moves along it. A fault
--- becomes `Staged` (units, order, plan, node), so two faults are 16 short cases and not 64. A new fault of the checker
+-- becomes `Staged` (units, order, plan, level, node), so two faults are 25 short cases and not 81. A new fault of the checker
 -- is a case of `staged` and, if it is judged at a place of its own, a stage.
 use Rattle.std.proofs.Common.{◌≡◌, ◌≢◌, ℕ, ◌<◌, List, [], ◌∷◌, length, map, Option, Some, None, Result, Err, refl, sym, ap, subst, ◌∙◌, inl, inr, arith}
 use Rattle.std.specs.Prelude.{◌⊎◌}
@@ -27,7 +27,7 @@ use Rattle.ec_checker.specs.Certified.{line_of, lines_of, IsFor, HasHead, IsLeve
 use Rattle.ec_loads.proofs.CostLemmas.{one_busiest}
 use Rattle.ec_checker.proofs.CheckLemmas.{plan_refutes, refutes}
 use Rattle.ec_cli_refusals.specs.declared.refusal.Refusal.TheVariants as refusal
-use Rattle.ec_cli_text.specs.Output.{Written, IsCheckedOf, IsCheckedOutput, refused}
+use Rattle.ec_cli_text.specs.Output.{Written, IsCheckedOutput, refused}
 use Rattle.ec_cli_run.proofs.OneIllegal.{illegal_once}
 
 -- ---- units that are seen alike
@@ -197,19 +197,23 @@ one_fault us n c f g (inr (inr (inr (inr h)))) (inr (inr (inr (inr k)))) = fault
 
 -- ---- one output
 
-of_once : (us vs : List SyncUnit) (n : ℕ) (c : CertView) (a b : Written) → Alike us vs → IsCheckedOf us n c a → IsCheckedOf vs n c b → a ≡ b
-of_once us vs n c a b same (inl h) (inl k) = h.1 ∙ sym k.1
-of_once us vs n c a b same (inl h) (inr k) = absurd (refutes vs n c k.0 k.1 k.2 (certified_alike us vs n c same h.0))
-of_once us vs n c a b same (inr h) (inl k) = absurd (refutes us n c h.0 h.1 h.2 (certified_alike vs us n c (back us vs same) k.0))
-of_once us vs n c a b same (inr h) (inr k) =
-    let left : Staged vs n c h.0 = staged_alike us vs n c h.0 same (staged us n c h.0 h.1 h.2) in
-    h.3 ∙ ap (λ (f : CheckFault). refused (refusal.Check f)) (one_fault vs n c h.0 k.0 left (staged vs n c k.0 k.1 k.2)) ∙ sym k.3
-
-pub checked_once : (v : UnitsView) (c : CertView) (a b : Written) → IsCheckedOutput v c a → IsCheckedOutput v c b → a ≡ b
-checked_once v c a b p q =
-    let us : Units = p.0 in
-    let vs : Units = q.0 in
-    let views : units_view us ≡ units_view vs = p.1 ∙ sym q.1 in
+-- of units that are seen alike, a certificate isn't certified and faulty
+pub not_both : (us vs : Units) (c : CertView) (f : CheckFault) → units_view us ≡ units_view vs → IsCertified us.units us.slots c → f ≢ fault.OutOfMemory → IsFaultOf vs.units vs.slots c f → ⊥
+not_both us vs c f views right other wrong =
     let same : Alike us.units vs.units = alike us.units vs.units (ap (λ (w : UnitsView). w.units) views) in
     let slots : us.slots ≡ vs.slots = ap (λ (w : UnitsView). w.slots) views in
-    of_once us.units vs.units us.slots c a b same p.2 (subst (λ (n : ℕ). IsCheckedOf vs.units n c b) (sym slots) q.2)
+    refutes vs.units vs.slots c f other wrong (subst (λ (n : ℕ). IsCertified vs.units n c) slots (certified_alike us.units vs.units us.slots c same right))
+
+-- and it has one fault
+pub fault_once : (us vs : Units) (c : CertView) (f g : CheckFault) → units_view us ≡ units_view vs → f ≢ fault.OutOfMemory → IsFaultOf us.units us.slots c f → g ≢ fault.OutOfMemory → IsFaultOf vs.units vs.slots c g → f ≡ g
+fault_once us vs c f g views other h also k =
+    let same : Alike us.units vs.units = alike us.units vs.units (ap (λ (w : UnitsView). w.units) views) in
+    let slots : us.slots ≡ vs.slots = ap (λ (w : UnitsView). w.slots) views in
+    let left : Staged vs.units vs.slots c f = subst (λ (n : ℕ). Staged vs.units n c f) slots (staged_alike us.units vs.units us.slots c f same (staged us.units us.slots c f other h)) in
+    one_fault vs.units vs.slots c f g left (staged vs.units vs.slots c g also k)
+
+pub checked_once : (v : UnitsView) (c : CertView) (a b : Written) → IsCheckedOutput v c a → IsCheckedOutput v c b → a ≡ b
+checked_once v c a b (us, p, inl h) (vs, q, inl k) = h.1 ∙ sym k.1
+checked_once v c a b (us, p, inl h) (vs, q, inr k) = absurd (not_both us vs c k.0 (p ∙ sym q) h.0 k.1 k.2)
+checked_once v c a b (us, p, inr h) (vs, q, inl k) = absurd (not_both vs us c h.0 (q ∙ sym p) k.0 h.1 h.2)
+checked_once v c a b (us, p, inr h) (vs, q, inr k) = h.3 ∙ ap (λ (f : CheckFault). refused (refusal.Check f)) (fault_once us vs c h.0 k.0 (p ∙ sym q) h.1 h.2 k.1 k.2) ∙ sym k.3

@@ -1,8 +1,7 @@
 -- What a plan tells is true.
-use Rattle.std.proofs.Common.{Bool, ◌≡◌, ℕ, ◌≤◌, List, length, Option, Some, Result, Ok, ap, subst, sym, ◌∙◌, inl, inr, arith}
+use Rattle.std.proofs.Common.{Bool, ◌≡◌, ℕ, ◌≤◌, List, length, Option, Some, Ok, ap, subst, sym, ◌∙◌, inl, inr, arith}
 use Rattle.std.specs.Prelude.{option_map}
 use Rattle.std.proofs.lemmas.List.{length-map}
-use Rattle.ec_unit_text.specs.declared.fault.UnitFault.{UnitFault}
 use Rattle.ec_units.specs.declared.unit.Load.{Load}
 use Rattle.ec_units.specs.declared.units.Units.{Units}
 use Rattle.ec_units.specs.Load.{load_of, loads_of}
@@ -23,26 +22,16 @@ use Rattle.ec_outcome.specs.Searched.{searched_by}
 use Rattle.ec_workers.specs.Answers.{Asked, asked_beyond, IsOutcome, is_strong}
 use Rattle.ec_outcome.specs.declared.search.Outcome.{Outcome}
 use Rattle.ec_outcome.specs.declared.search.Outcome.TheVariants as outcome
-use Rattle.ec_cli_refusals.specs.declared.refusal.Refusal.{Refusal}
 use Rattle.ec_cli_text.specs.Outcomes.{outcome_output, optimal_text, unproved_text, IsLevelOf}
-use Rattle.ec_cli_text.specs.Output.{Written, refused}
-use Rattle.ec_cli_refusals.specs.Refusals.{refusal_code}
+use Rattle.ec_cli_text.specs.Output.{Written}
 use Rattle.ec_cli_answers.specs.Merged.{IsMergeWritten}
 use Rattle.ec_cli_answers.specs.Planned.{IsShownAt, outcome_cert}
 use Rattle.ec_cert_text.specs.Text.{certificate_text}
 use Rattle.ec_checker.specs.declared.fault.Verdict.TheVariants as verdict
 use Rattle.ec_workers.specs.Outcomes.{Shows, partial_for}
 use Rattle.ec_cli_run.specs.Sound.{IsShownBy, TellsOptimal, TellsWithoutPlan, TellsTruth, PlanIsTrue, ResumeIsTrue, IsSearchTold, OneLeastEach}
-use Rattle.ec_cli_refusals.proofs.RefusalLemmas.{code_above}
-
--- a refusal has another status
-pub refusal_true : (bytes : List ℕ) (w : Written) (cert : Option (List ℕ)) (r : Refusal) → w ≡ refused r → TellsTruth bytes w cert
-refusal_true bytes w cert r is =
-    let code : w.code ≡ refusal_code r = ap (λ (v : Written). v.code) is in (
-      λ zero. absurd (omega (arith, code_above r, code, zero)),
-      λ one. absurd (omega (arith, code_above r, code, one)),
-      λ two. absurd (omega (arith, code_above r, code, two)),
-    )
+use Rattle.ec_cli_run.proofs.OneOutput.{ok_once}
+use Rattle.ec_cli_run.proofs.StatusLemmas.{by_0, by_1, by_2, by_refusal}
 
 -- a level that a search has proved bounds every legal plan
 level_bounds : LevelsBound → (us : Units) (strong : Bool) (order : List ℕ) (best : Option Best) (tree : Shape) (l : ℕ) → IsOrder (length us.units) order
@@ -67,46 +56,35 @@ shown_at us strong order best tree level l cert is kept (m, also, shows) = (
 outcome_true : LevelsBound → (asked : Asked) (bytes : List ℕ) (us : Units) (o : Outcome) (level : Option ℕ) (w : Written) (cert : Option (List ℕ)) → reading bytes ≡ Ok (units_view us) → IsOutcome us.units us.slots asked o → IsLevelOf us.units us.slots o level
     → w ≡ outcome_output us.units o level → cert ≡ outcome_cert us o level → IsShownAt us o level → TellsTruth bytes w cert
 outcome_true levels asked bytes us (outcome.Optimal plan b c) level w cert said h proved is kept shows =
-    let code : w.code ≡ 0 = ap (λ (v : Written). v.code) is in (
-      λ zero. (record { units = us; said = said; busiest = b; plan = plan.places; lines = ap (λ (v : Written). v.text) is; legal = h.legal; exact = h.busiest; bounds = h.bounds; shown = (cert_view c, kept, h.shows) }),
-      λ one. absurd (omega (arith, code, one)),
-      λ two. absurd (omega (arith, code, two)),
-    )
+    by_0 w.code (ap (λ (v : Written). v.code) is)
+    (record { units = us; said = said; busiest = b; plan = plan.places; lines = ap (λ (v : Written). v.text) is; legal = h.legal; exact = h.busiest; bounds = h.bounds; shown = (cert_view c, kept, h.shows) })
 outcome_true levels asked bytes us (outcome.NoPlan c) level w cert said h proved is kept shows =
-    let code : w.code ≡ 1 = ap (λ (v : Written). v.code) is in (
-      λ zero. absurd (omega (arith, code, zero)),
-      λ one. (record { units = us; said = said; line = ap (λ (v : Written). v.text) is; none = h.none; shown = (cert_view c, kept, h.shows) }),
-      λ two. absurd (omega (arith, code, two)),
-    )
+    by_1 w.code (ap (λ (v : Written). v.code) is) (record { units = us; said = said; line = ap (λ (v : Written). v.text) is; none = h.none; shown = (cert_view c, kept, h.shows) })
 outcome_true levels asked bytes us (outcome.Unproved best order tree strong why) level w cert said h proved is kept shows =
-    let code : w.code ≡ 2 = ap (λ (v : Written). v.code) is in
-    let text : w.text ≡ unproved_text us.units best why (Some proved.0) = ap (λ (v : Written). v.text) is ∙ ap (λ (o : Option ℕ). unproved_text us.units best why o) proved.1 in (
-      λ zero. absurd (omega (arith, code, zero)),
-      λ one. absurd (omega (arith, code, one)),
-      λ two. (record {
-        units = us;
-        said = said;
-        best = best;
-        why = why;
-        level = proved.0;
-        lines = text;
-        legal = h.best_is;
-        bounds = level_bounds levels us strong order best (shape_of tree) proved.0 h.order_is proved.2;
-        shown = shown_at us strong order best (shape_of tree) level proved.0 cert proved.1 kept shows;
-      }),
-    )
+    by_2 w.code (ap (λ (v : Written). v.code) is)
+    (record {
+      units = us;
+      said = said;
+      best = best;
+      why = why;
+      level = proved.0;
+      lines = ap (λ (v : Written). v.text) is ∙ ap (λ (o : Option ℕ). unproved_text us.units best why o) proved.1;
+      legal = h.best_is;
+      bounds = level_bounds levels us strong order best (shape_of tree) proved.0 h.order_is proved.2;
+      shown = shown_at us strong order best (shape_of tree) level proved.0 cert proved.1 kept shows;
+    })
 
 pub plan_true : LevelsBound → PlanIsTrue
-plan_true levels asked bytes w cert (inl h) = outcome_true levels asked bytes h.units h.found h.level w cert h.answer.said h.answer.answer h.shown h.text h.certificate h.shows
-plan_true levels asked bytes w cert (inr h) = refusal_true bytes w cert h.refusal h.line
+plan_true levels asked bytes w cert (inl h) = outcome_true levels asked bytes h.units h.found h.level w cert h.answer.read.1 h.answer.answer h.shown h.text h.certificate h.shows
+plan_true levels asked bytes w cert (inr h) = by_refusal w h.refusal h.line
 
 pub resume_true : LevelsBound → ResumeIsTrue
 resume_true levels workers nodes part bytes text w cert (inl h) =
-    outcome_true levels (asked_beyond (is_strong h.answer.cert) workers nodes h.answer.cert.tree part.count) bytes h.units h.found h.level w cert h.answer.said h.answer.goes.answer h.shown h.text h.certificate h.shows
-resume_true levels workers nodes part bytes text w cert (inr h) = refusal_true bytes w cert h.refusal h.line
+    outcome_true levels (asked_beyond (is_strong h.answer.cert) workers nodes h.answer.cert.tree part.count) bytes h.units h.found h.level w cert h.answer.read.1 h.answer.goes.answer h.shown h.text h.certificate h.shows
+resume_true levels workers nodes part bytes text w cert (inr h) = by_refusal w h.refusal h.line
 
 pub merge_true : LevelsBound → (bytes : List ℕ) (w : Written) (cert : Option (List ℕ)) → IsMergeWritten bytes w cert → TellsTruth bytes w cert
-merge_true levels bytes w cert (_, h) = outcome_true levels h.answer.asked bytes h.units h.found h.level w cert h.answer.said h.answer.answer h.shown h.text h.certificate h.shows
+merge_true levels bytes w cert (_, h) = outcome_true levels h.answer.asked bytes h.units h.found h.level w cert h.answer.read.1 h.answer.answer h.shown h.text h.certificate h.shows
 
 -- the certificate of what was told, and its truth
 pub told_true : LevelsBound → (bytes : List ℕ) (w : Written) → IsSearchTold bytes w → (cert : Option (List ℕ)) × TellsTruth bytes w cert
@@ -114,11 +92,7 @@ told_true levels bytes w (inl (asked, cert, h)) = (cert, plan_true levels asked 
 told_true levels bytes w (inr (inl (workers, nodes, part, text, cert, h))) = (cert, resume_true levels workers nodes part bytes text w cert h)
 told_true levels bytes w (inr (inr (cert, h))) = (cert, merge_true levels bytes w cert h)
 
--- units that the same bytes say
-pub same_ok : (r : Result UnitsView UnitFault) (u v : UnitsView) → r ≡ Ok u → r ≡ Ok v → u ≡ v
-same_ok r u v p q = cc
-
--- the same of what was read
+-- the least cost of units is that of what is seen of them
 least_view : (us : Units) (b : ℕ) → IsLeast (loads_of us.units) us.slots b → IsLeast (view_loads (units_view us).units) (units_view us).slots b
 least_view us b h = subst (λ (ls : List Load). IsLeast ls us.slots b) (loads_of-views us.units) h
 
@@ -136,7 +110,7 @@ least_once ls n b c p q = omega (arith, least_below ls n b c p q, least_below ls
 
 two_least : (bytes : List ℕ) (v w : Written) (c d : Option (List ℕ)) (p : TellsOptimal bytes v c) (q : TellsOptimal bytes w d) → p.busiest ≡ q.busiest
 two_least bytes v w c d p q =
-    let same : units_view q.units ≡ units_view p.units = same_ok (reading bytes) (units_view q.units) (units_view p.units) q.said p.said in
+    let same : units_view q.units ≡ units_view p.units = ok_once (reading bytes) (units_view q.units) (units_view p.units) q.said p.said in
     let other : IsLeast (view_loads (units_view p.units).units) (units_view p.units).slots q.busiest =
     subst (λ (u : UnitsView). IsLeast (view_loads u.units) u.slots q.busiest) same (told_least bytes w d q) in
     least_once (view_loads (units_view p.units).units) (units_view p.units).slots p.busiest q.busiest (told_least bytes v c p) other
@@ -144,7 +118,7 @@ two_least bytes v w c d p q =
 -- units with a legal plan aren't without one
 not_without : (bytes : List ℕ) (v w : Written) (c d : Option (List ℕ)) → TellsOptimal bytes v c → TellsWithoutPlan bytes w d → ⊥
 not_without bytes v w c d p q =
-    let same : units_view q.units ≡ units_view p.units = same_ok (reading bytes) (units_view q.units) (units_view p.units) q.said p.said in
+    let same : units_view q.units ≡ units_view p.units = ok_once (reading bytes) (units_view q.units) (units_view p.units) q.said p.said in
     let own : HasNoPlan (view_loads (units_view q.units).units) (units_view q.units).slots = subst (λ (ls : List Load). HasNoPlan ls q.units.slots) (loads_of-views q.units.units) q.none in
     let none : HasNoPlan (view_loads (units_view p.units).units) (units_view p.units).slots = subst (λ (u : UnitsView). HasNoPlan (view_loads u.units) u.slots) same own in
     let least = told_least bytes v c p in

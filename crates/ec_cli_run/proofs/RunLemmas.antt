@@ -19,16 +19,13 @@ use Rattle.std.proofs.lemmas.Option.{IfSome_then}
 use Rattle.ec_cli_inputs.specs.declared.input.Inputs.{Inputs}
 use Rattle.ec_cli_inputs.specs.Use.{Use, used, before, after, IsSound, HasFailed, IsKept, IsLeft, Lent, IfLent, here, nobody}
 use Rattle.ec_cli_inputs.proofs.InputLemmas.{read_refused}
-use Rattle.ec_cli_text.specs.Output.{Written, refused}
+use Rattle.ec_cli_text.specs.Output.{Written}
 use Rattle.ec_cli_answers.specs.Planned.{Gets, GetsFront}
 use Rattle.ec_cli_answers.specs.Told.{HasInput, IsTold, TellsFor, file_of, told}
 use Rattle.ec_cli_answers.specs.declared.told.Told.{Told}
 use Rattle.ec_cli_answers.proofs.ToldLemmas.{unread_tells}
-use Rattle.ec_cli_run.specs.Runs.{AnswersLine, AnswersOf, Does, DoesLine, DoesWith, HasCert, IsDelivered, LineRead, LineTold, Refuses, Tells, reported, where_used}
-use Rattle.ec_cli_files.specs.declared.fault.FileFault.{FileFault}
-use Rattle.ec_cli_command.specs.declared.line.Line.{Line}
-use Rattle.ec_cli_command.specs.Words.{cert_of, job_of, out_of, reads_cert, writes_file}
-use Rattle.ec_cli_run.proofs.LineLemmas.{some-none}
+use Rattle.ec_cli_run.specs.Runs.{AnswersLine, AnswersOf, Does, DoesWith, HasCert, IsDelivered, Refuses, Tells, where_used}
+use Rattle.ec_cli_command.specs.Words.{reads_cert, writes_file}
 
 -- what is told is also what follows from it
 pub tells_more : {W : Type 0} {P Q : Written → Type 0} {text : Use W} {code : ℕ} → ((w : Written) → P w → Q w) → Tells P text code → Tells Q text code
@@ -281,42 +278,6 @@ none_given j (Ok i) has none = subst (HasInput j) (sym (ap (option_map (λ (g : 
 none_given j (Err r) has none = tt
 
 -- ---- a command line
-
--- what is written for an answer is what is told of it
-line_read : (j : Job) (from : Option (String Global)) (bytes : List ℕ) (answer : Result Told Refusal) (w : Written) → w ≡ told answer → AnswersLine j from bytes answer → LineRead j from w bytes
-line_read j None bytes answer w is h = (h.file, subst (λ (x : Written). IsTold j bytes None x h.file) (sym is) h.is)
-line_read j (Some path) bytes answer w is (inl read) = inl (is ∙ ap told read)
-line_read j (Some path) bytes answer w is (inr h) = inr (h.0, h.1.file, subst (λ (x : Written). IsTold j bytes (Some h.0) x h.1.file) (sym is) h.1.is)
-
-line_answered : (j : Job) (from to : Option (String Global)) (bytes : List ℕ) (answer : Result Told Refusal) (w : Written) → w ≡ told answer → AnswersLine j from bytes answer → LineTold j from to w bytes
-line_answered j from None bytes answer w is h = line_read j from bytes answer w is h
-line_answered j from (Some to) bytes answer w is h = inr (line_read j from bytes answer w is h)
-
--- what is reported is told
-line_reported : (j : Job) (from to : Option (String Global)) (bytes : List ℕ) (answer : Result Told Refusal) (fault : Option FileFault) (w : Written) → (to ≡ None → fault ≡ None) → w ≡ reported refused answer fault → AnswersLine j from bytes answer → LineTold j from to w bytes
-line_reported j from to bytes (Err r) fault w none is h = line_answered j from to bytes (Err r) w is h
-line_reported j from to bytes (Ok t) None w none is h = line_answered j from to bytes (Ok t) w is h
-line_reported j from (Some to) bytes (Ok t) (Some f) w none is h = inl is
-line_reported j from None bytes (Ok t) (Some f) w none is h = absurd (some-none (none refl))
-
-line_all : (j : Job) (from to : Option (String Global)) (left : Option (List ℕ)) (answer : Result Told Refusal) (fault : Option FileFault) (w : Written) → (to ≡ None → fault ≡ None) → w ≡ reported refused answer fault → IfSome left (λ bytes. AnswersLine j from bytes answer) → IfSome left (LineTold j from to w)
-line_all j from to None answer fault w none is h = tt
-line_all j from to (Some bytes) answer fault w none is h = line_reported j from to bytes answer fault w none is h
-
-unread_reported : (answer : Result Told Refusal) (fault : Option FileFault) (w : Written) → w ≡ reported refused answer fault → answer ≡ Err refusal.Read → Refuses refusal.Read w
-unread_reported answer fault w is read = is ∙ ap (λ (a : Result Told Refusal). reported refused a fault) read
-
-pub line_does : {R : Type 0} (line : Line) (u : Use R) (answer : Result Told Refusal) (fault : Option FileFault) → (out_of line ≡ None → fault ≡ None) → ReadsUpTo u most_of_units (answer ≡ Err refusal.Read)
-    → (IsSound u → IfSome (before u) (λ bytes. AnswersLine (job_of line) (cert_of line) bytes answer)) → (w : Written) → w ≡ reported refused answer fault → DoesLine line u w
-line_does line u answer fault none read tells w is = record {
-  read = reads_more (λ f r. unread_reported answer fault w is r) read;
-  told = λ sound. line_all (job_of line) (cert_of line) (out_of line) (before u) answer fault w none is (tells sound);
-}
-
--- the same of what a report says
-pub line_reports : {R : Type 0} (line : Line) (u : Use R) (answer said : Result Told Refusal) (fault why : Option FileFault) → said ≡ answer → why ≡ fault → (out_of line ≡ None → fault ≡ None) → ReadsUpTo u most_of_units (answer ≡ Err refusal.Read)
-    → (IsSound u → IfSome (before u) (λ bytes. AnswersLine (job_of line) (cert_of line) bytes answer)) → (w : Written) → w ≡ reported refused said why → (w ≡ reported refused said why) × DoesLine line u w
-line_reports line u answer said fault why same also none read tells w is = (is, line_does line u answer fault none read tells w (is ∙ (ap (λ (a : Result Told Refusal). reported refused a why) same ∙ ap (reported refused answer) also)))
 
 -- where nothing was read
 pub nothing_read : {R : Type 0} (tells : R → Option (List ℕ)) (io : Io R) (P : Type 0) → has_failed io ≡ false → ReadsUpTo (used tells io io) most_of_units P

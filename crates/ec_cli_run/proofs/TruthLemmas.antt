@@ -1,6 +1,7 @@
--- What a run and a command line tell is true, from what they do.
-use Rattle.std.proofs.Common.{Bool, ◌≡◌, ℕ, ◌≤◌, Global, List, Option, Some, None, inl, inr, ap, arith}
-use Rattle.std.specs.Prelude.{◌⊎◌, IfSome, String}
+-- What a run, a command line and a merge tell is true, from what they do.
+use Rattle.std.proofs.Common.{Bool, ◌≡◌, ℕ, ◌≤◌, Global, List, Option, Some, None, Result, Ok, Err, inl, inr, ap, sym, subst, arith}
+use Rattle.std.specs.Prelude.{◌⊎◌, IfOk, IfSome, String}
+use Rattle.std.proofs.lemmas.Option.{IfSome_then}
 use Rattle.ec_tree.specs.Trees.{TreesBound, LevelsBound}
 use Rattle.ec_wire.specs.declared.io.Io.{Io}
 use Rattle.ec_wire.specs.Stream.{has_failed}
@@ -11,19 +12,19 @@ use Rattle.ec_cli_refusals.proofs.RefusalLemmas.{code_above}
 use Rattle.ec_cert.specs.declared.part.Part.{Part}
 use Rattle.ec_cli_command.specs.declared.job.Job.{Job}
 use Rattle.ec_cli_command.specs.declared.job.Job.TheVariants as job
-use Rattle.ec_cli_command.specs.declared.line.Line.{Line}
-use Rattle.ec_cli_command.specs.declared.line.Line.TheVariants as line
-use Rattle.ec_cli_command.specs.Words.{job_of}
+use Rattle.ec_cli_files.specs.declared.fault.FileFault.{FileFault}
 use Rattle.ec_cli_inputs.specs.Use.{Use, used, before, IsSound, HasFailed, HasNotFailed, Lent, IfLent}
-use Rattle.ec_cli_text.specs.Output.{Written, IsNoMemory, IsOutput}
+use Rattle.ec_cli_text.specs.Output.{Written, IsNoMemory, IsOutput, refused, shown}
 use Rattle.ec_cli_answers.specs.Planned.{Gets}
 use Rattle.ec_cli_answers.specs.Told.{IsTold}
+use Rattle.ec_cli_answers.specs.declared.told.Told.{Told}
 use Rattle.ec_workers.specs.Answers.{asked_for}
-use Rattle.ec_cli_run.specs.Runs.{DoesLine, DoesWith, HasCert, LineRead, LineTold, Refuses}
+use Rattle.ec_cli_run.specs.Runs.{AnswersLine, DoesWith, HasCert, Refuses, reported}
 use Rattle.ec_cli_run.specs.Sound.{LineIsTrue, RunIsTrue, TellsTruth, YesTellsTruth}
-use Rattle.ec_cli_run.proofs.PlanSound.{plan_true, refusal_true, resume_true}
+use Rattle.ec_cli_run.proofs.PlanSound.{plan_true, resume_true}
 use Rattle.ec_cli_run.proofs.RunLemmas.{lent_at, true_or_false}
-use Rattle.ec_cli_run.proofs.SoundLemmas.{truth_refused, yes_true}
+use Rattle.ec_cli_run.proofs.SoundLemmas.{yes_true}
+use Rattle.ec_cli_run.proofs.StatusLemmas.{by_other, by_refusal}
 
 -- ---- what is told of a job
 
@@ -39,9 +40,11 @@ search_true levels (job.Resume workers nodes part) is bytes None w file h = absu
 search_true levels (job.Resume workers nodes part) is bytes (Some text) w file h = resume_true levels workers nodes part bytes text w file h
 search_true levels j is bytes cert w file h = absurd is
 
-check_true : TreesBound → LevelsBound → (bytes text : List ℕ) (w : Written) → IsOutput job.Check bytes (Some text) w ⊎ IsNoMemory job.Check w → YesTellsTruth bytes w
-check_true trees levels bytes text w (inl h) = yes_true trees levels bytes text w h
-check_true trees levels bytes text w (inr h) = truth_refused bytes w h.0 h.2
+check_true : TreesBound → LevelsBound → (bytes : List ℕ) (cert : Option (List ℕ)) (w : Written) → IsOutput job.Check bytes cert w ⊎ IsNoMemory job.Check w → YesTellsTruth bytes w
+check_true trees levels bytes (Some text) w (inl h) = yes_true trees levels bytes text w h
+check_true trees levels bytes None w (inl (inl h)) = absurd h.3
+check_true trees levels bytes None w (inl (inr h)) = by_refusal w h.0 h.2
+check_true trees levels bytes cert w (inr h) = by_refusal w h.0 h.2
 
 -- ---- what a run tells
 
@@ -52,7 +55,7 @@ IsTrueWith out w bytes = (file : Option (List ℕ)) × TellsTruth bytes w file �
 refused_true : {O : Type 0} (out : Lent O) (bytes : List ℕ) (w : Written) (r : Refusal) → Refuses r w → IsTrueWith out w bytes
 refused_true out bytes w r is =
     let code : w.code ≡ refusal_code r = ap (λ (v : Written). v.code) is in
-    (None, refusal_true bytes w None r is, λ small. absurd (omega (arith, code_above r, code, small)))
+    (None, by_refusal w r is, λ small. absurd (omega (arith, code_above r, code, small)))
 
 -- of a plan, where its writer failed or not
 got_at : {O : Type 0} (bytes : List ℕ) (w : Written) (tells : O → Option (List ℕ)) (old new : Option (Io O))
@@ -89,9 +92,9 @@ resume_all levels workers nodes part (Some bytes) out w (inr h) = (h.1, search_t
 check_all : (trees : TreesBound) (levels : LevelsBound) (left : Option (List ℕ)) (P : Option (List ℕ) → Type 0) (w : Written)
     → IfSome left (λ bytes. (Refuses refusal.Read w ⊎ Refuses refusal.Write w) ⊎ ((text : List ℕ) × (file : Option (List ℕ)) × IsTold job.Check bytes (Some text) w file × P file)) → IfSome left (λ bytes. YesTellsTruth bytes w)
 check_all trees levels None P w h = tt
-check_all trees levels (Some bytes) P w (inl (inl read)) = truth_refused bytes w refusal.Read read
-check_all trees levels (Some bytes) P w (inl (inr write)) = truth_refused bytes w refusal.Write write
-check_all trees levels (Some bytes) P w (inr h) = check_true trees levels bytes h.0 w h.2.0
+check_all trees levels (Some bytes) P w (inl (inl read)) = by_refusal w refusal.Read read
+check_all trees levels (Some bytes) P w (inl (inr write)) = by_refusal w refusal.Write write
+check_all trees levels (Some bytes) P w (inr h) = check_true trees levels bytes (Some h.0) w h.2.0
 
 -- what is known of a certificate that is there
 known_at : {C : Type 0} (j : Job) (tells : C → Option (List ℕ)) (old new : Option (Io C)) (none : Type 0) (P : Use C → Type 0) (Q : Type 0)
@@ -116,28 +119,35 @@ run_true trees levels j u cert out w has d = tt
 pub truly : {R C O : Type 0} → TreesBound → LevelsBound → (j : Job) (u : Use R) (cert : Lent C) (out : Lent O) (w : Written) → HasCert j cert.old → DoesWith j u cert out w → DoesWith j u cert out w × RunIsTrue j u out w
 truly trees levels j u cert out w has d = (d, run_true trees levels j u cert out w has d)
 
--- ---- what a command line tells
+-- ---- what a command line or a merge reports
 
-read_search : LevelsBound → (j : Job) → Searches j → (from : Option (String Global)) (bytes : List ℕ) (w : Written) → LineRead j from w bytes → (file : Option (List ℕ)) × TellsTruth bytes w file
-read_search levels j is None bytes w h = (h.0, search_true levels j is bytes None w h.0 h.1)
-read_search levels j is (Some from) bytes w (inl read) = (None, refusal_true bytes w None refusal.Read read)
-read_search levels j is (Some from) bytes w (inr h) = (h.1, search_true levels j is bytes (Some h.0) w h.1 h.2)
+-- what is written is as each text with a greater status is, where what is told is so
+pub reported_true : {E : Type 0} (line : E → Written) (P : Written → Type 0) → ((w : Written) → 3 ≤ w.code → P w) → ((why : E) → 3 ≤ (line why).code) → (w : Written) (t : Result Told E) (file : Option FileFault) → w ≡ reported line t file → IfOk t (λ a. P (shown a.answer)) → P w
+reported_true line P other above w (Ok a) None is true = subst P (sym is) true
+reported_true line P other above w (Ok a) (Some why) is true = other w (omega (arith, ap (λ (v : Written). v.code) is))
+reported_true line P other above w (Err why) file is true = other w (omega (arith, above why, ap (λ (v : Written). v.code) is))
 
-line_search : LevelsBound → (j : Job) → Searches j → (from to : Option (String Global)) (left : Option (List ℕ)) (w : Written) → IfSome left (LineTold j from to w) → IfSome left (λ bytes. (file : Option (List ℕ)) × TellsTruth bytes w file)
-line_search levels j is from to None w h = tt
-line_search levels j is from None (Some bytes) w h = read_search levels j is from bytes w h
-line_search levels j is from (Some to) (Some bytes) w (inl write) = (None, refusal_true bytes w None refusal.Write write)
-line_search levels j is from (Some to) (Some bytes) w (inr h) = read_search levels j is from bytes w h
+-- of a search, with some file
+abbrev pub IsTrueOf : List ℕ → Written → Type 0
+IsTrueOf bytes w = (file : Option (List ℕ)) × TellsTruth bytes w file
 
-line_check : TreesBound → LevelsBound → (from : String Global) (left : Option (List ℕ)) (w : Written) → IfSome left (LineTold job.Check (Some from) None w) → IfSome left (λ bytes. YesTellsTruth bytes w)
-line_check trees levels from None w h = tt
-line_check trees levels from (Some bytes) w (inl read) = truth_refused bytes w refusal.Read read
-line_check trees levels from (Some bytes) w (inr h) = check_true trees levels bytes h.0 w h.2.0
+search_answer : LevelsBound → (j : Job) → Searches j → (from : Option (String Global)) (bytes : List ℕ) (t : Result Told Refusal) → AnswersLine j from bytes t → IfOk t (λ a. IsTrueOf bytes (shown a.answer))
+search_answer levels j is None bytes (Ok a) h = (h.file, search_true levels j is bytes None (shown a.answer) h.file h.is)
+search_answer levels j is (Some from) bytes (Ok a) (inl read) = absurd cc
+search_answer levels j is (Some from) bytes (Ok a) (inr h) = (h.1.file, search_true levels j is bytes (Some h.0) (shown a.answer) h.1.file h.1.is)
+search_answer levels j is from bytes (Err r) h = tt
 
-pub line_true : {R : Type 0} → TreesBound → LevelsBound → (l : Line) (u : Use R) (w : Written) → DoesLine l u w → LineIsTrue (job_of l) u w
-line_true trees levels (line.Cost None svg) u w d = tt
-line_true trees levels (line.Plan effort strong out places) u w d = λ sound. line_search levels (job.Plan effort.workers effort.nodes strong) tt None out (before u) w (d.told sound)
-line_true trees levels (line.Resume cert effort part out places) u w d = λ sound. line_search levels (job.Resume effort.workers effort.nodes part) tt (Some cert) out (before u) w (d.told sound)
-line_true trees levels (line.Check cert) u w d = λ sound. line_check trees levels cert (before u) w (d.told sound)
-line_true trees levels (line.Frames cert None header table report) u w d = tt
-line_true trees levels l u w d = tt
+check_answer : TreesBound → LevelsBound → (from : Option (String Global)) (bytes : List ℕ) (t : Result Told Refusal) → AnswersLine job.Check from bytes t → IfOk t (λ a. YesTellsTruth bytes (shown a.answer))
+check_answer trees levels None bytes (Ok a) h = check_true trees levels bytes None (shown a.answer) h.is.0
+check_answer trees levels (Some from) bytes (Ok a) (inl read) = absurd cc
+check_answer trees levels (Some from) bytes (Ok a) (inr h) = check_true trees levels bytes (Some h.0) (shown a.answer) h.1.is.0
+check_answer trees levels from bytes (Err r) h = tt
+
+search_line : {R : Type 0} → LevelsBound → (j : Job) → Searches j → (from : Option (String Global)) (u : Use R) (t : Result Told Refusal) (file : Option FileFault) (w : Written) → w ≡ reported refused t file → (IsSound u → IfSome (before u) (λ bytes. AnswersLine j from bytes t)) → IsSound u → IfSome (before u) (λ bytes. IsTrueOf bytes w)
+search_line levels j is from u t file w so told sound = IfSome_then (before u) (told sound) (λ bytes a. reported_true refused (IsTrueOf bytes) (λ v above. (None, by_other v.code above)) code_above w t file so (search_answer levels j is from bytes t a))
+
+pub line_true : {R : Type 0} → TreesBound → LevelsBound → (j : Job) (from : Option (String Global)) (u : Use R) (t : Result Told Refusal) (file : Option FileFault) (w : Written) → w ≡ reported refused t file → (IsSound u → IfSome (before u) (λ bytes. AnswersLine j from bytes t)) → LineIsTrue j u w
+line_true trees levels (job.Plan workers nodes strong) from u t file w is told = search_line levels (job.Plan workers nodes strong) tt from u t file w is told
+line_true trees levels (job.Resume workers nodes part) from u t file w is told = search_line levels (job.Resume workers nodes part) tt from u t file w is told
+line_true trees levels job.Check from u t file w is told = λ sound. IfSome_then (before u) (told sound) (λ bytes a. reported_true refused (YesTellsTruth bytes) (λ v above. by_other v.code above) code_above w t file is (check_answer trees levels from bytes t a))
+line_true trees levels j from u t file w is told = tt

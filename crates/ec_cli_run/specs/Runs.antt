@@ -8,8 +8,7 @@ use Rattle.ec_cli_refusals.specs.declared.refusal.Refusal.{Refusal}
 use Rattle.ec_cli_refusals.specs.declared.refusal.Refusal.TheVariants as refusal
 use Rattle.ec_cli_command.specs.declared.job.Job.{Job}
 use Rattle.ec_cli_command.specs.declared.job.Job.TheVariants as job
-use Rattle.ec_cli_command.specs.declared.line.Line.{Line}
-use Rattle.ec_cli_command.specs.Words.{cert_of, job_of, out_of, reads_cert, writes_file}
+use Rattle.ec_cli_command.specs.Words.{reads_cert, writes_file}
 use Rattle.ec_cli_files.specs.declared.fault.FileFault.{FileFault}
 use Rattle.ec_cli_inputs.specs.Input.{ReadsBoth, ReadsUpTo, Says, most_of_units}
 use Rattle.ec_cli_inputs.specs.declared.input.Inputs.{Inputs}
@@ -82,20 +81,6 @@ abbrev pub reported : {E : Type 0} → (E → Written) → Result Told E → Opt
 reported line (Ok t) None = shown t.answer
 reported line (Ok t) (Some fault) = refused refusal.Write
 reported line (Err why) fault = line why
-
--- what is told where the path of a certificate to read is this: of one whose file isn't known, what is told for some text, unless it couldn't be read
-abbrev pub LineRead : Job → Option (String Global) → Written → List ℕ → Type 0
-LineRead j None w bytes = (file : Option (List ℕ)) × IsTold j bytes None w file
-LineRead j (Some from) w bytes = Refuses refusal.Read w ⊎ ((text : List ℕ) × (file : Option (List ℕ)) × IsTold j bytes (Some text) w file)
-
--- the same, and where there is the path of a file to write, that this failed
-abbrev pub LineTold : Job → Option (String Global) → Option (String Global) → Written → List ℕ → Type 0
-LineTold j from None w bytes = LineRead j from w bytes
-LineTold j from (Some to) w bytes = Refuses refusal.Write w ⊎ LineRead j from w bytes
-
-pub record DoesLine {R : Type 0} (line : Line) (units : Use R) (w : Written) : Type 0 where
-  pub read : ReadsUpTo units most_of_units (Refuses refusal.Read w)
-  pub told : IsSound units → IfSome (before units) (LineTold (job_of line) (cert_of line) (out_of line) w)
 
 -- ---- words that are no command line
 

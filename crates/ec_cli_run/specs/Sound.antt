@@ -52,9 +52,13 @@ pub record TellsAtLeast (bytes : List ℕ) (w : Written) : Type 0 where
   pub line : w.text ≡ level_line level
   pub bounds : BoundsAll (view_loads units.units) units.slots (Some level)
 
+-- a status that is 0, 1 or 2 says so much
+abbrev pub ByStatus : ℕ → Type 0 → Type 0 → Type 0 → Type 0
+ByStatus code A B C = (code ≡ 0 → A) × (code ≡ 1 → B) × (code ≡ 2 → C)
+
 -- a check that ends with status 0, 1 or 2 tells the truth
 abbrev pub YesTellsTruth : List ℕ → Written → Type 0
-YesTellsTruth bytes w = (w.code ≡ 0 → TellsLeast bytes w) × (w.code ≡ 1 → TellsNoPlan bytes w) × (w.code ≡ 2 → TellsAtLeast bytes w)
+YesTellsTruth bytes w = ByStatus w.code (TellsLeast bytes w) (TellsNoPlan bytes w) (TellsAtLeast bytes w)
 
 -- whatever the certificate holds
 abbrev pub YesIsTrue : Type 0
@@ -112,7 +116,7 @@ pub record TellsUnproved (bytes : List ℕ) (w : Written) (cert : Option (List �
 
 -- a search that ends with status 0, 1 or 2 tells the truth
 abbrev pub TellsTruth : List ℕ → Written → Option (List ℕ) → Type 0
-TellsTruth bytes w cert = (w.code ≡ 0 → TellsOptimal bytes w cert) × (w.code ≡ 1 → TellsWithoutPlan bytes w cert) × (w.code ≡ 2 → TellsUnproved bytes w cert)
+TellsTruth bytes w cert = ByStatus w.code (TellsOptimal bytes w cert) (TellsWithoutPlan bytes w cert) (TellsUnproved bytes w cert)
 
 -- whatever workers and nodes were asked for
 abbrev pub PlanIsTrue : Type 0

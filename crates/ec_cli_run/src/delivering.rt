@@ -30,22 +30,14 @@ pub(crate) fn write_file<O: Write>(file: &File, out: &mut Io<O>) -> Result<(), W
 }
 
 /// Writes what is told without its file: its text or the refusal, whole, with its status.
-fn deliver<W: Write>(told: &Result<Told, Refusal>, text: &mut Io<W>) -> Status
-    requires { has_failed text.old ≡ false }
-    ensures { Tells (λ w. w ≡ told_of told.now) (used W.contents text.old text.new) result.code }
-{
-    match told {
-        Ok(told) => write_status(text, told.answer.text.as_bytes(), told.answer.code),
-        Err(refusal) => refuse(*refusal, text),
-    }
-}
-
-/// The same, and lets go of what is told.
 pub(crate) fn deliver_text<W: Write>(told: Result<Told, Refusal>, text: &mut Io<W>) -> Status
     requires { has_failed text.old ≡ false }
     ensures { Tells (λ w. w ≡ told_of told) (used W.contents text.old text.new) result.code }
 {
-    deliver(&told, text)
+    match &told {
+        Ok(told) => write_status(text, told.answer.text.as_bytes(), told.answer.code),
+        Err(refusal) => refuse(*refusal, text),
+    }
 }
 
 /// Writes the file of what is told, if it has one, and then its text or the refusal with its status; where the file can't be

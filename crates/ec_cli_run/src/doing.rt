@@ -7,7 +7,7 @@ ghost use Rattle.ec_cli_inputs.specs.Input.{ReadsUpTo, most_of_units};
 ghost use Rattle.ec_cli_inputs.specs.Use.{used};
 ghost use Rattle.ec_cli_text.specs.Output.{refused};
 ghost use Rattle.ec_cli_answers.specs.Told.{HasText, IsWritable};
-ghost use Rattle.ec_cli_run.specs.Runs.{AnswersLine, DoesLine, Tells, reported};
+ghost use Rattle.ec_cli_run.specs.Runs.{AnswersLine, Tells, reported};
 ghost use Rattle.ec_cli_run.specs.Sound.{LineIsTrue};
 
 use crate::answering::tell;
@@ -88,32 +88,41 @@ fn content_of(line: &Line) -> Content {
     }
 }
 
+/// Where a certificate comes from that is to be written.
+#[derive(Clone, Copy)]
+pub(crate) struct Origin {
+    /// What stood at the path of the one that it goes on with, if it does with one.
+    pub(crate) from: Option<Seen>,
+    /// Whether it has a part alone of what others have that come from the same one.
+    pub(crate) is_part: bool,
+}
+
 /// Why what stands at the path of a file makes no room for it: a certificate that says more does so. The one that the search went
 /// on with, where that stands there as it was, isn't read again: nothing that goes on with it says less.
 fn reason_to_leave<F: Files>(
     alloc: Global,
-    from: Option<Seen>,
+    origin: Origin,
     file: &File,
     whole: &Whole<'_, F>,
 ) -> Option<KeepReason> {
+    let Origin { from, is_part } = origin;
     let File::Cert(cert) = file else {
         return None;
     };
     if from.is_some() && whole.seen() == from {
         return None;
     }
-    reason_to_stay(alloc, whole, cert)
+    reason_to_stay(alloc, whole, cert, is_part)
 }
 
-/// Writes a file, if there is one, of what went on with the certificate that was seen as `from` if it did with one, and lets it
-/// take its place.
+/// Writes a file, if there is one, that comes from there, and lets it take its place.
 ///
 /// # Errors
 ///
 /// Why it isn't there, and where it lies.
 fn settle_file<F: Files>(
     alloc: Global,
-    from: Option<Seen>,
+    origin: Origin,
     file: &File,
     mut late: Late<'_, F>,
 ) -> Result<(), FileFault>
@@ -126,23 +135,22 @@ fn settle_file<F: Files>(
         return Err(late.give_up());
     };
     match late.finish()? {
-        Some(whole) => whole.settle(|whole| reason_to_leave(alloc, from, file, whole)),
+        Some(whole) => whole.settle(|whole| reason_to_leave(alloc, origin, file, whole)),
         None => Ok(()),
     }
 }
 
-/// Writes the file of what is told, if there is one, of what went on with the certificate that was seen as `from` if it did with
-/// one, and lets it take its place. Why it isn't there.
+/// Writes the file of what is told, if there is one, that comes from there, and lets it take its place. Why it isn't there.
 pub(crate) fn write_late<E, F: Files>(
     alloc: Global,
-    from: Option<Seen>,
+    origin: Origin,
     told: &Result<Told, E>,
     late: Late<'_, F>,
 ) -> Option<FileFault>
     requires { IfOk told.now (λ t. HasText t.file) }
 {
     match told {
-        Ok(told) => settle_file(alloc, from, &told.file, late).err(),
+        Ok(told) => settle_file(alloc, origin, &told.file, late).err(),
         Err(_) => None,
     }
 }
@@ -150,6 +158,18 @@ pub(crate) fn write_late<E, F: Files>(
 /// What stands at the path of the certificate that a line reads, before it is read; none of a line that reads none.
 fn seen_of<F: Files>(files: &F, line: &Line) -> Option<Seen> {
     Seen::at(files, line.cert()?.as_str())
+}
+
+/// Where the certificate of a line comes from.
+fn origin_of<F: Files>(files: &F, line: &Line) -> Origin {
+    let is_part = match line {
+        Line::Resume { part, .. } => part.count > 1,
+        _ => false,
+    };
+    Origin {
+        from: seen_of(files, line),
+        is_part,
+    }
 }
 
 /// Does what a command line says, on these units and to this text.
@@ -165,18 +185,20 @@ fn report_line<R: Read, W: Write, F: Files, T: Threads + Wait + Sync, G: Gate + 
     requires fits { JobFits (job_of line.now) }
     requires units { has_failed units.old ≡ false }
     requires text { has_failed text.old ≡ false }
-    ensures does { Tells (λ w. (w ≡ reported refused result.told result.fault) × DoesLine line.now (used R.remaining units.old units.new) w) (used W.contents text.old text.new) result.status.code }
+    ensures does { Tells (λ w. w ≡ reported refused result.told result.fault) (used W.contents text.old text.new) result.status.code }
+    ensures told { has_failed units.new ≡ false → IfSome (R.remaining (stream units.old)) (λ bytes. AnswersLine (job_of line.now) (cert_of line.now) bytes result.told) }
+    ensures read { ReadsUpTo (used R.remaining units.old units.new) most_of_units (result.told ≡ Err Refusal.Read) }
     ensures fault { out_of line.now ≡ None → result.fault ≡ None }
 {
     let Some(path) = line.out() else {
         let told = tell_line(wait, files, alloc, line, units, gate);
         return deliver_report(told, None, text);
     };
-    let from = seen_of(files, line);
+    let origin = origin_of(files, line);
     match Late::new(files, alloc, path.as_str(), content_of(line)) {
         Ok(late) => {
             let told = tell_line(wait, files, alloc, line, units, gate);
-            let fault = write_late(alloc, from, &told, late);
+            let fault = write_late(alloc, origin, &told, late);
             deliver_report(told, fault, text)
         }
         Err(AllocError) => {
@@ -200,8 +222,9 @@ pub fn do_line<R: Read, W: Write, F: Files, T: Threads + Wait + Sync, G: Gate + 
     requires fits { JobFits (job_of line.now) }
     requires units { has_failed units.old ≡ false }
     requires text { has_failed text.old ≡ false }
-    ensures does { Tells (λ w. (w ≡ reported refused result.told result.fault) × DoesLine line.now (used R.remaining units.old units.new) w) (used W.contents text.old text.new) result.status.code }
-    ensures truth { Tells (LineIsTrue (job_of line.now) (used R.remaining units.old units.new)) (used W.contents text.old text.new) result.status.code }
+    ensures truth { Tells (λ w. (w ≡ reported refused result.told result.fault) × LineIsTrue (job_of line.now) (used R.remaining units.old units.new) w) (used W.contents text.old text.new) result.status.code }
+    ensures told { has_failed units.new ≡ false → IfSome (R.remaining (stream units.old)) (λ bytes. AnswersLine (job_of line.now) (cert_of line.now) bytes result.told) }
+    ensures read { ReadsUpTo (used R.remaining units.old units.new) most_of_units (result.told ≡ Err Refusal.Read) }
     ensures fault { out_of line.now ≡ None → result.fault ≡ None }
 {
     law_trees_bound();

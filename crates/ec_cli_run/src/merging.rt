@@ -14,7 +14,7 @@ ghost use Rattle.ec_cli_answers.specs.Told.{HasText, file_bytes};
 ghost use Rattle.ec_cli_run.specs.Merging.{IsMergeFault, IsNoCert, IsTrueMerge, IsUnmerged, MergeTellsTruth, unmerged};
 ghost use Rattle.ec_cli_run.specs.Runs.{Tells, reported};
 
-use crate::doing::write_late;
+use crate::doing::{Origin, write_late};
 use crate::job::{Status, refuse};
 use crate::misfits::refuse_misfit;
 use crate::reporting::{Reason, Report, deliver_report};
@@ -196,6 +196,46 @@ fn seen_among<F: Files>(files: &F, paths: &[String], out: &str) -> Option<Seen> 
     None
 }
 
+/// Merges the certificates at some paths for the units that the reader has, and reports it.
+fn report_merge<R: Read, W: Write, F: Files>(
+    files: &F,
+    alloc: Global,
+    paths: &[String],
+    out: Option<&String>,
+    units: &mut Io<R>,
+    text: &mut Io<W>,
+) -> Report<MergeFault>
+    requires some { 1 ≤ length paths.now }
+    requires units { has_failed units.old ≡ false }
+    requires text { has_failed text.old ≡ false }
+    ensures does { Tells (λ w. w ≡ reported unmerged result.told result.fault) (used W.contents text.old text.new) result.status.code }
+    ensures told { has_failed units.new ≡ false → IfSome (R.remaining (stream units.old)) (λ bytes. IsTrueMerge bytes result.told) }
+    ensures err { has_failed units.new ≡ false → IfSome (R.remaining (stream units.old)) (λ bytes. IfErr result.told (IsMergeFault bytes (length paths.now))) }
+    ensures read { ReadsUpTo (used R.remaining units.old units.new) most_of_units (result.told ≡ Err (MergeFault.Refused Refusal.Read)) }
+    ensures fault { out.entry ≡ None → result.fault ≡ None }
+{
+    let Some(path) = out else {
+        let told = tell_merge(files, alloc, paths, units);
+        return deliver_report(told, None, text);
+    };
+    match Late::new(files, alloc, path.as_str(), Content::Certificate) {
+        Ok(late) => {
+            let origin = Origin {
+                from: seen_among(files, paths, path.as_str()),
+                is_part: true,
+            };
+            let told = tell_merge(files, alloc, paths, units);
+            let fault = write_late(alloc, origin, &told, late);
+            deliver_report(told, fault, text)
+        }
+        Err(AllocError) => deliver_report(
+            Err(MergeFault::Refused(Refusal::Unit(UnitFault::OutOfMemory))),
+            None,
+            text,
+        ),
+    }
+}
+
 /// Merges the certificates at some paths, of which there is at least one, for the units that the reader has, and tells what they show
 /// together, as a search tells it. The units are read first, then each certificate in turn, and only the units and what was merged so far
 /// are held. The merged certificate is at the path `out`, if there is one, whole, before a byte of the text is written, so it may take the
@@ -216,27 +256,11 @@ pub fn do_merge<R: Read, W: Write, F: Files>(
     requires some { 1 ≤ length paths.now }
     requires units { has_failed units.old ≡ false }
     requires text { has_failed text.old ≡ false }
-    ensures does { Tells (λ w. w ≡ reported unmerged result.told result.fault) (used W.contents text.old text.new) result.status.code }
-    ensures truth { Tells (MergeTellsTruth (used R.remaining units.old units.new)) (used W.contents text.old text.new) result.status.code }
+    ensures truth { Tells (λ w. (w ≡ reported unmerged result.told result.fault) × MergeTellsTruth (used R.remaining units.old units.new) w) (used W.contents text.old text.new) result.status.code }
+    ensures told { has_failed units.new ≡ false → IfSome (R.remaining (stream units.old)) (λ bytes. IsTrueMerge bytes result.told) }
     ensures err { has_failed units.new ≡ false → IfSome (R.remaining (stream units.old)) (λ bytes. IfErr result.told (IsMergeFault bytes (length paths.now))) }
     ensures read { ReadsUpTo (used R.remaining units.old units.new) most_of_units (result.told ≡ Err (MergeFault.Refused Refusal.Read)) }
     ensures fault { out.entry ≡ None → result.fault ≡ None }
 {
-    let Some(path) = out else {
-        let told = tell_merge(files, alloc, paths, units);
-        return deliver_report(told, None, text);
-    };
-    match Late::new(files, alloc, path.as_str(), Content::Certificate) {
-        Ok(late) => {
-            let from = seen_among(files, paths, path.as_str());
-            let told = tell_merge(files, alloc, paths, units);
-            let fault = write_late(alloc, from, &told, late);
-            deliver_report(told, fault, text)
-        }
-        Err(AllocError) => deliver_report(
-            Err(MergeFault::Refused(Refusal::Unit(UnitFault::OutOfMemory))),
-            None,
-            text,
-        ),
-    }
+    report_merge(files, alloc, paths, out, units, text)
 }

@@ -4,9 +4,9 @@ ghost use Rattle.std.specs.Prelude.{◌≡◌, ◌↔◌, IsTrue};
 ghost use Rattle.ec_loads.specs.Search.{IsAtMost};
 ghost use Rattle.ec_cert.specs.IsBestPlan.{value_of};
 ghost use Rattle.ec_cert.specs.Shapes.{cert_view};
-ghost use Rattle.ec_cli_run.specs.Older.{HasMoreNodes, ShowsMore, SaysMore};
+ghost use Rattle.ec_cli_run.specs.Older.{AreForOneLine, HasMoreNodes, ShowsMore, SaysMore};
 
-use ec_cert::{Best, Cert, UnitLine, node_count};
+use ec_cert::{Best, Cert, Tree, UnitLine, is_closed, node_count};
 use ec_cert_merge::misfit;
 use ec_cert_text::{CertFault, MOST_BYTES, read_cert};
 use ec_cli_files::{KeepReason, Whole};
@@ -37,6 +37,13 @@ fn are_same(these: &[UnitLine], those: &[UnitLine]) -> bool
         }
     }
     true
+}
+
+/// Whether two certificates are for the same slots and units.
+fn are_for_one_line(older: &Cert, newer: &Cert) -> bool
+    ensures { IsTrue result ↔ AreForOneLine (cert_view older.now) (cert_view newer.now) }
+{
+    older.slots == newer.slots && are_same(older.units.as_slice(), newer.units.as_slice())
 }
 
 /// Whether a plan costs less than another one, or is there alone.
@@ -89,8 +96,7 @@ fn says_more(older: &Cert, newer: &Cert) -> bool
     let Some(level) = newer.level else {
         return false;
     };
-    older.slots == newer.slots
-        && are_same(older.units.as_slice(), newer.units.as_slice())
+    are_for_one_line(older, newer)
         && (shows_more(older.level, level)
             || costs_less(&older.best, &newer.best)
             || has_more_nodes(older, newer))
@@ -110,22 +116,56 @@ fn standing_cert<F: Files>(alloc: Global, whole: &Whole<'_, F>) -> io::Result<Op
     }
 }
 
-/// Why a certificate that stands at the path of a newer one makes no room for it: it says more for the same units, or it
-/// can't be read. None where nothing of it is lost (own profile).
+/// Whether a tree has more than an open leaf somewhere, where another one of the same search has an open leaf.
+fn has_closed_more(older: &Tree, newer: &Tree) -> bool {
+    match older {
+        Tree::OpenLeaf => false,
+        Tree::Split(trees) => match newer {
+            Tree::OpenLeaf => true,
+            Tree::Split(others) => {
+                let (trees, others) = (trees.as_ref(), others.as_ref());
+                for i in 0..trees.len() {
+                    if i < others.len() && has_closed_more(&trees[i], &others[i]) {
+                        return true;
+                    }
+                }
+                false
+            }
+            _ => false,
+        },
+        _ => !is_closed(newer),
+    }
+}
+
+/// Why an older certificate stays for the same units: it is a proof, it has closed what a newer one of the same search leaves open,
+/// where that `is_part` of what both come from, or it says more.
+fn reason_by(older: &Cert, newer: &Cert, is_part: bool) -> Option<KeepReason> {
+    let says_more = says_more(older, newer);
+    if says_more && older.level.is_none() {
+        return Some(KeepReason::IsProof);
+    }
+    let is_of_one = is_part && are_for_one_line(older, newer) && misfit(older, newer).is_none();
+    if is_of_one && has_closed_more(&older.tree, &newer.tree) {
+        return Some(KeepReason::HasOther);
+    }
+    Some(KeepReason::SaysMore).filter(|_| says_more)
+}
+
+/// Why a certificate that stands at the path of a newer one makes no room for it: it says more for the same units, or has closed
+/// what the newer one leaves open, where that `is_part` of what both come from; or it can't be read. None where nothing of it is lost
+/// (own profile).
 pub(crate) fn reason_to_stay<F: Files>(
     alloc: Global,
     whole: &Whole<'_, F>,
     newer: &Cert,
+    is_part: bool,
 ) -> Option<KeepReason> {
     if newer.level.is_none() {
         return None;
     }
     match standing_cert(alloc, whole) {
-        Ok(Some(older)) if says_more(&older, newer) => Some(match older.level {
-            Some(_) => KeepReason::SaysMore,
-            None => KeepReason::IsProof,
-        }),
-        Ok(_) => None,
+        Ok(Some(older)) => reason_by(&older, newer, is_part),
+        Ok(None) => None,
         Err(_) => Some(KeepReason::Unreadable),
     }
 }

@@ -2,3 +2,4 @@ pub mod Framed
 pub mod Lines
 pub mod Outcomes
 pub mod Output
+pub mod Plans

@@ -1,20 +1,16 @@
 -- What the program writes for what it reads.
-use Rattle.std.specs.Prelude.{◌≡◌, ◌≢◌, ℕ, ◌<◌, ◌≤◌, ◌⊎◌, is_none, List, length, Option, Result, Ok, Err, MatchOption, MatchResult, string_bytes}
+use Rattle.std.specs.Prelude.{◌≡◌, ◌≢◌, ℕ, ◌≤◌, ◌⊎◌, List, length, Option, Result, Ok, Err, MatchResult, string_bytes}
 use Rattle.std.proofs.Common.{Some, None}
-use Rattle.std.specs.List.{position_from, filter_map}
 use Rattle.ec_hyper.specs.Lcm.{lcm_of}
 use Rattle.ec_units.specs.declared.slave.Place.{Place}
 use Rattle.ec_units.specs.declared.unit.Unit.{Unit as SyncUnit}
 use Rattle.ec_units.specs.declared.units.Units.{Units}
 use Rattle.ec_units.specs.Load.{periods_of}
 use Rattle.ec_unit_text.specs.Reading.{reading}
-use Rattle.ec_units.specs.Views.{UnitView, UnitsView, units_view, view_loads}
+use Rattle.ec_units.specs.Views.{UnitsView, units_view, view_loads}
 use Rattle.ec_loads.specs.declared.item.Item.{Item}
-use Rattle.ec_loads.specs.declared.plan.Illegal.{Illegal}
 use Rattle.ec_loads.specs.Cost.{plan_items, tick_cost, IsFirstBusiest}
-use Rattle.ec_loads.specs.Legal.{IsLegal, IsIllegalBy}
 use Rattle.ec_cert_text.specs.Reading.{reading as cert_reading}
-use Rattle.ec_cert.specs.declared.cert.Best.{Best}
 use Rattle.ec_cert.specs.Shapes.{CertView}
 use Rattle.ec_checker.specs.declared.fault.CheckFault.{CheckFault}
 use Rattle.ec_checker.specs.declared.fault.CheckFault.TheVariants as check
@@ -29,7 +25,8 @@ use Rattle.ec_cli_refusals.specs.declared.refusal.Refusal.TheVariants as refusal
 use Rattle.ec_cli_command.specs.declared.job.Job.{Job}
 use Rattle.ec_cli_command.specs.declared.job.Job.TheVariants as job
 use Rattle.ec_cli_text.specs.Lines.{cost_lines, least_line, level_line, no_plan_line}
-use Rattle.ec_cli_refusals.specs.Refusals.{refusal_line, refusal_code, IsMemory}
+use Rattle.ec_cli_refusals.specs.Refusals.{refusal_line, refusal_code, IsMemory, IsUnitsFault}
+use Rattle.ec_cli_text.specs.Plans.{IsFramedPlan, IsPlanless}
 
 -- a text and the exit status
 pub record Written : Type 0 where
@@ -56,14 +53,6 @@ abbrev pub IsCostsText : UnitsView → List Place → List ℕ → Type 0
 IsCostsText v places text =
     IsCostText (plan_items (view_loads v.units) places) v.slots (lcm_of (periods_of (view_loads v.units))) v.tick_ns text
 
--- the first unit without a place
-abbrev pub first_unplaced : List UnitView → Option ℕ
-first_unplaced units = position_from (λ u. is_none u.place) 0 units
-
--- the places that are given
-abbrev pub places_of : List UnitView → List Place
-places_of units = filter_map (λ u. u.place) units
-
 -- what is written for a verdict, which has the status 1 where no plan is legal, and 2 where no more than a level is shown
 abbrev pub verdict_output : Verdict → Written
 verdict_output (verdict.Least b) = done (least_line b)
@@ -84,47 +73,15 @@ IsCheckedOutput v c w = (us : Units) × (units_view us ≡ v) × IsCheckedOf us.
 abbrev pub IsCheckOutput : UnitsView → List ℕ → Written → Type 0
 IsCheckOutput v text w = MatchResult (cert_reading text) (λ c. IsCheckedOutput v c w) (λ f. w ≡ refused (refusal.Cert f))
 
--- ---- what is told of a plan: the text of units at these places, which is that of its frames, of a play or of its costs
-
-module _ (IsText : UnitsView → List Place → List ℕ → Type 0) where
-  -- what is written for units that all have a place: the fault of their plan, or its text
-  abbrev pub IsPlacedText : UnitsView → List Place → Written → Type 0
-  IsPlacedText v places w =
-      ((f : Illegal) × IsIllegalBy (view_loads v.units) v.slots places f × (w ≡ refused (refusal.Illegal f)))
-      ⊎ (IsLegal (view_loads v.units) v.slots places × IsText v places w.text × (w.code ≡ 0))
-
-  -- what is written for units and their own places
-  abbrev pub IsOwnText : UnitsView → Written → Type 0
-  IsOwnText v w =
-      MatchOption (first_unplaced v.units) (IsPlacedText v (places_of v.units) w) (λ n. w ≡ refused (refusal.NoPlace n))
-
-  -- what is written for the best plan of a certificate, if there is one
-  abbrev pub IsBestText : UnitsView → Option Best → Written → Type 0
-  IsBestText v None w = w ≡ refused refusal.CertHasNoPlan
-  IsBestText v (Some b) w = IsText v b.plan.places w.text × (w.code ≡ 0)
-
-  -- what is written for these units and a certificate: the text of its plan where it is certified, or its first fault
-  abbrev pub IsCertTextOf : Units → CertView → Written → Type 0
-  IsCertTextOf us c w =
-      (IsCertified us.units us.slots c × IsBestText (units_view us) c.best w)
-      ⊎ ((f : CheckFault) × (f ≢ check.OutOfMemory) × IsFaultOf us.units us.slots c f × (w ≡ refused (refusal.Check f)))
-
-  -- the same of units as plain data
-  abbrev pub IsCertText : UnitsView → CertView → Written → Type 0
-  IsCertText v c w = (us : Units) × (units_view us ≡ v) × IsCertTextOf us c w
-
-  -- what is written for units and a certificate's text
-  abbrev pub IsReadText : UnitsView → List ℕ → Written → Type 0
-  IsReadText v text w = MatchResult (cert_reading text) (λ c. IsCertText v c w) (λ f. w ≡ refused (refusal.Cert f))
-
-  -- the text of the places of the units, or of a certificate's plan
-  abbrev pub IsTextFor : Option (List ℕ) → UnitsView → Written → Type 0
-  IsTextFor None v w = IsOwnText v w
-  IsTextFor (Some text) v w = IsReadText v text w
+-- what is written of a plan: such a text of the plan of which is told, or why there is none
+abbrev pub IsTextFor : (UnitsView → List Place → List ℕ → Type 0) → Option (List ℕ) → UnitsView → Written → Type 0
+IsTextFor IsText cert v w =
+    ((places : List Place) × IsFramedPlan cert v places × IsText v places w.text × (w.code ≡ 0))
+    ⊎ ((r : Refusal) × IsPlanless cert v r × (w ≡ refused r))
 
 -- what a job that searches for nothing writes for units, and for the bytes of a certificate where it reads one
 abbrev pub IsUnitsOutput : Job → Option (List ℕ) → UnitsView → Written → Type 0
-IsUnitsOutput job.Cost cert v w = IsOwnText IsCostsText v w
+IsUnitsOutput job.Cost cert v w = IsTextFor IsCostsText None v w
 IsUnitsOutput (job.Plan workers nodes strong) cert v w = ⊥
 IsUnitsOutput (job.Resume workers nodes part) cert v w = ⊥
 IsUnitsOutput job.Check None v w = ⊥
@@ -134,13 +91,11 @@ IsUnitsOutput job.Capture cert v w = IsTextFor IsFramesText cert v w
 IsUnitsOutput job.Play cert v w = IsTextFor IsPlayText cert v w
 IsUnitsOutput job.PlanCost cert v w = IsTextFor IsCostsText cert v w
 
--- what is written for a unit text of at most 1,048,576 bytes
-abbrev pub IsTextOutput : Job → Option (List ℕ) → List ℕ → Written → Type 0
-IsTextOutput j cert text w = MatchResult (reading text) (λ v. IsUnitsOutput j cert v w) (λ f. w ≡ refused (refusal.Unit f))
-
 -- what is written for the bytes of units and of a certificate that readers have
 abbrev pub IsOutput : Job → List ℕ → Option (List ℕ) → Written → Type 0
-IsOutput j bytes cert w = ((length bytes ≤ 1048576) × IsTextOutput j cert bytes w) ⊎ ((1048576 < length bytes) × (w ≡ refused refusal.TooLarge))
+IsOutput j bytes cert w =
+    ((v : UnitsView) × (length bytes ≤ 1048576) × (reading bytes ≡ Ok v) × IsUnitsOutput j cert v w)
+    ⊎ ((r : Refusal) × IsUnitsFault bytes r × (w ≡ refused r))
 
 -- an answer is written as it stands
 abbrev pub shown : Answer → Written

@@ -8,11 +8,10 @@ ghost use Rattle.ec_loads.specs.Cost.{plan_items, tick_cost};
 ghost use Rattle.ec_loads.specs.Legal.{IsLegal};
 ghost use Rattle.ec_loads.specs.Held.{items_of};
 ghost use Rattle.ec_cli_text.specs.Lines.{tick_line, tick_lines};
-ghost use Rattle.ec_cli_text.specs.Output.{IsCostText, IsCostsText, IsOwnText, Answers};
+ghost use Rattle.ec_cli_text.specs.Output.{IsCostText, IsCostsText, Answers};
 ghost use Rattle.ec_cli_command.specs.declared.job.Job.TheVariants.{Cost};
 
 use crate::answer::Answer;
-use crate::placing::placed_plan;
 use ec_cli_refusals::Refusal;
 use ec_loads::{Loads, Plan};
 use ec_units::Units;
@@ -81,12 +80,4 @@ pub fn plan_cost(alloc: Global, units: &Units, plan: &Plan) -> Result<Answer, Re
 {
     let text = cost_text(alloc, units, plan)?;
     Ok(Answer { text, code: 0 })
-}
-
-/// What is answered for units: the text of the costs of their own places, or why there is none.
-pub fn cost_of(alloc: Global, units: &Units) -> Result<Answer, Refusal>
-    ensures { Answers Cost result (IsOwnText IsCostsText (units_view units.now)) }
-{
-    let plan = placed_plan(alloc, units)?;
-    plan_cost(alloc, units, &plan)
 }

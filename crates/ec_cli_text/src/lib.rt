@@ -10,7 +10,7 @@ mod play;
 mod verdict;
 
 pub use answer::Answer;
-pub use cost::{cost_of, plan_cost};
+pub use cost::plan_cost;
 pub use frames::{Captured, plan_capture, plan_frames};
 pub use outcome::outcome_answer;
 pub use placing::placed_plan;

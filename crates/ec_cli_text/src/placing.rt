@@ -1,14 +1,11 @@
 //! The plan that the places of the units make.
 
-ghost use Rattle.std.specs.Prelude.{◌≡◌, ◌⊎◌, ℕ, length, map, None, Some, IfOk, IfErr};
+ghost use Rattle.std.specs.Prelude.{◌≡◌, ◌⊎◌, length, map, None, IfOk, IfErr};
 ghost use Rattle.ec_units.specs.Load.{loads_of};
 ghost use Rattle.ec_units.specs.Views.{unit_view, units_view};
 ghost use Rattle.ec_loads.specs.Legal.{IsLegal};
-ghost use Rattle.ec_frame_text.specs.Lines.{IsFramesText};
 ghost use Rattle.ec_cli_refusals.specs.Refusals.{out_of_memory};
-ghost use Rattle.ec_cli_refusals.specs.declared.refusal.Refusal.TheVariants.{NoPlace};
-ghost use Rattle.ec_cli_text.specs.Framed.{IsPlacedPlan};
-ghost use Rattle.ec_cli_text.specs.Output.{IsOwnText, first_unplaced, places_of, refused};
+ghost use Rattle.ec_cli_text.specs.Plans.{IsPlacedPlan, IsUnplaced, first_unplaced, places_of};
 
 use ec_cli_refusals::Refusal;
 use ec_loads::{Places, Plan, is_legal};
@@ -18,7 +15,7 @@ use std::alloc::Global;
 /// The plan that the places of the units make, legal or not.
 pub(crate) fn plan_of(alloc: Global, units: &Units) -> Result<Plan, Refusal>
     ensures ok { IfOk result (λ plan. (first_unplaced (map unit_view units.now.units) ≡ None) × (plan.places ≡ places_of (map unit_view units.now.units)) × (length plan.places ≡ length units.now.units)) }
-    ensures err { IfErr result (λ r. (r ≡ out_of_memory) ⊎ ((n : ℕ) × (r ≡ NoPlace n) × (first_unplaced (map unit_view units.now.units) ≡ Some n))) }
+    ensures err { IfErr result (λ r. (r ≡ out_of_memory) ⊎ IsUnplaced (units_view units.now) r) }
 {
     let mut places = Vec::new(alloc);
     let all = units.units.as_slice();
@@ -41,7 +38,7 @@ pub(crate) fn plan_of(alloc: Global, units: &Units) -> Result<Plan, Refusal>
 pub fn placed_plan(alloc: Global, units: &Units) -> Result<Plan, Refusal>
     ensures ok { IfOk result (λ plan. IsPlacedPlan (units_view units.now) plan.places) }
     ensures legal { IfOk result (λ plan. IsLegal (loads_of units.now.units) units.now.slots plan.places) }
-    ensures err { IfErr result (λ r. (r ≡ out_of_memory) ⊎ IsOwnText IsFramesText (units_view units.now) (refused r)) }
+    ensures err { IfErr result (λ r. (r ≡ out_of_memory) ⊎ IsUnplaced (units_view units.now) r) }
 {
     let plan = plan_of(alloc, units)?;
     match is_legal(units, &plan) {

@@ -57,7 +57,7 @@ fn add_limits(page: &mut Draft, units: &Units, laid: &Laid<'_>) {
     );
     add_fact(
         page,
-        "Most datagrams in a frame",
+        "Most bytes of datagrams in a frame",
         format_args!("{MOST_PAYLOAD} bytes, 12 of each datagram beside its data"),
     );
 }

@@ -16,6 +16,16 @@ use ec_book_shared::{Search, Shared};
 use std::alloc::Global;
 use std::sync::Wait;
 
+/// The bytes that the trees of a grant take on most lines. An allocator of glibc maps a block from 128 KiB on by itself.
+const TREE_BYTES: usize = 96 * 1024;
+
+/// Room for the trees of a grant. Let go of at once, it stays with the thread's allocator, which so asks the system for a piece's
+/// trees once, and not for each page of them. Nothing comes of a refusal.
+#[inline(never)]
+fn room_for_trees(alloc: Global) -> Option<Vec<u8>> {
+    Vec::with_capacity(alloc, TREE_BYTES).ok()
+}
+
 /// Explores a piece until its subtree is reported; else why the worker ends. Once a subtree was refused as ahead of the
 /// book, the piece is explored at the book's value, whatever is published.
 pub(crate) fn worked_off<S: Search, R: Wait, G: Gate>(
@@ -66,6 +76,7 @@ fn worked<S: Search, R: Wait, G: Gate>(
         Ok(Some(Taken::Piece(took))) => {
             drop(announced);
             pace.go_on();
+            drop(room_for_trees(alloc));
             let ended = worked_off(rt, alloc, shared, post, ground, &took, gate);
             drop(took);
             pace.grow(spent(post.seat.receipts()));

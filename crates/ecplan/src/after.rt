@@ -1,7 +1,7 @@
 //! What is written after the text of a job: the picture of costs, the units with the places of a plan, and what is handed over
 //! with frames.
 
-use crate::costs::has_cheaper;
+use crate::costs::compared;
 use crate::ending::Done;
 use crate::targets::Target;
 use crate::telling::{tell_fault, tell_path, tell_whole};
@@ -9,9 +9,8 @@ use crate::units::MOST_TEXT;
 use ec_checker::Verdict;
 use ec_cli_answers::Told;
 use ec_cli_files::{Content, FileFault, KeepReason, make_whole, read_file};
-use ec_cli_text::placed_plan;
 use ec_cost_picture::picture;
-use ec_loads::{Plan, is_legal};
+use ec_loads::is_legal;
 use ec_master_files::{Claim, header_of, map_of, report_of};
 use ec_unit_rewrite::{PlacingFault, place_text};
 use ec_unit_text::read_units;
@@ -54,17 +53,6 @@ impl From<AllocError> for AfterFault {
     }
 }
 
-/// The picture of units and of the plan whose costs were told, else of the units' own places.
-fn picture_of(alloc: Global, units: &Units, plan: Option<&Plan>) -> Result<String, AllocError> {
-    if let Some(plan) = plan {
-        return picture(alloc, units, plan);
-    }
-    match placed_plan(alloc, units) {
-        Ok(plan) => picture(alloc, units, &plan),
-        Err(_) => Err(AllocError),
-    }
-}
-
 /// What a verdict on the certificate of a plan proves of the plan; nothing where there is none.
 fn claim_of(verdict: Option<Verdict>) -> Claim {
     match verdict {
@@ -74,7 +62,7 @@ fn claim_of(verdict: Option<Verdict>) -> Claim {
     }
 }
 
-/// What is handed over of units and of their plan whose frames were told.
+/// The picture, the header, the map or the report of units and of their plan of which was told.
 fn handed_of(
     alloc: Global,
     content: Content,
@@ -86,6 +74,7 @@ fn handed_of(
         return Err(AllocError);
     };
     match content {
+        Content::Picture => picture(alloc, units, plan),
         Content::Header => header_of(alloc, units, plan),
         Content::Map => map_of(alloc, units, plan),
         _ => report_of(alloc, units, plan, claim_of(told.verdict)),
@@ -120,9 +109,6 @@ fn text_of(
     let Ok(units) = read_units(alloc, units) else {
         return Err(AfterFault::from(AllocError));
     };
-    if content == Content::Picture {
-        return Ok(picture_of(alloc, &units, told.plan())?);
-    }
     Ok(handed_of(alloc, content, &units, told)?)
 }
 
@@ -135,34 +121,38 @@ fn holds_still<R: Files + AllocGlobal>(rt: &R, path: &str, units: &[u8]) -> bool
     }
 }
 
-/// Whether the file at a path, to which the units of a search are to be written, has better places for them than its plan.
-fn is_better<R: Files + AllocGlobal>(
+/// Whether the places of units that a file at a path holds, to which those of a plan are to be written, cost less than that; where
+/// the certificate was left as it is also whether they cost as much, since they may be its plan's.
+fn standing_reason<R: Files + AllocGlobal>(
     rt: &R,
     target: Target<'_>,
-    units: &[u8],
+    done: Done<'_>,
     told: &Told,
-) -> bool {
+) -> Option<KeepReason> {
     if target.content != Content::Units {
-        return false;
+        return None;
     }
-    match (read_units(rt.alloc(), units), told.plan()) {
-        (Ok(units), Some(plan)) => has_cheaper(rt, rt.alloc(), target.path, &units, plan),
-        _ => false,
+    let units = read_units(rt.alloc(), done.left.units).ok()?;
+    let plan = told.plan()?;
+    let (standing, cost) = compared(rt, rt.alloc(), target.path, &units, plan)?;
+    if standing < cost {
+        return Some(KeepReason::Cheaper);
     }
+    Some(KeepReason::AsCheap).filter(|_| standing == cost && done.is_kept)
 }
 
 /// Why what stands at a path is kept: it is the units' own file, and doesn't hold their text any more; or it has better places for
-/// them.
+/// them, or those of a certificate that was left as it is.
 fn reason_to_leave<R: Files + AllocGlobal>(
     rt: &R,
     target: Target<'_>,
-    units: &[u8],
+    done: Done<'_>,
     told: &Told,
 ) -> Option<KeepReason> {
-    if target.is_own && !holds_still(rt, target.path, units) {
+    if target.is_own && !holds_still(rt, target.path, done.left.units) {
         return Some(KeepReason::Changed);
     }
-    Some(KeepReason::Cheaper).filter(|_| is_better(rt, target, units, told))
+    standing_reason(rt, target, done, told)
 }
 
 /// Why what is written after the job isn't at its path. Places for another text than the one that stands there are nowhere.
@@ -181,16 +171,16 @@ fn after_fault(fault: FileFault) -> AfterFault {
 fn write_to<R: Files + AllocGlobal>(
     rt: &R,
     target: Target<'_>,
-    units: &[u8],
+    done: Done<'_>,
     told: &Told,
 ) -> Result<(), AfterFault> {
     let Target { path, content, .. } = target;
-    let text = text_of(rt.alloc(), content, units, told)?;
-    if let Some(why) = reason_to_leave(rt, target, units, told) {
+    let text = text_of(rt.alloc(), content, done.left.units, told)?;
+    if let Some(why) = reason_to_leave(rt, target, done, told) {
         return Err(AfterFault::Unplaced(why.as_str()));
     }
     match make_whole(rt, rt.alloc(), path, content, text.as_bytes())? {
-        Some(whole) => match whole.settle(|_| reason_to_leave(rt, target, units, told)) {
+        Some(whole) => match whole.settle(|_| reason_to_leave(rt, target, done, told)) {
             Ok(()) => Ok(()),
             Err(fault) => Err(after_fault(fault)),
         },
@@ -218,7 +208,7 @@ pub(crate) fn write_after<R: Files + AllocGlobal + Eprint>(
 ) -> bool {
     let mut is_whole = true;
     for target in targets.iter().flatten() {
-        match write_to(rt, *target, done.left.units, told) {
+        match write_to(rt, *target, done, told) {
             Ok(()) if done.untold.is_some() => tell_whole(rt, *target),
             Ok(()) => {}
             Err(fault) => is_whole = tell_after(rt, *target, &fault) && is_whole,

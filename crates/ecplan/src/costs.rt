@@ -27,25 +27,23 @@ fn are_same(one: &Units, other: &Units) -> bool {
         && are_same_units(one.units.as_slice(), other.units.as_slice())
 }
 
-/// Whether the file at a path holds the same units with places whose busiest tick costs less than that of a plan for them.
-pub(crate) fn has_cheaper<F: Files>(
+/// What the busiest ticks cost of the places that the file at a path has for the same units, and of a plan for them; none where it holds
+/// no such text.
+pub(crate) fn compared<F: Files>(
     files: &F,
     alloc: Global,
     path: &str,
     units: &Units,
     plan: &Plan,
-) -> bool {
-    let Ok(Some(text)) = read_file(files, alloc, path, MOST_TEXT as u64) else {
-        return false;
-    };
+) -> Option<(u64, u64)> {
+    let text = read_file(files, alloc, path, MOST_TEXT as u64).ok()??;
     if text.len() == MOST_TEXT {
-        return false;
+        return None;
     }
-    let Ok(held) = read_units(alloc, text.as_slice()) else {
-        return false;
-    };
-    match (placed_cost(alloc, &held), legal_cost(units, plan)) {
-        (Some(held_cost), Some(cost)) => are_same(&held, units) && held_cost < cost,
-        _ => false,
+    let held = read_units(alloc, text.as_slice()).ok()?;
+    if !are_same(&held, units) {
+        return None;
     }
+    let standing = placed_cost(alloc, &held)?;
+    Some((standing, legal_cost(units, plan)?))
 }

@@ -44,6 +44,8 @@ fn is_most(effort: &Effort, cut: Cut) -> bool {
 pub(crate) struct Wanted<'a> {
     pub asked: Asked,
     pub again: Again<'a>,
+    /// Whether a longer search may be of use: the places of the units aren't known to be the best.
+    pub is_needed: bool,
 }
 
 /// The path to which a search writes the units with the places of its plan, if it writes them.
@@ -73,6 +75,7 @@ fn wanted_of<'a, R: Files + AllocGlobal>(
     rt: &R,
     line: &'a Line,
     told: &Told,
+    units: &[u8],
 ) -> Option<Wanted<'a>> {
     let effort = effort_of(line)?;
     let asked = match told.ending {
@@ -86,7 +89,12 @@ fn wanted_of<'a, R: Files + AllocGlobal>(
         minutes: effort.minutes,
         places: places_of(line),
     };
-    Some(Wanted { asked, again })
+    let is_needed = least_placed(rt.alloc(), told, units).is_none();
+    Some(Wanted {
+        asked,
+        again,
+        is_needed,
+    })
 }
 
 /// What a search or a merge found.
@@ -110,12 +118,15 @@ fn cycle_of(alloc: Global, units: &[u8]) -> Option<Cycle> {
     read_units(alloc, units).ok().map(|units| Cycle::of(&units))
 }
 
-/// What the busiest tick costs, in wire bytes, of the plan of which a job tells that doesn't search; else that of the units' places.
-fn told_cost(alloc: Global, told: &Told, units: &Units) -> Option<u64> {
-    match told.plan() {
-        Some(plan) => legal_cost(units, plan),
-        None => placed_cost(alloc, units),
-    }
+/// What the busiest tick of the units' own places costs, in wire bytes, where a search without a proof found no plan as good, and no
+/// plan costs less: by its level, or by the bytes of the units alone.
+fn least_placed(alloc: Global, told: &Told, units: &[u8]) -> Option<u64> {
+    let ending = told.ending?;
+    let units = read_units(alloc, units).ok()?;
+    let own = placed_cost(alloc, &units)?;
+    let least = ending.level.max(Cycle::of(&units).mean.cost);
+    let is_better = ending.best.is_none_or(|best| own < best);
+    Some(own).filter(|own| *own <= least && is_better)
 }
 
 /// Tells that a plan whose busiest tick costs so many wire bytes doesn't fit into its ticks, if it doesn't.
@@ -131,9 +142,16 @@ fn tell_given<R: AllocGlobal + Eprint>(rt: &R, told: &Told, units: &[u8]) {
     let Ok(units) = read_units(rt.alloc(), units) else {
         return;
     };
-    if let Some(cost) = told_cost(rt.alloc(), told, &units) {
+    if let Some(cost) = told.plan().and_then(|plan| legal_cost(&units, plan)) {
         tell_unfit(rt, Cycle::of(&units), cost);
     }
+}
+
+/// That the places of the units are the best, whose busiest tick costs so many bytes.
+fn least_text(alloc: Global, own: u64) -> Result<String, AllocError> {
+    format!(in alloc;
+        "The places in the unit text are the best: their busiest tick costs {own} bytes, and that of no plan costs less.\nNo longer search is needed.\n"
+    )
 }
 
 /// That the places of the units cost so many bytes in their busiest tick, where the plan of a search costs so many, or there is none.
@@ -148,8 +166,12 @@ fn cheaper_text(alloc: Global, own: u64, found: Option<u64>) -> Result<String, A
     }
 }
 
-/// Tells that the places of the units are better than the plan that a search found, if they are: it doesn't begin at them.
+/// Tells that the places of the units are better than the plan that a search found, if they are: it doesn't begin at them. Also where
+/// they are known to be the best.
 fn tell_cheaper<R: AllocGlobal + Eprint>(rt: &R, told: &Told, units: &[u8]) {
+    if let Some(own) = least_placed(rt.alloc(), told, units) {
+        return tell(rt, least_text(rt.alloc(), own));
+    }
     let Ok(units) = read_units(rt.alloc(), units) else {
         return;
     };
@@ -168,8 +190,8 @@ fn file_bytes<R: Files>(files: &R, path: &str) -> Option<u64> {
     Some(found.len()).filter(|_| found.is_file())
 }
 
-/// How many bytes a node takes of the certificate of a search without a proof, which has so many; none where it has so few nodes that
-/// its other lines count.
+/// How many bytes a node takes of the certificate of a search without a proof, which has so many; 0 where it has so few nodes that its
+/// other lines count.
 fn bytes_each(told: &Told, bytes: u64) -> u64 {
     let (File::Cert(cert), Some(_)) = (&told.file, told.ending) else {
         return 0;
@@ -218,6 +240,8 @@ pub(crate) struct Done<'a> {
     pub target: Option<Target<'a>>,
     /// Why standard output hasn't got the text.
     pub untold: Option<io::Error>,
+    /// Whether a certificate that stands at its path was left as it is.
+    pub is_kept: bool,
 }
 
 /// Tells at the end of a job why its file isn't at its path, or where it lies where standard output hasn't got the text. Of
@@ -234,12 +258,22 @@ pub(crate) fn tell_end<R: Files + AllocGlobal + Eprint, E>(
         (Some(target), None, Some(_)) => tell_whole(rt, target),
         _ => {}
     }
-    let Some(Wanted { asked, again }) = wanted else {
+    let Some(
+        Wanted {
+            asked,
+            again,
+            is_needed,
+        },
+    ) = wanted
+    else {
         return;
     };
     if report.status.code == 4 {
         let _ = rt.eprint("What was found:\n");
         let _ = rt.eprint(told.answer.text.as_str());
+    }
+    if !is_needed {
+        return;
     }
     let filed = filed_at(
         rt,
@@ -267,7 +301,13 @@ pub(crate) fn tell_line<R: Files + AllocGlobal + Eprint>(
     tell_untold(rt, done.untold);
     match &report.told {
         Ok(told) => {
-            tell_end(rt, told, report, done, wanted_of(rt, line, told));
+            tell_end(
+                rt,
+                told,
+                report,
+                done,
+                wanted_of(rt, line, told, done.left.units),
+            );
             match line {
                 Line::Cost { .. } | Line::Frames { .. } | Line::Play { .. } => {
                     tell_given(rt, told, done.left.units);

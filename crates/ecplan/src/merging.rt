@@ -74,6 +74,7 @@ fn tell_merge<H: Files + AllocGlobal + Eprint>(
             let wanted = Wanted {
                 asked: Asked::Merged,
                 again: Again::usual(),
+                is_needed: true,
             };
             tell_end(rt, told, report, done, Some(wanted));
         }
@@ -110,6 +111,7 @@ fn merge_units<H: Files + AllocGlobal + Eprint + Print, R: Read + Drop>(
         left: units.left(),
         target,
         untold: output.fault(),
+        is_kept: false,
     };
     tell_merge(rt, merging, &report, done);
     report.status.code

@@ -10,12 +10,13 @@ use std::io::ErrorKind;
 use std::rt::Files;
 use std::{fs, io};
 
-/// The system's numbers of errors: to give a file to another user or group isn't permitted, a folder or a file gives no access, and a
-/// name is too long.
+/// The system's number of an error: to give a file to another user or group isn't permitted.
 const NOT_PERMITTED: i32 = 1;
 
+/// A folder or a file gives no access.
 const NO_ACCESS: i32 = 13;
 
+/// A name is too long.
 const LONG_NAME: i32 = 36;
 
 /// Tells some sentences, with nothing in them but what a terminal shows as it stands.

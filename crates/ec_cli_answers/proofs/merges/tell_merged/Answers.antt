@@ -1,9 +1,11 @@
 use Rattle.ec_cert.specs.Shapes.{cert_view}
-use Rattle.ec_cli_answers.proofs.MergedLemmas.{merge_told}
+use Rattle.ec_cli_answers.specs.Merged.{IsMergeOf}
+use Rattle.ec_cli_answers.proofs.PlanLemmas.{outcome_written}
 use Rattle.ec_cli_answers.proofs.merges.tell_merged.Goals as goal
 
 pub returns-clause-told : goal.returns-clause-told
 returns-clause-told c = λ bytes read.
-    merge_told bytes c.args.units.now (cert_view c.args.cert) c.in_ok-outcome.outcome c.tell_outcome.result read c.requires.right
-    c.in_ok-outcome.ensures.outcome c.in_ok-outcome.ensures.best c.in_ok-outcome.ensures.tree c.in_ok-outcome.ensures.value c.in_ok-outcome.ensures.order c.in_ok-outcome.ensures.rules c.in_ok-outcome.ensures.level
-    c.in_ok-outcome.ensures.proof c.in_ok-outcome.ensures.cut c.tell_outcome.ensures.ok
+    let o = c.in_ok-outcome.ensures in
+    outcome_written (IsMergeOf bytes (cert_view c.args.cert)) c.args.units.now c.in_ok-outcome.outcome c.tell_outcome.result
+    (record { read = read; right = c.requires.right; best = o.best; tree = o.tree; value = o.value; order = o.order; rules = o.rules; level = o.level; proof = o.proof; why = o.cut; asked = o.outcome.0; answer = o.outcome.1 })
+    c.tell_outcome.ensures.ok

@@ -1,18 +1,34 @@
-use Rattle.std.proofs.Common.{◌∙◌, refl, None, Err}
+use Rattle.std.proofs.Common.{◌∙◌, sym, subst, Result}
+use Rattle.std.specs.Prelude.{IfSome}
+use Rattle.ec_wire.specs.Stream.{stream}
 use Rattle.ec_cli_command.specs.Words.{job_of, cert_of}
-use Rattle.ec_cli_refusals.specs.Refusals.{out_of_memory}
+use Rattle.ec_cli_refusals.specs.declared.refusal.Refusal.{Refusal}
+use Rattle.ec_cli_answers.specs.declared.told.Told.{Told}
+use Rattle.ec_cli_run.specs.Runs.{AnswersLine}
 use Rattle.ec_cli_run.proofs.LineLemmas.{needs_none, reads_its_cert, some-none, with_path}
-use Rattle.ec_cli_run.proofs.RunLemmas.{line_reports, nothing_read, tells_more, told_memory}
+use Rattle.ec_cli_run.proofs.RunLemmas.{nothing_read, reads_more, told_memory}
 use Rattle.ec_cli_run.proofs.doing.report_line.Goals as goal
 
-pub returns-in_default-clause-does : goal.returns-in_default-clause-does
-returns-in_default-clause-does g c = tells_more (line_reports c.args.line.now _ c.tell_line-told.result _ None _ c.deliver_report.ensures.told c.deliver_report.ensures.fault (λ _. refl) c.tell_line-told.ensures.read c.tell_line-told.ensures.told) c.deliver_report.ensures.text
+pub returns-in_default-clause-told : goal.returns-in_default-clause-told
+returns-in_default-clause-told g c sound =
+    subst (λ (x : Result Told Refusal). IfSome (g.R.Read.remaining (stream c.args.units.now)) (λ bytes. AnswersLine (job_of c.args.line.now) (cert_of c.args.line.now) bytes x)) (sym c.deliver_report.ensures.told) (c.tell_line-told.ensures.told sound)
 
-pub returns-in-Ok-clause-does : goal.returns-in-Ok-clause-does
-returns-in-Ok-clause-does g c = tells_more (line_reports c.args.line.now _ c.tell_line-told-in-Ok.result _ c.write_late-fault.result _ c.deliver_report-in-Ok.ensures.told c.deliver_report-in-Ok.ensures.fault (λ none. absurd (some-none (with_path _ c.in-Some.is c.out.ensures ∙ none))) c.tell_line-told-in-Ok.ensures.read c.tell_line-told-in-Ok.ensures.told) c.deliver_report-in-Ok.ensures.text
+pub returns-in_default-clause-read : goal.returns-in_default-clause-read
+returns-in_default-clause-read g c = reads_more (λ _ e. c.deliver_report.ensures.told ∙ e) c.tell_line-told.ensures.read
 
-pub returns-in-Err-clause-does : goal.returns-in-Err-clause-does
-returns-in-Err-clause-does g c = tells_more (line_reports c.args.line.now _ (Err out_of_memory) _ None _ c.deliver_report-in-Err.ensures.told c.deliver_report-in-Err.ensures.fault (λ _. refl) (nothing_read _ c.args.units.now _ c.requires.units) (λ sound. told_memory (job_of c.args.line.now) (cert_of c.args.line.now) (needs_none c.args.line.now) (reads_its_cert c.args.line.now) _)) c.deliver_report-in-Err.ensures.text
+pub returns-in-Ok-clause-told : goal.returns-in-Ok-clause-told
+returns-in-Ok-clause-told g c sound =
+    subst (λ (x : Result Told Refusal). IfSome (g.R.Read.remaining (stream c.args.units.now)) (λ bytes. AnswersLine (job_of c.args.line.now) (cert_of c.args.line.now) bytes x)) (sym c.deliver_report-in-Ok.ensures.told) (c.tell_line-told-in-Ok.ensures.told sound)
+
+pub returns-in-Ok-clause-read : goal.returns-in-Ok-clause-read
+returns-in-Ok-clause-read g c = reads_more (λ _ e. c.deliver_report-in-Ok.ensures.told ∙ e) c.tell_line-told-in-Ok.ensures.read
+
+pub returns-in-Err-clause-told : goal.returns-in-Err-clause-told
+returns-in-Err-clause-told g c sound =
+    subst (λ (x : Result Told Refusal). IfSome (g.R.Read.remaining (stream c.args.units.now)) (λ bytes. AnswersLine (job_of c.args.line.now) (cert_of c.args.line.now) bytes x)) (sym c.deliver_report-in-Err.ensures.told) (told_memory (job_of c.args.line.now) (cert_of c.args.line.now) (needs_none c.args.line.now) (reads_its_cert c.args.line.now) _)
+
+pub returns-in-Err-clause-read : goal.returns-in-Err-clause-read
+returns-in-Err-clause-read g c = nothing_read _ c.args.units.now _ c.requires.units
 
 pub returns-in-Ok-clause-fault : goal.returns-in-Ok-clause-fault
 returns-in-Ok-clause-fault g c none = absurd (some-none (with_path _ c.in-Some.is c.out.ensures ∙ none))

@@ -1,6 +1,6 @@
 use Rattle.std.proofs.Common.{◌≡◌, ◌++◌, map, drop, length}
 use Rattle.ec_units.specs.Views.{unit_view}
-use Rattle.ec_cli_text.specs.Output.{places_of}
+use Rattle.ec_cli_text.specs.Plans.{places_of}
 use Rattle.ec_cli_text.proofs.PlaceLemmas.{unplaced_from}
 use Rattle.ec_cli_text.proofs.placing.plan_of.Given as goal
 

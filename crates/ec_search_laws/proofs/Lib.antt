@@ -1,0 +1,2 @@
+pub mod ChildLemmas
+pub mod NodeLemmas
