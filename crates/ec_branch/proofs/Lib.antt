@@ -4,6 +4,7 @@ pub mod KnownLemmas
 pub mod LeafLemmas
 pub mod OneGreedyLemmas
 pub mod OrderLemmas
+pub mod PlacingLemmas
 pub mod ReadyLemmas
 pub mod RoomLeafLemmas
 pub mod StackLemmas

@@ -19,10 +19,10 @@ use Rattle.ec_branch.specs.Weights.{ComesBefore, IsSearchOrder}
 use Rattle.ec_branch.proofs.WalkLemmas.{In-mid}
 
 -- how often a number stands in a list
-abbrev is_it : ℕ → ℕ → ℕ
+abbrev pub is_it : ℕ → ℕ → ℕ
 is_it u x = if u == x then 1 else 0
 
-abbrev times : ℕ → List ℕ → ℕ
+abbrev pub times : ℕ → List ℕ → ℕ
 times u [] = 0
 times u (x ∷ xs) = is_it u x + times u xs
 
@@ -119,7 +119,7 @@ full f (suc n) low whole u h =
     ]
 
 -- in an order each unit stands once
-once_each : (n u : ℕ) (xs : List ℕ) → IsOrder n xs → u < n → times u xs ≡ 1
+pub once_each : (n u : ℕ) (xs : List ℕ) → IsOrder n xs → u < n → times u xs ≡ 1
 once_each n u xs is h = full (λ w. times w xs) n (λ w. at_most_once w xs is.once) (all_sum n xs is.below ∙ is.count) u h
 
 as_often : (n u : ℕ) (xs ys : List ℕ) → IsOrder n xs → IsOrder n ys → times u xs ≡ times u ys
@@ -130,7 +130,7 @@ as_often n u xs ys one two =
     ]
 
 -- what stands in a list has an index
-index_of : (u : ℕ) (xs : List ℕ) → 1 ≤ times u xs → (j : ℕ) × (j < length xs) × (get_or xs j 0 ≡ u)
+pub index_of : (u : ℕ) (xs : List ℕ) → 1 ≤ times u xs → (j : ℕ) × (j < length xs) × (get_or xs j 0 ≡ u)
 index_of u [] h = absurd (omega (arith, h))
 index_of u (x ∷ xs) h =
     elim (cases_eq u x) [

@@ -2,7 +2,7 @@
 -- Readiness (`IsReadyFor`) comes from a count of the units without a place (`ready_from`, `free_count`), so no
 -- pigeonhole is needed: `order_ready` for an order that is a permutation, `reached_ready` for a prefix that the
 -- children reach.
-use Rattle.std.proofs.Common.{◌≡◌, ℕ, zero, suc, ◌+◌, ◌-◌, ◌<◌, ◌≤◌, ◌==◌, Bool, false, All, List, [], ◌∷◌, map, length, set, take, drop, get_or, slice_get, Option, Some, None, refl, ap, sym, subst, ◌∙◌, arith, take_all, length-drop, set-set}
+use Rattle.std.proofs.Common.{◌≡◌, ℕ, zero, suc, ◌+◌, ◌-◌, ◌<◌, ◌≤◌, ◌==◌, Bool, false, All, List, [], ◌∷◌, map, length, set, take, drop, get_or, slice_get, Option, Some, None, refl, ap, sym, subst, ◌∙◌, arith, take_all, length-drop}
 use Rattle.std.specs.List.{list_any}
 use Rattle.std.proofs.lemmas.List.{drop_more, length-map, length-set}
 use Rattle.std.proofs.lemmas.List.Elements.{All-nil, All-cons, All-head, All-tail}
@@ -113,10 +113,6 @@ children_long line ps (u ∷ order) (p ∷ places) h = let rest = children_long 
 pub order_of_loads : (us : List SyncUnit) (order : List ℕ) → IsOrder (length us) order → IsOrder (length (loads_of us)) order
 order_of_loads us order is = subst (λ k. IsOrder k order) (sym (length-map us load_of)) is
 
--- what is held after the prefix
-pub held_prefix : (loads : List Load) (n : ℕ) (order : List ℕ) (prefix : List Place) (first held : Held) → first ≡ record { loads = loads; slots = n; places = no_places loads } → held ≡ record { loads = first.loads; slots = first.slots; places = with_places first.places order prefix } → held ≡ record { loads = loads; slots = n; places = prefix_of loads order prefix }
-held_prefix loads n order prefix first held at made = made ∙ ap (λ (w : Held). record { loads = w.loads; slots = w.slots; places = with_places w.places order prefix }) at
-
 -- the units after the prefix
 pub later_units : (order : List ℕ) (k : ℕ) → take (length order - k) (drop k order) ≡ drop k order
 later_units order k = take_all (length order - k) (drop k order) (omega (arith, length-drop k order))
@@ -142,55 +138,3 @@ pub with_more : (ps : Prefix) (order : List ℕ) (places : List Place) (i u d : 
 with_more ps order places i u d e h k is =
     (λ j. with_places ps (drop_more order i d h j) (drop_more places i e k j))
     ∙ (λ j. with_places (set ps (sym is j) (Some (get_or places i e))) (drop (i + 1) order) (drop (i + 1) places))
-
-set-none : (ps : Prefix) (u : ℕ) → slice_get ps u ≡ Some None → set ps u None ≡ ps
-set-none [] u h = refl
-set-none (p ∷ ps) zero h = let e : p ≡ None = cc in λ j. sym e j ∷ ps
-set-none (p ∷ ps) (suc u) h = ap (λ w. p ∷ w) (set-none ps u h)
-
-undo_at : (line : Line) (ps : Prefix) (order : List ℕ) (places : List Place) (j d : ℕ) → IsReadyFor line.loads line.slots ps order → AreChildren line ps order places → suc j ≤ length places
-    → set (with_places ps order (take (suc j) places)) (get_or order j d) None ≡ with_places ps order (take j places)
-undo_at line ps order [] j d ready kids low = absurd (omega arith)
-undo_at line ps [] (p ∷ places) j d ready kids low = absurd kids
-undo_at line ps (u ∷ order) (p ∷ places) zero d ready kids low = set-set ps u (Some p) None ∙ set-none ps u ready.0
-undo_at line ps (u ∷ order) (p ∷ places) (suc j) d ready kids low =
-    let range = children-In line ps u p kids.0 in
-    undo_at line (set ps u (Some p)) order places j d (ready.1 p range.0 range.2) kids.1 (omega arith)
-
--- one place of the prefix less
-pub undo_step : (line : Line) (ps : Prefix) (order : List ℕ) (places : List Place) (i j u d : ℕ) → IsReadyFor line.loads line.slots ps order → AreChildren line ps order places → j + 1 ≡ i → i ≤ length places → u ≡ get_or order j d
-    → set (with_places ps order (take i places)) u None ≡ with_places ps order (take j places)
-undo_step line ps order places i j u d ready kids is low at =
-    let e : i ≡ suc j = omega arith in
-    (λ r. set (with_places ps order (take (e r) places)) (at r) None) ∙ undo_at line ps order places j d ready kids (omega arith)
-
-length-with : (ps : Prefix) (order : List ℕ) (places : List Place) → length (with_places ps order places) ≡ length ps
-length-with ps order [] = refl
-length-with ps [] (p ∷ places) = refl
-length-with ps (u ∷ order) (p ∷ places) = length-with (set ps u (Some p)) order places ∙ length-set ps u (Some p)
-
--- the order still names units that there are
-pub still_below :
-    (first held walked : Held) (order : List ℕ) (prefix : List Place) → IsOrder (length first.loads) order → first.places ≡ no_places first.loads →
-    held ≡ record { loads = first.loads; slots = first.slots; places = with_places first.places order prefix } → walked ≡ held → All (λ u. u < length walked.places) order
-still_below first held walked order prefix is none placed same =
-    let long : length first.loads ≡ length walked.places =
-    sym (ap (λ (w : Held). length w.places) (same ∙ placed) ∙ length-with first.places order prefix ∙ ap length none ∙ length-map first.loads (λ _. None)) in
-    subst (λ k. All (λ u. u < k) order) long is.below
-
--- no unit has a place again
-pub back_again :
-    (rules : Rules) (first held walked last : Held) (order : List ℕ) (prefix : List Place) →
-    IsOrder (length first.loads) order → IsReachedPrefix (line_of rules first) order prefix → first.places ≡ no_places first.loads →
-    held ≡ record { loads = first.loads; slots = first.slots; places = with_places first.places order prefix } → walked ≡ held →
-    ((ruled : Rules) (before : Prefix) → IsReadyFor walked.loads walked.slots before order → AreChildren (line_of ruled walked) before order prefix → walked.places ≡ with_places before order prefix
-    → last ≡ record { loads = walked.loads; slots = walked.slots; places = before }) →
-    last ≡ first
-back_again rules first held walked last order prefix is reached none placed same back =
-    let whole : walked ≡ record { loads = first.loads; slots = first.slots; places = prefix_of first.loads order prefix } =
-    same ∙ placed ∙ (λ j. record { loads = first.loads; slots = first.slots; places = with_places (none j) order prefix }) in
-    back rules (no_places first.loads)
-    (subst (λ (w : Held). IsReadyFor w.loads w.slots (no_places first.loads) order) (sym whole) (order_ready first.loads first.slots order is))
-    (subst (λ (w : Held). AreChildren (line_of rules w) (no_places first.loads) order prefix) (sym whole) reached)
-    (ap (λ (w : Held). w.places) whole)
-    ∙ (λ j. record { loads = (ap (λ (w : Held). w.loads) whole) j; slots = (ap (λ (w : Held). w.slots) whole) j; places = (sym none) j })

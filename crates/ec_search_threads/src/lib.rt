@@ -21,3 +21,4 @@ pub use crew::{CrewFault, Crewed, search_by_crew};
 pub use ended::Ended;
 pub use first::opening_plan;
 pub use gate::{Gate, Quiet};
+pub use turn::Turn;

@@ -6,7 +6,7 @@ ghost use Rattle.ec_cert.specs.Parts.{IsPart};
 use crate::ended::Ended;
 use crate::first::opening_plan;
 use crate::gate::Quiet;
-use crate::ground::{Ground, ground_of};
+use crate::ground::{OwnGround, ground_of};
 use crate::pieces::{opened, shared_out};
 use crate::post::Post;
 use crate::work::worked_off;
@@ -52,7 +52,7 @@ fn split_up<S: Search, R: Wait>(
     alloc: Global,
     shared: &Shared<S>,
     post: &mut Post<'_, '_, '_, S>,
-    ground: &mut Ground<S>,
+    ground: &mut OwnGround<S>,
     pieces: usize,
     workers: usize,
 ) -> Option<Ended> {

@@ -12,7 +12,7 @@ ghost use Rattle.ec_search_threads.specs.declared.turn.Turn.TheVariants.{Stopped
 use crate::copying::has_nodes;
 use crate::ended::Ended;
 use crate::gate::Gate;
-use crate::ground::Ground;
+use crate::ground::OwnGround;
 use crate::post::Post;
 use crate::watch::CrewWatch;
 use ec_book::{BookFault, Took};
@@ -22,8 +22,8 @@ use ec_cert::Subtree;
 use std::alloc::{AllocError, Global};
 use std::sync::Wait;
 
-/// What became of a piece.
-pub(crate) enum Turn {
+/// What became of a piece in a turn of a worker, alone or beside others.
+pub enum Turn {
     /// Its subtree was reported.
     Reported,
     /// It is to be explored again, at this value of the book.
@@ -87,7 +87,7 @@ fn explored<'a, S: Search, R: Wait, G: Gate>(
     alloc: Global,
     shared: &'a Shared<S>,
     post: &'a mut Post<'_, '_, '_, S>,
-    ground: &mut Ground<S>,
+    ground: &mut OwnGround<S>,
     took: &Took,
     value: Option<u64>,
     reads: bool,
@@ -112,10 +112,8 @@ fn explored<'a, S: Search, R: Wait, G: Gate>(
         reads,
         stop: None,
     };
-    let Ground { loads, rest, .. } = ground;
-    let explored = explore_in(
-        alloc, loads, rest, order, rules, prefix, &mut watch, took.grant,
-    );
+    let OwnGround { ground, .. } = ground;
+    let explored = explore_in(alloc, ground, order, rules, prefix, &mut watch, took.grant);
     (explored, watch.stop)
 }
 
@@ -125,7 +123,7 @@ pub(crate) fn take_turn<S: Search, R: Wait, G: Gate>(
     alloc: Global,
     shared: &Shared<S>,
     post: &mut Post<'_, '_, '_, S>,
-    ground: &mut Ground<S>,
+    ground: &mut OwnGround<S>,
     took: &Took,
     value: Option<u64>,
     reads: bool,

@@ -6,7 +6,7 @@ ghost use Rattle.ec_symmetry.specs.Orders.{IsReachedPrefix};
 
 use crate::ended::Ended;
 use crate::gate::Gate;
-use crate::ground::{Ground, ground_of};
+use crate::ground::{OwnGround, ground_of};
 use crate::pace::Pace;
 use crate::pieces::spent;
 use crate::post::Post;
@@ -33,7 +33,7 @@ pub(crate) fn worked_off<S: Search, R: Wait, G: Gate>(
     alloc: Global,
     shared: &Shared<S>,
     post: &mut Post<'_, '_, '_, S>,
-    ground: &mut Ground<S>,
+    ground: &mut OwnGround<S>,
     took: &Took,
     gate: &G,
 ) -> Option<Ended>
@@ -64,7 +64,7 @@ fn worked<S: Search, R: Wait, G: Gate>(
     alloc: Global,
     shared: &Shared<S>,
     post: &mut Post<'_, '_, '_, S>,
-    ground: &mut Ground<S>,
+    ground: &mut OwnGround<S>,
     pace: &mut Pace,
     gate: &G,
 ) -> Option<Ended> {

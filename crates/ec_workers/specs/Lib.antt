@@ -1,5 +1,5 @@
 pub mod Answers
-pub mod IsClear
+pub mod IsGroundOf
 pub mod Outcomes
 pub mod IsRoomFor
 pub mod Turns

@@ -3,8 +3,8 @@ use Rattle.std.specs.Prelude.{◌≡◌, ℕ, Option, Some, None}
 use Rattle.ec_cert.specs.IsBestPlan.{value_of}
 use Rattle.ec_book.specs.Steps.{IsBelow}
 use Rattle.ec_book.specs.Views.{BookView}
-use Rattle.ec_workers.specs.declared.turn.Turn.{Turn}
-use Rattle.ec_workers.specs.declared.turn.Turn.TheVariants as became
+use Rattle.ec_search_threads.specs.declared.turn.Turn.{Turn}
+use Rattle.ec_search_threads.specs.declared.turn.Turn.TheVariants as became
 
 -- there is a value, and it is below the other
 abbrev pub IsLowered : Option ℕ → Option ℕ → Type 0

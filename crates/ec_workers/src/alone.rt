@@ -5,12 +5,12 @@ ghost use Rattle.ec_units.specs.Load.{loads_of};
 ghost use Rattle.ec_loads.specs.Line.{line_by};
 ghost use Rattle.ec_symmetry.specs.Orders.{IsOrder, IsReachedPrefix};
 ghost use Rattle.ec_book.specs.Books.{IsBookOf, IsSameSearch};
-ghost use Rattle.ec_workers.specs.IsClear.{IsClear};
+ghost use Rattle.ec_workers.specs.IsGroundOf.{IsGroundOf};
 
-use crate::desk::Desk;
-use crate::turn::{ALONE, Turn, take_turn};
+use crate::turn::{ALONE, take_turn};
 use ec_book::{Book, Taken, Took};
-use ec_search_threads::{Ended, Gate};
+use ec_branch::Ground;
+use ec_search_threads::{Ended, Gate, Turn};
 use ec_units::Units;
 use std::alloc::Global;
 use std::sync::Wait;
@@ -24,7 +24,7 @@ fn worked_off<R: Wait, G: Gate>(
     alloc: Global,
     units: &Units,
     order: &[u8],
-    desk: &mut Desk,
+    ground: &mut Ground,
     book: &mut Book,
     took: Took,
     gate: &G,
@@ -33,13 +33,13 @@ fn worked_off<R: Wait, G: Gate>(
     requires book { IsBookOf units.now.units units.now.slots order.now book.old.rules book.old }
     requires reached { IsReachedPrefix (line_by book.old.rules (loads_of units.now.units) units.now.slots) order.now took.prefix }
     requires some { 1 ≤ took.grant }
-    requires clear { IsClear units.now.units units.now.slots desk.old.loads desk.old.rest }
-    ensures clear { IsClear units.now.units units.now.slots desk.new.loads desk.new.rest }
+    requires ground { IsGroundOf units.now.units units.now.slots ground.old.loads }
+    ensures ground { IsGroundOf units.now.units units.now.slots ground.new.loads }
     ensures same { IsSameSearch book.old book.new }
 {
     let mut value = took.value;
     for _ in rt.forever() {
-        match take_turn(alloc, units, order, desk, book, &took, value, gate) {
+        match take_turn(alloc, units, order, ground, book, &took, value, gate) {
             Turn::Reported => return None,
             Turn::Again(now) => value = now,
             Turn::Stopped(ended) => return Some(ended),
@@ -62,7 +62,7 @@ pub(crate) fn work<R: Wait, G: Gate>(
     requires book { IsBookOf units.now.units units.now.slots order.now book.old.rules book.old }
     ensures same { IsSameSearch book.old book.new }
 {
-    let Ok(mut desk) = Desk::new(alloc, units) else {
+    let Ok(mut ground) = Ground::new(alloc, units) else {
         return Ended::Memory;
     };
     for _ in rt.forever() {
@@ -74,7 +74,7 @@ pub(crate) fn work<R: Wait, G: Gate>(
             Ok(_) => return Ended::Done,
             Err(_) => return Ended::Memory,
         };
-        if let Some(ended) = worked_off(rt, alloc, units, order, &mut desk, book, took, gate) {
+        if let Some(ended) = worked_off(rt, alloc, units, order, &mut ground, book, took, gate) {
             return ended;
         }
     }

@@ -5,7 +5,6 @@ mod alone;
 mod begin;
 mod certify;
 mod crewed;
-mod desk;
 mod planning;
 mod resuming;
 mod room;

@@ -7,33 +7,22 @@ ghost use Rattle.ec_loads.specs.Search.{IsPartialTree, node_count};
 ghost use Rattle.ec_symmetry.specs.Orders.{IsOrder, IsReachedPrefix, prefix_of};
 ghost use Rattle.ec_cert.specs.Shapes.{shape_of};
 ghost use Rattle.ec_book.specs.Books.{IsBookOf, IsSameSearch};
-ghost use Rattle.ec_workers.specs.IsClear.{IsClear};
+ghost use Rattle.ec_workers.specs.IsGroundOf.{IsGroundOf};
 ghost use Rattle.ec_workers.specs.Turns.{IsLowered, FindsLower};
 ghost use Rattle.ec_search_threads.specs.declared.ended.Ended.{Ended};
-ghost use Rattle.ec_workers.specs.declared.turn.Turn.TheVariants.{Stopped};
+ghost use Rattle.ec_search_threads.specs.declared.turn.Turn.TheVariants.{Stopped};
 
-use crate::desk::Desk;
 use crate::watch::Watch;
 use ec_book::{Book, BookFault, Took};
-use ec_branch::explore_in;
+use ec_branch::{Ground, explore_in};
 use ec_cert::Subtree;
 use ec_loads::Plan;
-use ec_search_threads::{Ended, Gate, has_nodes};
+use ec_search_threads::{Ended, Gate, Turn, has_nodes};
 use ec_units::Units;
 use std::alloc::Global;
 
 /// The number of the only worker.
 pub(crate) const ALONE: usize = 0;
-
-/// What became of a piece.
-pub(crate) enum Turn {
-    /// Its subtree was reported.
-    Reported,
-    /// It is to be explored again, at this value of the book.
-    Again(Option<u64>),
-    /// The worker ends.
-    Stopped(Ended),
-}
 
 /// Offers a plan that was kept; false where memory was refused to it.
 pub(crate) fn offer(book: &mut Book, kept: Option<Plan>) -> bool
@@ -93,7 +82,7 @@ pub(crate) fn take_turn<G: Gate>(
     alloc: Global,
     units: &Units,
     order: &[u8],
-    desk: &mut Desk,
+    ground: &mut Ground,
     book: &mut Book,
     took: &Took,
     value: Option<u64>,
@@ -103,8 +92,8 @@ pub(crate) fn take_turn<G: Gate>(
     requires book { IsBookOf units.now.units units.now.slots order.now book.old.rules book.old }
     requires reached { IsReachedPrefix (line_by book.old.rules (loads_of units.now.units) units.now.slots) order.now took.now.prefix }
     requires some { 1 ≤ took.now.grant }
-    requires clear { IsClear units.now.units units.now.slots desk.old.loads desk.old.rest }
-    ensures clear { IsClear units.now.units units.now.slots desk.new.loads desk.new.rest }
+    requires ground { IsGroundOf units.now.units units.now.slots ground.old.loads }
+    ensures ground { IsGroundOf units.now.units units.now.slots ground.new.loads }
     ensures same { IsSameSearch book.old book.new }
     ensures again { FindsLower value book.new result }
 {
@@ -120,11 +109,8 @@ pub(crate) fn take_turn<G: Gate>(
         stopped: false,
     };
     let prefix = took.prefix.as_slice();
-    let Desk { loads, rest } = desk;
     let rules = book.rules();
-    let explored = explore_in(
-        alloc, loads, rest, order, rules, prefix, &mut watch, took.grant,
-    );
+    let explored = explore_in(alloc, ground, order, rules, prefix, &mut watch, took.grant);
     let Watch { kept, stopped, .. } = watch;
     let offered = offer(book, kept);
     match explored {

@@ -3,52 +3,33 @@ use Rattle.ec_loads.specs.Held.{no_places}
 use Rattle.ec_loads.specs.Line.{line_of}
 use Rattle.ec_cert.specs.Shapes.{shape_of}
 use Rattle.ec_symmetry.specs.Ruled.{line_rules}
-use Rattle.ec_branch.proofs.ReadyLemmas.{children_long, held_prefix, later_units, reached_ready, explored, still_below, back_again}
+use Rattle.ec_branch.proofs.ReadyLemmas.{children_long, later_units, reached_ready, explored}
 use Rattle.ec_branch.proofs.exploring.explore_in.Goals as goal
 
 pub place_all-requires-clause-long : goal.place_all-requires-clause-long
-place_all-requires-clause-long g c = let h = c.args.loads.now in children_long (line_of (line_rules c.args.rules) h) (no_places h.loads) c.args.order.now c.args.prefix.now c.requires.reached
+place_all-requires-clause-long g c = let h = c.args.ground.now.loads in children_long (line_of (line_rules c.args.rules) h) (no_places h.loads) c.args.order.now c.args.prefix.now c.requires.reached
 
 pub slice_bounds-later-count : goal.slice_bounds-later-count
-slice_bounds-later-count g c = let h = c.args.loads.now in children_long (line_of (line_rules c.args.rules) h) (no_places h.loads) c.args.order.now c.args.prefix.now c.requires.reached
+slice_bounds-later-count g c = let h = c.args.ground.now.loads in children_long (line_of (line_rules c.args.rules) h) (no_places h.loads) c.args.order.now c.args.prefix.now c.requires.reached
 
 pub slice_bounds-later-start : goal.slice_bounds-later-start
-slice_bounds-later-start g c = let h = c.args.loads.now in children_long (line_of (line_rules c.args.rules) h) (no_places h.loads) c.args.order.now c.args.prefix.now c.requires.reached
+slice_bounds-later-start g c = let h = c.args.ground.now.loads in children_long (line_of (line_rules c.args.rules) h) (no_places h.loads) c.args.order.now c.args.prefix.now c.requires.reached
 
-pub remove_all-requires-clause-long : goal.remove_all-requires-clause-long
-remove_all-requires-clause-long g c = let h = c.args.loads.now in children_long (line_of (line_rules c.args.rules) h) (no_places h.loads) c.args.order.now c.args.prefix.now c.requires.reached
-
-pub walk-walked-requires-clause-ready : goal.walk-walked-requires-clause-ready
-walk-walked-requires-clause-ready g c =
-    let h = c.args.loads.now in
+pub walk-requires-clause-ready : goal.walk-requires-clause-ready
+walk-requires-clause-ready g c =
+    let h = c.args.ground.now.loads in
     let order = c.args.order.now in
     let prefix = c.args.prefix.now in
-    reached_ready (line_rules c.args.rules) h.loads h.slots order prefix c.place_all.new.loads _ c.requires.order c.requires.reached
-    (held_prefix h.loads h.slots order prefix h c.place_all.new.loads (λ j. record { loads = h.loads; slots = h.slots; places = c.requires.empty j }) c.place_all.ensures.placed)
-    (later_units order (length prefix))
-
-pub remove_all-requires-clause-below : goal.remove_all-requires-clause-below
-remove_all-requires-clause-below g c = still_below c.args.loads.now c.place_all.new.loads c.walk-walked.new.loads c.args.order.now c.args.prefix.now c.requires.order c.requires.empty c.place_all.ensures.placed c.walk-walked.ensures.same
-
-pub returns-in_err-tree-clause-same : goal.returns-in_err-tree-clause-same
-returns-in_err-tree-clause-same g c =
-    back_again (line_rules c.args.rules) c.args.loads.now c.place_all.new.loads c.walk-walked.new.loads c.remove_all.new.loads c.args.order.now c.args.prefix.now
-    c.requires.order c.requires.reached c.requires.empty c.place_all.ensures.placed c.walk-walked.ensures.same c.remove_all.ensures.removed
-
-pub returns-clause-same : goal.returns-clause-same
-returns-clause-same g c =
-    back_again (line_rules c.args.rules) c.args.loads.now c.place_all.new.loads c.walk-walked.new.loads c.remove_all.new.loads c.args.order.now c.args.prefix.now
-    c.requires.order c.requires.reached c.requires.empty c.place_all.ensures.placed c.walk-walked.ensures.same c.remove_all.ensures.removed
+    reached_ready (line_rules c.args.rules) h.loads h.slots order prefix c.place_all.new.loads _ c.requires.order c.requires.reached c.place_all.ensures.placed (later_units order (length prefix))
 
 pub returns-clause-least : goal.returns-clause-least
 returns-clause-least g c =
-    let h = c.args.loads.now in
+    let h = c.args.ground.now.loads in
     let order = c.args.order.now in
     let prefix = c.args.prefix.now in
     let walked =
-    explored (line_rules c.args.rules) h.loads h.slots (g.G.Guide.frame c.args.guide.now).floor order prefix c.place_all.new.loads _ None _ c.walk-walked.new.search.value c.walk-walked.new.search.left
-    (g.G.Guide.halted c.walk-walked.new.guide) (shape_of c.in_ok-tree.tree)
-    (held_prefix h.loads h.slots order prefix h c.place_all.new.loads (λ j. record { loads = h.loads; slots = h.slots; places = c.requires.empty j }) c.place_all.ensures.placed)
+    explored (line_rules c.args.rules) h.loads h.slots (g.G.Guide.frame c.args.guide.now).floor order prefix c.place_all.new.loads _ None _ c.walk.new.search.value c.walk.new.search.left
+    (g.G.Guide.halted c.walk.new.guide) (shape_of c.in_ok-tree.tree) c.place_all.ensures.placed
     (later_units order (length prefix)) c.in_ok-tree.ensures.walked in
     walked.fair (λ x low bounds. tt)
 

@@ -1,26 +1,15 @@
-use Rattle.std.proofs.Common.{◌+◌, length, drop, ap, sym, ◌∙◌, arith}
-use Rattle.std.proofs.lemmas.List.{length-set}
-use Rattle.ec_loads.specs.Held.{Held}
-use Rattle.ec_symmetry.specs.Orders.{with_places}
-use Rattle.ec_bounds.proofs.HeldLemmas.{rest_follows}
-use Rattle.ec_branch.proofs.ReadyLemmas.{with_more}
+use Rattle.std.proofs.Common.{◌<◌, All, sym, subst, ◌∙◌}
+use Rattle.ec_branch.proofs.PlacingLemmas.{standing_whole}
 use Rattle.ec_branch.proofs.exploring.place_all.Goals as goal
 
-pub loop-i-preserved : goal.loop-i-preserved
-loop-i-preserved c =
-    let inv = c.loop-i.invariant in
-    let u = c.from-unit.result in
-    let i = c.loop-i.i in
-    let order = c.args.order.now in
-    let prefix = c.args.prefix.now in
-    let made = c.place.ensures in
-    record {
-      loads = ap (λ (w : Held). w.loads) made ∙ inv.loads;
-      slots = ap (λ (w : Held). w.slots) made ∙ inv.slots;
-      count = ap (λ (w : Held). length w.places) made ∙ length-set c.loop-i.loads.places u _ ∙ inv.count;
-      left = rest_follows c.loop-i.loads c.place.new.self c.loop-i.rest c.placed.new.self u _ inv.left made c.placed.ensures;
-      places =
-          ap (λ (w : Held). with_places w.places (drop (i + 1) order) (drop (i + 1) prefix)) made
-          ∙ sym (with_more c.loop-i.loads.places order prefix i u _ _ (omega arith) c.loop-i-test.true c.from-unit.ensures)
-          ∙ inv.places;
-    }
+pub place_after-requires-clause-below : goal.place_after-requires-clause-below
+place_after-requires-clause-below c = subst (λ n. All (λ u. u < n) c.args.order.now) (sym (c.remove_after.ensures.count ∙ c.standing-kept.ensures.each)) c.requires.order.below
+
+pub returns-clause-placed : goal.returns-clause-placed
+returns-clause-placed c =
+    let held = c.remove_after.ensures in
+    let whole =
+    standing_whole c.args.loads.now.loads c.remove_after.new.loads.places c.args.order.now c.args.prefix.now c.standing-kept.result c.requires.order
+    (held.count ∙ c.standing-kept.ensures.each) c.standing-kept.ensures.few c.requires.long
+    (λ j e less. held.stand j less ∙ c.standing-kept.ensures.stand j e less) held.free in
+    c.place_after.ensures.placed ∙ (λ j. record { loads = held.loads j; slots = held.slots j; places = whole j })
