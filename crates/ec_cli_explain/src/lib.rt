@@ -6,7 +6,7 @@ mod plain;
 mod sheet;
 
 pub use ec_cli_hints::{
-    Again, Asked, Cycle, Filed, Found, Inputs, Written, quoted_path, room_beside,
+    Again, Asked, Cycle, Filed, Found, Inputs, Written, misread, quoted_path, room_beside,
 };
 pub use explaining::{advice, explain};
 pub use plain::{plain_text, shown_text};

@@ -117,7 +117,7 @@ impl KeepReason {
                 "It holds a proof for the same units: where check says that it is right nothing better can be found, else give another path"
             }
             KeepReason::Changed => {
-                "It isn't the text any more that the search began with, and is left as it is. The plan was told"
+                "What the search began with doesn't stand there any more, so nothing is written there. The plan was told"
             }
             KeepReason::Cheaper => {
                 "Its places make a busiest tick that costs less than that of this plan, as cost tells: give another path"

@@ -5,6 +5,7 @@
 
 mod advising;
 mod again;
+mod base;
 mod certs;
 mod checks;
 mod cycle;
@@ -33,6 +34,7 @@ mod units;
 
 pub use advising::{Asked, Filed, Found, Written, counsel, room_beside};
 pub use again::Again;
+pub use base::misread;
 pub use cycle::Cycle;
 pub use inputs::Inputs;
 pub use quoted::{PIECE, quoted_path};

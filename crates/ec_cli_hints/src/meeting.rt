@@ -14,7 +14,7 @@ const MOST_OF_TWO: u32 = 2972;
 /// The most bytes of two units in one frame.
 const MOST_BYTES: u32 = 1474;
 
-/// Two units whose periods, both above 1, have no common divisor but 1: in some tick both travel, whatever their phases are.
+/// Two units of different periods that have no common divisor but 1: in some tick both travel, whatever their phases are.
 #[derive(Clone, Copy)]
 pub struct Meeting {
     pub periods: (u16, u16),
@@ -44,9 +44,9 @@ impl fmt::Display for Meeting {
     }
 }
 
-/// Whether two periods are above 1 and have no common divisor but 1.
+/// Whether two periods are different and have no common divisor but 1.
 fn are_coprime(one: u16, other: u16) -> bool {
-    one > 1 && other > 1 && times(u64::from(one), u64::from(other)) == u64::from(other)
+    one != other && times(u64::from(one), u64::from(other)) == u64::from(other)
 }
 
 /// The least bytes of a unit of which no two go into one frame, also in one datagram.

@@ -69,6 +69,9 @@ impl Area {
         let Area { at, bytes } = self;
         if at < 4096 {
             out.add(format_args!("{key} = {at} is below 4096, where a slave has registers.\n"));
+            if at >= 1000 {
+                out.add(format_args!("Is {at} of base 16? Then write {key} = 0x{at}.\n"));
+            }
             out.add(REGISTERS);
         } else if at > 65535 {
             out.add(format_args!("{key} = {at} is above 65535, the last address.\n"));

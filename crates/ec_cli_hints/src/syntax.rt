@@ -32,7 +32,7 @@ fn is_cert(text: &str) -> bool {
 }
 
 /// What a text is that isn't one of units, as far as that is seen.
-fn kind_of(text: &str) -> Option<&'static str> {
+pub(crate) fn kind_of(text: &str) -> Option<&'static str> {
     if is_cert(text) {
         return Some(
             "It is a certificate, and the file of the units is wanted here. A command that reads a certificate takes it behind --cert.\n",

@@ -1,5 +1,6 @@
 //! What is told of each refusal.
 
+use crate::base::add_marked;
 use crate::certs::tell_cert;
 use crate::checks::{tell_check, tell_no_plan};
 use crate::inputs::{Doc, Inputs};
@@ -77,14 +78,21 @@ fn words_of_play(fault: PlayFault) -> &'static str {
     }
 }
 
+/// Tells that a text, which begins so, is too large for one of units, and what it is where that is seen.
+fn tell_large(out: &mut Draft, text: &str) {
+    out.add("The unit text is too large: at most 1048576 bytes are read.");
+    match syntax::kind_of(text) {
+        Some(kind) => out.add(format_args!("\n{kind}")),
+        None => out.add(" Is it the right file?\n"),
+    }
+}
+
 /// Tells what is refused, of units that are this document.
 fn tell(out: &mut Draft, inputs: &Inputs<'_>, doc: Doc<'_>, refusal: Refusal) {
     match refusal {
         Refusal::Unit(fault) => tell_units(out, inputs, doc, fault),
         Refusal::Illegal(illegal) => places::tell_illegal(out, doc, illegal),
-        Refusal::TooLarge => out.add(
-            "The unit text is too large: at most 1048576 bytes are read. Is it the right file?\n",
-        ),
+        Refusal::TooLarge => tell_large(out, doc.text),
         Refusal::NoPlace(unit) => places::tell_no_place(out, doc, unit),
         Refusal::Read => paths::tell_read(out, inputs),
         Refusal::Cert(fault) => tell_cert(out, inputs, fault),
@@ -113,5 +121,8 @@ pub fn remarks(
     };
     let mut out = Draft::new(alloc);
     tell(&mut out, inputs, doc, *refusal);
+    if matches!(refusal, Refusal::Unit(_)) {
+        add_marked(&mut out, doc.text);
+    }
     out.finish()
 }

@@ -186,7 +186,8 @@ const AFTER_HELP: &str =
     "The units are read from FILE, or from standard input where FILE is - or isn't given.\n\
 The text goes to standard output, and what a refusal means to standard error.\n\n\
 Exit statuses: 0 optimal, least or done; 1 no plan; 2 unproved or at least; 3 refused input;\n\
-4 reading, writing, memory, a ring or a thread failed; 5 words that are no command, or this help.\n\n\
+4 reading, writing, memory, a ring or a thread failed; 5 words that are no command, a station of\n\
+--lose that no slave has, this help or --version.\n\n\
 FORMATS.md describes the unit text, what each command writes, and each refusal. It is in docs/ of\n\
 the sources, and in share/doc/ecplan/ of an installation.\n";
 

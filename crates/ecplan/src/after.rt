@@ -1,7 +1,7 @@
 //! What is written after the text of a job: the picture of costs, the units with the places of a plan, and what is handed over
 //! with frames.
 
-use crate::costs::compared;
+use crate::costs::{are_same, lacks_place, legal_cost, placed_cost, units_at};
 use crate::ending::Done;
 use crate::targets::Target;
 use crate::telling::{tell_fault, tell_path, tell_whole};
@@ -121,8 +121,8 @@ fn holds_still<R: Files + AllocGlobal>(rt: &R, path: &str, units: &[u8]) -> bool
     }
 }
 
-/// Whether the places of units that a file at a path holds, to which those of a plan are to be written, cost less than that; where
-/// the certificate was left as it is also whether they cost as much, since they may be its plan's.
+/// Why places aren't written over the unit text that stands at a path. Of the same units it has places that cost less, or as much where
+/// the certificate was left as it is, since they may be its plan's. Of others it lacks places, so that no plan made it.
 fn standing_reason<R: Files + AllocGlobal>(
     rt: &R,
     target: Target<'_>,
@@ -133,16 +133,20 @@ fn standing_reason<R: Files + AllocGlobal>(
         return None;
     }
     let units = read_units(rt.alloc(), done.left.units).ok()?;
-    let plan = told.plan()?;
-    let (standing, cost) = compared(rt, rt.alloc(), target.path, &units, plan)?;
+    let cost = legal_cost(&units, told.plan()?)?;
+    let held = units_at(rt, rt.alloc(), target.path)?;
+    if !are_same(&held, &units) {
+        return Some(KeepReason::HoldsElse).filter(|_| lacks_place(&held));
+    }
+    let standing = placed_cost(rt.alloc(), &held)?;
     if standing < cost {
         return Some(KeepReason::Cheaper);
     }
     Some(KeepReason::AsCheap).filter(|_| standing == cost && done.is_kept)
 }
 
-/// Why what stands at a path is kept: it is the units' own file, and doesn't hold their text any more; or it has better places for
-/// them, or those of a certificate that was left as it is.
+/// Why what stands at a path is kept: it is the units' own file, and doesn't hold their text any more; or it is a unit text over which no
+/// places are written.
 fn reason_to_leave<R: Files + AllocGlobal>(
     rt: &R,
     target: Target<'_>,
@@ -166,8 +170,8 @@ fn after_fault(fault: FileFault) -> AfterFault {
     }
 }
 
-/// Writes to a path what is to be there. The units' own file must hold their text still, and no unit text better places for them; so
-/// once more when the new one, which is whole by then, takes its place.
+/// Writes to a path what is to be there. The units' own file must hold their text still, and no unit text better places for them or
+/// other units without places; so once more when the new one, which is whole by then, takes its place.
 fn write_to<R: Files + AllocGlobal>(
     rt: &R,
     target: Target<'_>,

@@ -22,28 +22,25 @@ pub(crate) fn placed_cost(alloc: Global, units: &Units) -> Option<u64> {
 }
 
 /// Whether two unit texts say the same but for places.
-fn are_same(one: &Units, other: &Units) -> bool {
+pub(crate) fn are_same(one: &Units, other: &Units) -> bool {
     (one.tick_ns, one.slots) == (other.tick_ns, other.slots)
         && are_same_units(one.units.as_slice(), other.units.as_slice())
 }
 
-/// What the busiest ticks cost of the places that the file at a path has for the same units, and of a plan for them; none where it holds
-/// no such text.
-pub(crate) fn compared<F: Files>(
-    files: &F,
-    alloc: Global,
-    path: &str,
-    units: &Units,
-    plan: &Plan,
-) -> Option<(u64, u64)> {
+/// Whether some unit has no place, as in a text that is written by hand.
+pub(crate) fn lacks_place(units: &Units) -> bool {
+    units
+        .units
+        .as_slice()
+        .iter()
+        .any(|unit| unit.place.is_none())
+}
+
+/// The units that the file at a path holds, if that is a unit text that can be read.
+pub(crate) fn units_at<F: Files>(files: &F, alloc: Global, path: &str) -> Option<Units> {
     let text = read_file(files, alloc, path, MOST_TEXT as u64).ok()??;
     if text.len() == MOST_TEXT {
         return None;
     }
-    let held = read_units(alloc, text.as_slice()).ok()?;
-    if !are_same(&held, units) {
-        return None;
-    }
-    let standing = placed_cost(alloc, &held)?;
-    Some((standing, legal_cost(units, plan)?))
+    read_units(alloc, text.as_slice()).ok()
 }

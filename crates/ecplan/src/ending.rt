@@ -10,7 +10,7 @@ use crate::units::Left;
 use ec_cert::{Cert, node_count};
 use ec_cli_answers::{File, Told};
 use ec_cli_command::{Effort, Line};
-use ec_cli_explain::{Again, Asked, Cycle, Filed, Found, Written, advice};
+use ec_cli_explain::{Again, Asked, Cycle, Filed, Found, Written, advice, misread};
 use ec_cli_files::{FileFault, are_one};
 use ec_cli_refusals::Refusal;
 use ec_cli_run::Report;
@@ -244,8 +244,8 @@ pub(crate) struct Done<'a> {
     pub is_kept: bool,
 }
 
-/// Tells at the end of a job why its file isn't at its path, or where it lies where standard output hasn't got the text. Of
-/// what was asked of a search or a merge also what was found, where standard output hasn't got it, and what to do.
+/// Tells at the end of a job which number of its units is read otherwise than it looks, if one is, and why its file isn't at its
+/// path, or where it lies where standard output hasn't got the text. Of what was asked of a search or a merge also what was found, where standard output hasn't got it, and what to do.
 pub(crate) fn tell_end<R: Files + AllocGlobal + Eprint, E>(
     rt: &R,
     told: &Told,
@@ -253,6 +253,7 @@ pub(crate) fn tell_end<R: Files + AllocGlobal + Eprint, E>(
     done: Done<'_>,
     wanted: Option<Wanted<'_>>,
 ) {
+    tell(rt, misread(rt.alloc(), done.left.units));
     match (done.target, &report.fault, done.untold) {
         (Some(target), Some(fault), _) => tell_fault(rt, target, fault),
         (Some(target), None, Some(_)) => tell_whole(rt, target),

@@ -12,6 +12,10 @@ use std::io::Read;
 use std::rt::Files;
 use std::{fs, io};
 
+/// What is told where nothing came on standard input.
+const NOTHING: &str =
+    "Nothing came on standard input. Name the file of the units as a word, as in ecplan plan line.toml, or send its text.\n";
+
 /// Reads one byte of what stands at a path, to see why that fails. What can't be opened without waiting, as a pipe, isn't tried.
 fn try_read<R: Files>(files: &R, path: &str) -> io::Result<()> {
     let found = fs::metadata(files, path)?;
@@ -98,6 +102,10 @@ pub(crate) fn tell_refusal<'x, R: Files + AllocGlobal + Eprint>(
 ) {
     if let (Some(path), Some(error)) = (left.path, left.fault) {
         return tell_unread(rt, path, error);
+    }
+    if left.path.is_none() && !left.came && matches!(refusal, Refusal::Unit(_)) {
+        let _ = rt.eprint(NOTHING);
+        return;
     }
     // Where standard input couldn't be read, the certificate has no part in it.
     let cert = if left.fault.is_some() { None } else { cert };

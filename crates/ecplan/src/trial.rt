@@ -8,10 +8,10 @@ use crate::output::{Output, refuse_line, refuse_text, tell_untold};
 use crate::progress::{Progress, Telling};
 use crate::refusal::tell_refusal;
 use crate::targets::Target;
-use crate::telling::{tell_fault, tell_whole};
+use crate::telling::{tell, tell_fault, tell_whole};
 use crate::units::Kept;
 use ec_cli_answers::Told;
-use ec_cli_explain::Cycle;
+use ec_cli_explain::{Cycle, misread};
 use ec_cli_files::{FileFault, write_whole};
 use ec_cli_refusals::Refusal;
 use ec_cli_run::do_line;
@@ -209,10 +209,15 @@ pub(crate) fn do_trial<
     match try_told(rt.alloc(), words, units.left().units, report.told) {
         Ok(played) => {
             let code = write_played(rt, target, &played);
+            tell(rt, misread(rt.alloc(), units.left().units));
             tell_unfit(rt, played.cycle, played.cost);
             code
         }
-        Err(TrialFault::Station(text)) => refuse_text(rt, text.as_str()),
+        Err(TrialFault::Station(text)) => {
+            let code = refuse_text(rt, text.as_str());
+            tell(rt, misread(rt.alloc(), units.left().units));
+            code
+        }
         Err(TrialFault::Refused(refusal)) => {
             let code = refuse_line(rt, refusal);
             tell_refusal(rt, &refusal, line.cert(), None, units.left());

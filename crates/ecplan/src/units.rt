@@ -15,11 +15,14 @@ pub(crate) const MOST_TEXT: usize = MOST_BYTES + 1;
 /// What is told where the units come on standard input and that is closed.
 const CLOSED: &str = "The units cannot be read: standard input is closed.\n";
 
-/// What is left of the units: their path if they have one, the front of what was read, and why their reading failed.
+/// What is left of the units: their path if they have one, the front of what was read, whether anything was, and why their reading
+/// failed.
 #[derive(Clone, Copy)]
 pub(crate) struct Left<'a> {
     pub path: Option<&'a str>,
     pub units: &'a [u8],
+    /// Whether anything was read.
+    pub came: bool,
     pub fault: Option<io::Error>,
 }
 
@@ -52,6 +55,7 @@ pub(crate) struct Kept<'a, R> {
     path: Option<&'a str>,
     inner: R,
     front: Front,
+    came: bool,
     fault: Option<io::Error>,
 }
 
@@ -65,6 +69,7 @@ impl<'a, R> Kept<'a, R> {
                 bytes: Vec::new(alloc),
                 room: MOST_TEXT,
             },
+            came: false,
             fault: None,
         }
     }
@@ -74,6 +79,7 @@ impl<'a, R> Kept<'a, R> {
         Left {
             path: self.path,
             units: self.front.bytes.as_slice(),
+            came: self.came,
             fault: self.fault,
         }
     }
@@ -85,6 +91,7 @@ impl<'a, R: Read> Read for Kept<'a, R> {
     fn read(&mut self, buf: &mut [u8]) -> io::Result<usize> {
         match self.inner.read(buf) {
             Ok(count) => {
+                self.came = self.came || count > 0;
                 self.front.keep(&buf[..count]);
                 Ok(count)
             }
