@@ -4,8 +4,8 @@
  *     master INTERFACE TICKS [MS]  sends so many ticks; waits for the frames of a tick until the next one, or so many ms
  *     master --no-start ..         the same without the start frames, where something else wrote stations and FMMU records
  *
- * SIGINT and SIGTERM end it behind a tick. plan.h is what `ecplan frames --header plan.h` writes. The status is 0 where all came back
- * right, 1 where something did not, and 2 where it can't begin. */
+ * SIGINT and SIGTERM end it. plan.h is what `ecplan frames --header plan.h` writes. The status is 0 where all came back right, 1 where
+ * something did not, and 2 where it can't begin or can't write what it tells. */
 #define _GNU_SOURCE
 #include "plan.h"
 #include <arpa/inet.h>
@@ -21,13 +21,15 @@
 #include <time.h>
 #include <unistd.h>
 
-enum { ETHERCAT = 0x88A4, FPWR = 5, LRW = 12, AHEAD = 16, HEAD = 10, TAIL = 2, LEAST = 60, MOST = 1514, START_MS = 1000 };
+enum { ETHERCAT = 0x88A4, FPWR = 5, LRW = 12, AHEAD = 16, HEAD = 10, TAIL = 2, LEAST = 60, MOST = 1514, START_MS = 1000, STOP_MS = 100 };
 static const uint8_t ETHERNET[14] = { 0xff, 0xff, 0xff, 0xff, 0xff, 0xff, 2, 0, 0, 0, 0, 1, 0x88, 0xa4 };
 
-/* The process image, outputs as they are sent and inputs as they came, and what is counted. */
-static uint8_t outputs[ECPLAN_IMAGE_BYTES], inputs[ECPLAN_IMAGE_BYTES];
-static unsigned long sent, lost, changed, disordered, late, fallen[ECPLAN_GROUPS];
+/* The process image, outputs as they are sent and inputs as they came; and whether those of a group came when it was sent last. */
+static uint8_t outputs[ECPLAN_IMAGE_BYTES], inputs[ECPLAN_IMAGE_BYTES], is_fresh[ECPLAN_GROUPS];
+/* What is counted, and why a frame couldn't be sent last. */
+static unsigned long sent, unsent, lost, changed, disordered, late, fallen[ECPLAN_GROUPS];
 static unsigned fallen_to[ECPLAN_GROUPS];
+static int unsent_for;
 static volatile sig_atomic_t is_stopped;
 
 static unsigned get16(const uint8_t *at) { return at[0] | (unsigned)at[1] << 8; }
@@ -66,6 +68,14 @@ static void print_hex(const uint8_t *bytes, size_t count)
     putchar('\n');
 }
 
+/* The status, where all that was told is written. */
+static int ended(int status)
+{
+    if (fflush(stdout) == 0 && !ferror(stdout))
+        return status;
+    return perror("standard output"), 2;
+}
+
 static int print_plan(void)
 {
     uint8_t frame[MOST];
@@ -80,7 +90,7 @@ static int print_plan(void)
             printf("frame %u %u %u ", tick, plan->slot, plan->wire_bytes);
             print_hex(frame, make(frame, plan, -1));
         }
-    return 0;
+    return ended(0);
 }
 
 static int64_t now(void)
@@ -90,28 +100,30 @@ static int64_t now(void)
     return (int64_t)t.tv_sec * 1000000000 + t.tv_nsec;
 }
 
+/* Sleeps until a time, or a signal that ends the run. */
 static void sleep_until(int64_t ns)
 {
     struct timespec t = { (time_t)(ns / 1000000000), (long)(ns % 1000000000) };
-    while (clock_nanosleep(CLOCK_MONOTONIC, TIMER_ABSTIME, &t, NULL) != 0)
+    while (!is_stopped && clock_nanosleep(CLOCK_MONOTONIC, TIMER_ABSTIME, &t, NULL) == EINTR)
         ;
 }
 
-/* Waits for a frame, at most until a time. Its length, or AHEAD of one that is too short or too long; 0 where none came. */
-static size_t receive(int line, uint8_t *frame, int64_t until)
+/* Waits for a frame, at most until a time, or a signal that ends the run, where it doesn't end already. Its length; 0 where none came.
+   One that is too short or too long for a datagram is no frame of a plan. */
+static size_t receive(int line, uint8_t *frame, int64_t until, int is_ending)
 {
     struct pollfd ready = { line, POLLIN, 0 };
     for (;;) {
         int64_t left = until - now();
         struct timespec t = { (time_t)(left / 1000000000), (long)(left % 1000000000) };
         int found = ppoll(&ready, 1, left < 0 ? &(struct timespec){ 0, 0 } : &t, NULL);
-        if (found < 0 && errno == EINTR)
+        if (found < 0 && errno == EINTR && (is_ending || !is_stopped))
             continue;
         if (found < 1)
             return 0;
         ssize_t got = recv(line, frame, MOST, MSG_TRUNC);
-        if (0 <= got) /* an error of the socket is no frame */
-            return got < AHEAD || MOST < got ? AHEAD : (size_t)got;
+        if (AHEAD + HEAD + TAIL <= got && got <= MOST) /* an error of the socket is no frame either */
+            return (size_t)got;
     }
 }
 
@@ -135,7 +147,7 @@ static int start(int line, unsigned i)
     if (send(line, frame, plan->bytes, 0) < 0)
         return perror("send"), 2;
     for (;;) {
-        size_t got = receive(line, back, until);
+        size_t got = receive(line, back, until, 0);
         if (got == 0)
             return printf("start %u lost\n", i), 1;
         if (got != plan->bytes || !is_answer(back, frame))
@@ -166,7 +178,11 @@ static void take_inputs(unsigned group, const uint8_t *data)
         if (ecplan_slaves[i].group == group && 0 < ecplan_slaves[i].in_bytes)
             memcpy(inputs + ecplan_slaves[i].in_offset, data + (ecplan_slaves[i].in_offset - ecplan_groups[group].offset),
                    ecplan_slaves[i].in_bytes);
+    is_fresh[group] = 1;
 }
+
+/* Whether a frame is one of the plan, and not of another program on the interface: by its source and its first command. */
+static int is_own(const uint8_t *back) { return memcmp(back + 6, ETHERNET + 6, 6) == 0 && back[AHEAD] == LRW; }
 
 /* Checks a frame that came back beside the one that was sent: its lengths and headers, and each counter. */
 static void check(const struct ecplan_frame *plan, const uint8_t *frame, const uint8_t *back, size_t got)
@@ -193,40 +209,61 @@ static void check(const struct ecplan_frame *plan, const uint8_t *frame, const u
     }
 }
 
+/* Sets the outputs of a frame and sends it. Where it can't be sent, other than for a full queue, the run ends behind this tick. */
+static void send_frame(int line, uint8_t *frame, const struct ecplan_frame *plan, unsigned index, unsigned long tick)
+{
+    for (unsigned i = 0; i < plan->groups; i++) {
+        unsigned group = ecplan_sent[plan->first + i];
+        set_outputs(group, tick);
+        is_fresh[group] = 0;
+    }
+    if (0 <= send(line, frame, make(frame, plan, (int)index), 0)) {
+        sent++;
+        return;
+    }
+    unsent++, unsent_for = errno;
+    if (errno != ENOBUFS && errno != EAGAIN)
+        is_stopped = 1;
+}
+
 /* Sends the frames of a tick, and takes what comes back until a time. */
 static void do_tick(int line, unsigned long number, int64_t until)
 {
     static uint8_t frames[ECPLAN_SLOTS][MOST], back[MOST];
     const struct ecplan_tick *tick = &ecplan_ticks[number % ECPLAN_TICKS];
     unsigned first = (unsigned)(number * ECPLAN_SLOTS), next = 0;
-    for (unsigned k = 0; k < tick->frames; k++) {
-        const struct ecplan_frame *plan = &ecplan_frames[tick->first + k];
-        for (unsigned i = 0; i < plan->groups; i++)
-            set_outputs(ecplan_sent[plan->first + i], number);
-        if (send(line, frames[k], make(frames[k], plan, (int)((first + k) & 0xff)), 0) < 0)
-            perror("send");
-        sent++;
-    }
-    while (next < tick->frames) {
-        size_t got = receive(line, back, until);
-        if (got == 0)
-            break;
-        unsigned k = (back[AHEAD + 1] - first) & 0xff; /* which frame of this tick it is, by its number */
-        if (got == AHEAD || tick->frames <= k || k < next) {
-            disordered++;
-            continue;
+    unsigned long due = sent;
+    uint8_t has_come[ECPLAN_SLOTS] = { 0 };
+    for (unsigned k = 0; k < tick->frames; k++)
+        send_frame(line, frames[k], &ecplan_frames[tick->first + k], (first + k) & 0xff, number);
+    due = sent - due;
+    for (int is_last = 0; 0 < due;) {
+        if (is_stopped && !is_last) { /* what is under way comes soon, or not at all */
+            int64_t soon = now() + (int64_t)STOP_MS * 1000000;
+            is_last = 1, until = soon < until ? soon : until;
         }
-        lost += k - next;
+        size_t got = receive(line, back, until, is_last);
+        if (got == 0 && (is_last || !is_stopped))
+            break;
+        if (got == 0 || !is_own(back))
+            continue;
+        unsigned k = (back[AHEAD + 1] - first) & 0xff; /* which frame of this tick it is, by its number */
+        int is_of_tick = k < tick->frames && !has_come[k];
+        disordered += !is_of_tick || k < next;
+        if (!is_of_tick)
+            continue;
         check(&ecplan_frames[tick->first + k], frames[k], back, got);
-        next = k + 1;
+        has_come[k] = 1, next = next < k + 1 ? k + 1 : next, due--;
     }
-    lost += tick->frames - next;
+    lost += due;
 }
 
 static int tell(unsigned long ticks)
 {
-    int is_right = lost + changed + disordered == 0;
+    int is_right = unsent + lost + changed + disordered == 0;
     printf("ticks %lu frames %lu lost %lu changed %lu disordered %lu late %lu\n", ticks, sent, lost, changed, disordered, late);
+    if (0 < unsent)
+        printf("unsent %lu %s\n", unsent, strerror(unsent_for));
     for (unsigned i = 0; i < ECPLAN_GROUPS; i++)
         if (0 < fallen[i]) {
             is_right = 0;
@@ -238,7 +275,7 @@ static int tell(unsigned long ticks)
         printf("inputs %u ", ecplan_slaves[i].station);
         print_hex(inputs + ecplan_slaves[i].in_offset, ecplan_slaves[i].in_bytes);
     }
-    return is_right ? 0 : 1;
+    return ended(sent == 0 && 0 < unsent ? 2 : is_right ? 0 : 1);
 }
 
 /* The number that a word is, from 1 on; -1 where it is none, or a greater one than `most`. */
@@ -287,12 +324,14 @@ int main(int count, char **words)
     fflush(stdout);
     int status = is_started ? 0 : start_all(line);
     if (status != 0)
-        return status;
+        return ended(status);
     signal(SIGINT, stop), signal(SIGTERM, stop);
     int64_t begin = now();
     unsigned long number = 0;
     for (; number < (unsigned long)ticks && !is_stopped; number++) {
         sleep_until(begin);
+        if (is_stopped)
+            break;
         int64_t woke = now();
         if (begin + ECPLAN_TICK_NS / 8 < woke) { /* the tick begins late, and those behind it go by it */
             late++;
