@@ -124,6 +124,8 @@ static size_t receive(int line, uint8_t *frame, int64_t until, int is_ending)
         ssize_t got = recv(line, frame, MOST, MSG_TRUNC);
         if (AHEAD + HEAD + TAIL <= got && got <= MOST) /* an error of the socket is no frame either */
             return (size_t)got;
+        if (left < 0)
+            return 0;
     }
 }
 
@@ -209,6 +211,18 @@ static void check(const struct ecplan_frame *plan, const uint8_t *frame, const u
     }
 }
 
+/* Waits for a frame of the plan, as `receive` does for any. */
+static size_t receive_own(int line, uint8_t *frame, int64_t until, int is_ending)
+{
+    for (;;) {
+        size_t got = receive(line, frame, until, is_ending);
+        if (got == 0 || is_own(frame))
+            return got;
+        if (until < now())
+            return 0;
+    }
+}
+
 /* Sets the outputs of a frame and sends it. Where it can't be sent, other than for a full queue, the run ends behind this tick. */
 static void send_frame(int line, uint8_t *frame, const struct ecplan_frame *plan, unsigned index, unsigned long tick)
 {
@@ -242,11 +256,11 @@ static void do_tick(int line, unsigned long number, int64_t until)
             int64_t soon = now() + (int64_t)STOP_MS * 1000000;
             is_last = 1, until = soon < until ? soon : until;
         }
-        size_t got = receive(line, back, until, is_last);
-        if (got == 0 && (is_last || !is_stopped))
-            break;
-        if (got == 0 || !is_own(back))
+        size_t got = receive_own(line, back, until, is_last);
+        if (got == 0 && is_stopped && !is_last)
             continue;
+        if (got == 0)
+            break;
         unsigned k = (back[AHEAD + 1] - first) & 0xff; /* which frame of this tick it is, by its number */
         int is_of_tick = k < tick->frames && !has_come[k];
         disordered += !is_of_tick || k < next;
