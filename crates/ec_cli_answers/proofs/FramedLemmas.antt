@@ -29,7 +29,7 @@ pub framed_none : (us : Units) (text : List ℕ) (c : CertView) → IsRightText 
 framed_none us text c right none = inr (c, right.0, us, refl, inl (right.1.certified, none, refl))
 
 -- there is no certificate
-pub framed_no : (us : Units) (text : List ℕ) (r : Refusal) (p : Result Plan Refusal) → p ≡ Err r → IsWrongText us text r → IfErr p (λ r. IsMemory job.Check r ⊎ IsCertless text (units_view us) r)
+pub framed_no : {X : Type 0} (us : Units) (text : List ℕ) (r : Refusal) (p : Result X Refusal) → p ≡ Err r → IsWrongText us text r → IfErr p (λ r. IsMemory job.Check r ⊎ IsCertless text (units_view us) r)
 framed_no us text r p is h = rw is (elim (wrong_why us text r h) [
   | inl memory ↦ inl memory
   | inr (inl said) ↦ inr (inl said)

@@ -1,12 +1,17 @@
--- What a job tells for what it has read: a text with its status, and the file that is written before it.
+-- What a job tells for what it has read: a text with its status, the file that is written before it, and what is handed on beside both.
 use Rattle.std.specs.Prelude.{◌≡◌, ◌⊎◌, ℕ, List, Option, Some, None, Result, Ok, Err, IfOk, option_map}
-use Rattle.ec_cert.specs.Shapes.{cert_view}
+use Rattle.ec_cert.specs.Shapes.{CertView, cert_view}
 use Rattle.ec_loads.specs.declared.plan.Plan.{Plan}
 use Rattle.ec_outcome.specs.declared.ending.Ending.{Ending}
 use Rattle.ec_outcome.specs.declared.search.Outcome.{Outcome}
 use Rattle.ec_outcome.specs.declared.search.Outcome.TheVariants as outcome
 use Rattle.ec_cert.specs.WellFormed.{IsWellFormed}
 use Rattle.ec_cert_text.specs.Text.{certificate_text}
+use Rattle.ec_cert_text.specs.Reading.{reading as cert_reading}
+use Rattle.ec_checker.specs.Certified.{verdict_of}
+use Rattle.ec_checker.specs.declared.fault.Verdict.{Verdict}
+use Rattle.ec_unit_text.specs.Reading.{reading}
+use Rattle.ec_cli_text.specs.Plans.{IsFramedPlan}
 use Rattle.ec_cli_refusals.specs.declared.refusal.Refusal.{Refusal}
 use Rattle.ec_cli_command.specs.declared.job.Job.{Job}
 use Rattle.ec_cli_command.specs.declared.job.Job.TheVariants as job
@@ -22,7 +27,7 @@ use Rattle.ec_workers.specs.Answers.{asked_for}
 use Rattle.ec_cli_text.specs.Output.{Written, Answers, IsCostsText, IsOutput, IsNoMemory, refused, shown, written_of}
 use Rattle.ec_cli_answers.specs.Captures.{IsFramesWritten}
 use Rattle.ec_cli_text.specs.Outcomes.{IsLevelOf, outcome_output}
-use Rattle.ec_cli_answers.specs.Planned.{IsPlanWritten, IsResumeWritten, IsShownAt, outcome_cert}
+use Rattle.ec_cli_answers.specs.Planned.{IsPlanOf, IsPlanWritten, IsResumeOf, IsResumeWritten, IsShownAt, outcome_cert}
 use Rattle.ec_cli_answers.specs.declared.told.File.{File}
 use Rattle.ec_cli_answers.specs.declared.told.File.TheVariants as file
 use Rattle.ec_cli_answers.specs.declared.told.Told.{Told}
@@ -65,6 +70,64 @@ file_of (Err r) = None
 abbrev pub plan_told : Told → Option (List Place)
 plan_told t = plan_of t.file t.plan
 
+-- no certificate is written
+abbrev pub HasNoCert : File → Type 0
+HasNoCert file.Nothing = Unit {0}
+HasNoCert (file.Cert c) = ⊥
+HasNoCert (file.Capture bytes) = Unit {0}
+
+-- ---- what is handed on beside the text
+
+-- the places of the best plan of an outcome, if it has one
+abbrev pub plan_in : Outcome → Option (List Place)
+plan_in (outcome.Optimal plan b cert) = Some plan.places
+plan_in (outcome.NoPlan cert) = None
+plan_in (outcome.Unproved best order tree strong why) = option_map (λ b. b.plan.places) best
+
+-- with the text of an outcome and its certificate its best plan and, where it ended without a proof, how it did
+pub record HandsOutcome (is : Units → Outcome → Type 0) (t : Told) : Type 0 where
+  pub units : Units
+  pub found : Outcome
+  pub answer : is units found
+  pub level : Option ℕ
+  pub is_level : IsLevelOf units.units units.slots found level
+  pub text : shown t.answer ≡ outcome_output units.units found level
+  pub file : file_bytes t.file ≡ outcome_cert units found level
+  pub plan : plan_told t ≡ plan_in found
+  pub ending : t.ending ≡ ending_of found level
+  pub verdict : t.verdict ≡ None
+
+-- what the checker says of the certificate that a text says, where there is one
+abbrev pub IsSaidOf : Option (List ℕ) → Option Verdict → Type 0
+IsSaidOf None verdict = verdict ≡ None
+IsSaidOf (Some text) verdict = (c : CertView) × (cert_reading text ≡ Ok c) × (verdict ≡ Some (verdict_of c.best c.level))
+
+-- with the text of a plan this plan, and what the checker said of its certificate
+pub record HandsPlan (cert : Option (List ℕ)) (bytes : List ℕ) (t : Told) : Type 0 where
+  pub units : UnitsView
+  pub said : reading bytes ≡ Ok units
+  pub places : List Place
+  pub framed : IsFramedPlan cert units places
+  pub plan : plan_told t ≡ Some places
+  pub ending : t.ending ≡ None
+  pub verdict : IsSaidOf cert t.verdict
+
+-- with a verdict no plan, no ending and no verdict on another plan's certificate
+pub record HandsNothing (t : Told) : Type 0 where
+  pub plan : plan_told t ≡ None
+  pub ending : t.ending ≡ None
+  pub verdict : t.verdict ≡ None
+
+-- what a job hands on for the bytes of units, and of a certificate where there is one
+abbrev pub HandsOn : Job → List ℕ → Option (List ℕ) → Told → Type 0
+HandsOn (job.Plan workers nodes strong) bytes cert t = HandsOutcome (IsPlanOf (asked_for strong workers nodes) bytes) t
+HandsOn (job.Resume workers nodes part) bytes None t = ⊥
+HandsOn (job.Resume workers nodes part) bytes (Some text) t = HandsOutcome (IsResumeOf workers nodes part bytes text) t
+HandsOn job.Check bytes cert t = HandsNothing t
+HandsOn j bytes cert t = HandsPlan cert bytes t
+
+-- ---- what a job tells
+
 -- a job without a file tells what is written for the bytes, or that memory ran out
 abbrev pub IsPlainTold : Job → List ℕ → Option (List ℕ) → Written → Option (List ℕ) → Type 0
 IsPlainTold j bytes cert w file = (IsOutput j bytes cert w ⊎ IsNoMemory j w) × (file ≡ None)
@@ -77,24 +140,31 @@ IsTold (job.Resume workers nodes part) bytes (Some text) w file = IsResumeWritte
 IsTold job.Capture bytes cert w file = IsFramesWritten cert bytes w file
 IsTold j bytes cert w file = IsPlainTold j bytes cert w file
 
--- an answer is as said of what is written and of the file before it, and has that file
-pub record TellsBy (said : Written → Option (List ℕ) → Type 0) (answer : Result Told Refusal) : Type 0 where
+-- an answer is as said of what is written and of the file before it, and has that file; what it hands on is as said, too
+pub record TellsBy (said : Written → Option (List ℕ) → Type 0) (Hands : Told → Type 0) (answer : Result Told Refusal) : Type 0 where
   pub file : Option (List ℕ)
   pub is : said (told answer) file
   pub made : file_of answer ≡ file
+  pub handed : IfOk answer Hands
 
--- an answer is what is told for these bytes, and has the file that is told
+-- an answer is what is told for these bytes, has the file that is told, and hands on what goes with them
 abbrev pub TellsFor : Job → List ℕ → Option (List ℕ) → Result Told Refusal → Type 0
-TellsFor j bytes cert answer = TellsBy (IsTold j bytes cert) answer
+TellsFor j bytes cert answer = TellsBy (IsTold j bytes cert) (HandsOn j bytes cert) answer
 
 -- its certificate has a text
 abbrev pub IsWritable : Result Told Refusal → Type 0
 IsWritable answer = IfOk answer (λ t. HasText t.file)
 
--- an answer has the text of the outcome of a search and its certificate, at a level that its tree shows
-abbrev pub IsOutcomeTold : Units → Outcome → Result Told Refusal → Type 0
-IsOutcomeTold us o answer = IfOk answer (λ t. (level : Option ℕ) × IsLevelOf us.units us.slots o level × (shown t.answer ≡ outcome_output us.units o level)
-    × (file_bytes t.file ≡ outcome_cert us o level) × IsShownAt us o level)
+-- what is told is the text of the outcome of a search and its certificate, at a level that its tree shows, with its best plan and how it ended
+pub record IsOutcomeTold (us : Units) (o : Outcome) (t : Told) : Type 0 where
+  pub level : Option ℕ
+  pub is_level : IsLevelOf us.units us.slots o level
+  pub text : shown t.answer ≡ outcome_output us.units o level
+  pub file : file_bytes t.file ≡ outcome_cert us o level
+  pub shows : IsShownAt us o level
+  pub plan : plan_told t ≡ plan_in o
+  pub ending : t.ending ≡ ending_of o level
+  pub verdict : t.verdict ≡ None
 
 -- ---- what is told of a plan
 

@@ -10,8 +10,8 @@ ghost use Rattle.ec_cert_merge.specs.Merged.{IsMerged};
 ghost use Rattle.ec_cli_refusals.specs.Refusals.{out_of_memory};
 ghost use Rattle.ec_cli_inputs.specs.Input.{AnswersUnits};
 ghost use Rattle.ec_cli_text.specs.Output.{shown};
-ghost use Rattle.ec_cli_answers.specs.Merged.{IsWrittenOf};
-ghost use Rattle.ec_cli_answers.specs.Told.{HasText, file_bytes};
+ghost use Rattle.ec_cli_answers.specs.Merged.{IsMergeOf, IsWrittenOf};
+ghost use Rattle.ec_cli_answers.specs.Told.{HandsOutcome, HasText, file_bytes};
 
 use crate::outcome::tell_outcome;
 use crate::told::Told;
@@ -62,6 +62,7 @@ pub fn tell_merged(
     requires empty { loads.old ≡ record { loads = loads_of units.now.units; slots = units.now.slots; places = no_places (loads_of units.now.units) } }
     requires right { IsProven units.now.units units.now.slots (cert_view cert) }
     ensures told { (bytes : List ℕ) → AnswersUnits (OkOf units.now) bytes → IfOk result (λ t. IsWrittenOf bytes (cert_view cert) (shown t.answer) (file_bytes t.file)) }
+    ensures hands { (bytes : List ℕ) → AnswersUnits (OkOf units.now) bytes → IfOk result (HandsOutcome (IsMergeOf bytes (cert_view cert))) }
     ensures text { IfOk result (λ t. HasText t.file) }
     ensures err { IfErr result (λ r. r ≡ out_of_memory) }
 {

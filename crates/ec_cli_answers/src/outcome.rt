@@ -1,6 +1,6 @@
 //! What is told of the outcome of a search, and its certificate.
 
-ghost use Rattle.std.specs.Prelude.{◌≡◌, ℕ, Option, Some, IfOk, IfErr};
+ghost use Rattle.std.specs.Prelude.{◌≡◌, Some, IfOk, IfErr, option_map};
 ghost use Rattle.ec_units.specs.Load.{loads_of};
 ghost use Rattle.ec_loads.specs.Held.{no_places};
 ghost use Rattle.ec_workers.specs.Answers.{Asked, IsOutcome};
@@ -10,7 +10,7 @@ ghost use Rattle.ec_cert_text.specs.Text.{certificate_text};
 ghost use Rattle.ec_checker.specs.Certified.{lines_of as lines_spec};
 ghost use Rattle.ec_cli_text.specs.Outcomes.{HasPlaces, IsLevelOf};
 ghost use Rattle.ec_cli_answers.specs.Planned.{outcome_cert, IsShownAt};
-ghost use Rattle.ec_cli_answers.specs.Told.{ending_of, HasText, IsOutcomeTold};
+ghost use Rattle.ec_cli_answers.specs.Told.{ending_of, plan_in, HasText, IsOutcomeTold};
 ghost use Rattle.ec_cli_refusals.specs.Refusals.{out_of_memory};
 
 use crate::told::{File, Told};
@@ -56,6 +56,7 @@ fn cert_of(units: &Units, lines: UnitLines, outcome: Outcome, level: Option<u64>
     ensures text { outcome_cert units.now outcome level ≡ Some (certificate_text (cert_view result)) }
     ensures formed { IsWellFormed (cert_view result) }
     ensures shows { IsShownAt units.now outcome level }
+    ensures plan { option_map (λ b. b.plan.places) result.best ≡ plan_in outcome }
 {
     match outcome {
         Outcome::Optimal { cert, .. } => cert,
@@ -115,9 +116,8 @@ pub(crate) fn tell_outcome(
     requires lines { lines ≡ lines_spec units.now.units }
     requires outcome { (asked : Asked) × IsOutcome units.now.units units.now.slots asked outcome }
     requires places { HasPlaces units.now.units outcome }
-    ensures ok { IsOutcomeTold units.now outcome result }
+    ensures ok { IfOk result (IsOutcomeTold units.now outcome) }
     ensures text { IfOk result (λ t. HasText t.file) }
-    ensures ending { IfOk result (λ t. (level : Option ℕ) × IsLevelOf units.now.units units.now.slots outcome level × (t.ending ≡ ending_of outcome level)) }
     ensures err { IfErr result (λ r. r ≡ out_of_memory) }
 {
     let level = level_of(loads, units, &outcome);

@@ -1,6 +1,6 @@
 //! What jobs tell that search for nothing.
 
-ghost use Rattle.std.specs.Prelude.{◌≡◌, ℕ, List, Option, Some, IfOk};
+ghost use Rattle.std.specs.Prelude.{◌≡◌, ℕ, List, Option, Some, None, IfOk};
 ghost use Rattle.ec_units.specs.Load.{loads_of};
 ghost use Rattle.ec_units.specs.Views.{units_view};
 ghost use Rattle.ec_loads.specs.Held.{no_places};
@@ -9,12 +9,11 @@ ghost use Rattle.ec_cli_command.specs.Words.{IsPlain};
 ghost use Rattle.ec_cli_command.specs.declared.job.Job.TheVariants.{Check};
 ghost use Rattle.ec_cli_inputs.specs.Input.{Says, HasRoom, text_given};
 ghost use Rattle.ec_cli_text.specs.Output.{Answers, IsCheckOutput};
-ghost use Rattle.ec_cli_answers.specs.Told.{HasInput, IsCaptureTold, IsOfPlan, IsPlanTold, IsWritable, TellsFor, file_of, told as told_of};
+ghost use Rattle.ec_cli_answers.specs.Told.{HasInput, IsCaptureTold, HasNoCert, IsOfPlan, IsPlanTold, IsWritable, TellsFor, file_of, plan_told, told as told_of};
 
-use crate::plans::plan_for;
+use crate::plans::{Chosen, plan_for};
 use crate::right::right_cert;
 use crate::told::{File, Told, without_file};
-use ec_checker::Verdict;
 use ec_cli_command::Job;
 use ec_cli_inputs::{Given, Inputs};
 use ec_cli_refusals::Refusal;
@@ -43,6 +42,7 @@ fn tell_capture(alloc: Global, units: &Units, plan: &Plan) -> Result<Told, Refus
     requires { IsLegal (loads_of units.now.units) units.now.slots plan.now.places }
     ensures told { IsCaptureTold (units_view units.now) plan.now.places result }
     ensures text { IsWritable result }
+    ensures kind { IfOk result (λ t. HasNoCert t.file) }
 {
     let made = plan_capture(alloc, units, plan)?;
     Ok(Told {
@@ -67,6 +67,7 @@ fn tell_plan<P: Player>(
     requires legal { IsLegal (loads_of units.now.units) units.now.slots plan.now.places }
     ensures told { IsPlanTold job.now (units_view units.now) plan.now.places result }
     ensures text { IsWritable result }
+    ensures kind { IfOk result (λ t. HasNoCert t.file) }
 {
     match job {
         Job::Frames => without_file(plan_frames(alloc, units, plan)),
@@ -79,27 +80,25 @@ fn tell_plan<P: Player>(
     }
 }
 
-/// What is told, with the plan of which it is told, and what was said of its certificate.
-fn with_plan(
-    told: Result<Told, Refusal>,
-    plan: Plan,
-    verdict: Option<Verdict>,
-) -> Result<Told, Refusal>
+/// What is told, with the plan of which it is told.
+fn with_plan(told: Result<Told, Refusal>, chosen: Chosen) -> Result<Told, Refusal>
+    requires kind { IfOk told (λ t. HasNoCert t.file) }
     ensures text { told_of result ≡ told_of told }
     ensures file { file_of result ≡ file_of told }
     ensures formed { IsWritable told → IsWritable result }
-    ensures plan { IfOk result (λ t. t.plan ≡ Some plan) }
+    ensures plan { IfOk result (λ t. plan_told t ≡ Some chosen.plan.places) }
+    ensures ending { IfOk result (λ t. t.ending ≡ None) }
+    ensures verdict { IfOk result (λ t. t.verdict ≡ chosen.verdict) }
 {
-    match told {
-        Ok(told) => Ok(Told {
-            answer: told.answer,
-            file: told.file,
-            plan: Some(plan),
-            ending: None,
-            verdict,
-        }),
-        Err(refusal) => Err(refusal),
-    }
+    let old = told?;
+    let Chosen { plan, verdict } = chosen;
+    Ok(Told {
+        answer: old.answer,
+        file: old.file,
+        plan: Some(plan),
+        ending: None,
+        verdict,
+    })
 }
 
 /// What a job that searches for nothing tells of its inputs.
@@ -132,10 +131,9 @@ pub fn answer_plain<P: Player>(
         Job::Plan { .. } => unreachable!(),
         Job::Resume { .. } => unreachable!(),
         Job::Frames | Job::Capture | Job::Play | Job::PlanCost | Job::Cost => {
-            let mut verdict = None;
-            let plan = plan_for(alloc, &units, given, &mut verdict)?;
-            let told = tell_plan(player, alloc, job, &units, &plan);
-            with_plan(told, plan, verdict)
+            let chosen = plan_for(alloc, &units, given)?;
+            let told = tell_plan(player, alloc, job, &units, &chosen.plan);
+            with_plan(told, chosen)
         }
     }
 }

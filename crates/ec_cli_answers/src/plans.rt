@@ -1,6 +1,6 @@
 //! The plan of which a job tells: that of a certificate, or that of the places in the units.
 
-ghost use Rattle.std.specs.Prelude.{◌≡◌, ◌⊎◌, IfOk, IfErr, IfSome, option_map};
+ghost use Rattle.std.specs.Prelude.{◌≡◌, ◌⊎◌, IfOk, IfErr, IfSome, Some, option_map};
 ghost use Rattle.ec_units.specs.Load.{loads_of};
 ghost use Rattle.ec_units.specs.Views.{units_view};
 ghost use Rattle.ec_loads.specs.Held.{no_places};
@@ -9,6 +9,7 @@ ghost use Rattle.ec_cli_command.specs.declared.job.Job.TheVariants.{Check};
 ghost use Rattle.ec_cli_refusals.specs.Refusals.{IsMemory};
 ghost use Rattle.ec_cli_text.specs.Plans.{IsCertless, IsCertPlan, IsFramedPlan, IsPlanless};
 ghost use Rattle.ec_cli_answers.specs.Captures.{IsPlanWant};
+ghost use Rattle.ec_cli_answers.specs.Told.{IsSaidOf};
 
 use crate::right::{Right, right_cert};
 use ec_cert::Cert;
@@ -20,50 +21,60 @@ use ec_loads::{Loads, Plan};
 use ec_units::Units;
 use std::alloc::Global;
 
-/// The plan of a certificate's text where the checker says yes, or why there is none; `verdict` gets what it says. The loads are
-/// those of the units, with no place.
+/// A plan of which is told.
+#[derive(Drop)]
+pub(crate) struct Chosen {
+    pub(crate) plan: Plan,
+    /// What the checker said of the certificate that it is of; none of another plan.
+    pub(crate) verdict: Option<Verdict>,
+}
+
+/// The plan of a certificate's text where the checker says yes, or why there is none. The loads are those of the units, with
+/// no place.
 fn text_plan(
     alloc: Global,
     loads: &mut Loads,
     units: &Units,
     text: Vec<u8>,
-    verdict: &mut Option<Verdict>,
-) -> Result<Plan, Refusal>
+) -> Result<Chosen, Refusal>
     requires { loads.old ≡ record { loads = loads_of units.now.units; slots = units.now.slots; places = no_places (loads_of units.now.units) } }
-    ensures ok { IfOk result (λ plan. IsCertPlan text.items (units_view units.now) plan.places) }
-    ensures legal { IfOk result (λ plan. IsLegal (loads_of units.now.units) units.now.slots plan.places) }
+    ensures ok { IfOk result (λ c. IsCertPlan text.items (units_view units.now) c.plan.places) }
+    ensures legal { IfOk result (λ c. IsLegal (loads_of units.now.units) units.now.slots c.plan.places) }
+    ensures verdict { IfOk result (λ c. IsSaidOf (Some text.items) c.verdict) }
     ensures err { IfErr result (λ r. IsMemory Check r ⊎ IsCertless text.items (units_view units.now) r) }
 {
-    let Right {
-        cert,
-        verdict: said,
-    } = right_cert(alloc, loads, units, text)?;
-    *verdict = Some(said);
+    let Right { cert, verdict } = right_cert(alloc, loads, units, text)?;
     let Cert { best, .. } = cert;
     match best {
-        Some(best) => Ok(best.plan),
+        Some(best) => Ok(Chosen {
+            plan: best.plan,
+            verdict: Some(verdict),
+        }),
         None => Err(Refusal::CertHasNoPlan),
     }
 }
 
-/// The plan of the certificate where there is one, else that of the places in the units; `verdict` gets what the checker says
-/// of a certificate. The room of the certificate is that of the units, with no place.
+/// The plan of the certificate where there is one, else that of the places in the units. The room of the certificate is that
+/// of the units, with no place.
 pub(crate) fn plan_for(
     alloc: Global,
     units: &Units,
     given: Option<Given>,
-    verdict: &mut Option<Verdict>,
-) -> Result<Plan, Refusal>
+) -> Result<Chosen, Refusal>
     requires room { IfSome given (λ g. g.loads ≡ record { loads = loads_of units.now.units; slots = units.now.slots; places = no_places (loads_of units.now.units) }) }
-    ensures ok { IfOk result (λ plan. IsFramedPlan (option_map (λ g. g.text.items) given) (units_view units.now) plan.places) }
-    ensures legal { IfOk result (λ plan. IsLegal (loads_of units.now.units) units.now.slots plan.places) }
+    ensures ok { IfOk result (λ c. IsFramedPlan (option_map (λ g. g.text.items) given) (units_view units.now) c.plan.places) }
+    ensures legal { IfOk result (λ c. IsLegal (loads_of units.now.units) units.now.slots c.plan.places) }
+    ensures verdict { IfOk result (λ c. IsSaidOf (option_map (λ g. g.text.items) given) c.verdict) }
     ensures err { IfErr result (λ r. IsPlanWant (option_map (λ g. g.text.items) given) r ⊎ IsPlanless (option_map (λ g. g.text.items) given) (units_view units.now) r) }
 {
     match given {
         Some(given) => {
             let Given { mut loads, text } = given;
-            text_plan(alloc, &mut loads, units, text, verdict)
+            text_plan(alloc, &mut loads, units, text)
         }
-        None => placed_plan(alloc, units),
+        None => Ok(Chosen {
+            plan: placed_plan(alloc, units)?,
+            verdict: None,
+        }),
     }
 }

@@ -1,8 +1,8 @@
 //! What a job tells.
 
-ghost use Rattle.std.specs.Prelude.{◌≡◌, None, option_map};
+ghost use Rattle.std.specs.Prelude.{◌≡◌, None, IfOk, option_map};
 ghost use Rattle.ec_cli_text.specs.Output.{written_of};
-ghost use Rattle.ec_cli_answers.specs.Told.{told, file_of, plan_told};
+ghost use Rattle.ec_cli_answers.specs.Told.{told, file_of, plan_told, HandsNothing, HasNoCert};
 
 use ec_cert::Cert;
 use ec_checker::Verdict;
@@ -27,7 +27,7 @@ pub enum File {
 pub struct Told {
     pub answer: Answer,
     pub file: File,
-    /// The plan whose frames, play or costs are told; none of a check and of a search.
+    /// The plan whose frames, play or costs are told; none of a check and of a search, whose certificate has it.
     pub plan: Option<Plan>,
     /// How a search ended without a proof; none of a proof, and of other jobs.
     pub ending: Option<Ending>,
@@ -54,6 +54,8 @@ impl Told {
 pub(crate) fn without_file(answer: Result<Answer, Refusal>) -> Result<Told, Refusal>
     ensures text { told result ≡ written_of answer }
     ensures file { file_of result ≡ None }
+    ensures kind { IfOk result (λ t. HasNoCert t.file) }
+    ensures hands { IfOk result HandsNothing }
 {
     match answer {
         Ok(answer) => Ok(Told {

@@ -16,7 +16,7 @@ use Rattle.ec_cli_answers.specs.declared.told.Told.{Told}
 use Rattle.ec_cli_run.specs.declared.merging.MergeFault.{MergeFault}
 use Rattle.ec_cli_run.specs.declared.merging.MergeFault.TheVariants as fault
 use Rattle.ec_cli_refusals.proofs.RefusalLemmas.{code_above}
-use Rattle.ec_cli_run.specs.Merging.{IsMergeFault, IsTrueMerge, IsUnmerged, MergeTellsTruth, unmerged}
+use Rattle.ec_cli_run.specs.Merging.{HandsMerge, IsMergeFault, IsTrueMerge, IsUnmerged, MergeTellsTruth, unmerged}
 use Rattle.ec_cli_run.specs.Runs.{reported}
 use Rattle.ec_cli_run.proofs.PlanSound.{merge_true}
 use Rattle.ec_cli_run.proofs.RunLemmas.{reads_more}
@@ -25,10 +25,11 @@ use Rattle.ec_cli_run.proofs.TruthLemmas.{IsTrueOf, reported_true}
 
 -- what is told of a merged certificate is true of the units that were read
 pub merge_truth : LevelsBound → (left : Option (List ℕ)) (i : Inputs) (t : Result Told MergeFault) → IfSome left (λ bytes. AreRead bytes None (Ok i))
-    → ((bytes : List ℕ) → AnswersUnits (Ok i.units) bytes → IfOk t (λ a. IsMergeWritten bytes (shown a.answer) (file_bytes a.file))) → IfSome left (λ bytes. IsTrueMerge bytes t)
-merge_truth levels None i t read told = tt
-merge_truth levels (Some bytes) i (Ok a) read told = merge_true levels bytes (shown a.answer) (file_bytes a.file) (told bytes read.0)
-merge_truth levels (Some bytes) i (Err why) read told = tt
+    → ((bytes : List ℕ) → AnswersUnits (Ok i.units) bytes → IfOk t (λ a. IsMergeWritten bytes (shown a.answer) (file_bytes a.file)))
+    → ((bytes : List ℕ) → AnswersUnits (Ok i.units) bytes → IfOk t (HandsMerge bytes)) → IfSome left (λ bytes. IsTrueMerge bytes t)
+merge_truth levels None i t read told hands = tt
+merge_truth levels (Some bytes) i (Ok a) read told hands = (merge_true levels bytes (shown a.answer) (file_bytes a.file) (told bytes read.0), hands bytes read.0)
+merge_truth levels (Some bytes) i (Err why) read told hands = tt
 
 -- and so it is where nothing is told
 pub unmerged_truth : (left : Option (List ℕ)) (why : MergeFault) (t : Result Told MergeFault) → t ≡ Err why → IfSome left (λ bytes. IsTrueMerge bytes t)
@@ -42,7 +43,7 @@ unmerged_above (fault.Cert number r) = code_above r
 unmerged_above (fault.Misfit number why) = omega arith
 
 told_truth : (bytes : List ℕ) (t : Result Told MergeFault) → IsTrueMerge bytes t → IfOk t (λ a. IsTrueOf bytes (shown a.answer))
-told_truth bytes (Ok a) true = (file_bytes a.file, true)
+told_truth bytes (Ok a) true = (file_bytes a.file, true.0)
 told_truth bytes (Err why) true = tt
 
 -- what is written of it tells the truth

@@ -14,7 +14,8 @@ use Rattle.ec_cert_merge.specs.declared.fault.Misfit.{Misfit}
 use Rattle.ec_cert_merge.specs.declared.fault.Misfit.TheVariants as misfit
 use Rattle.ec_cli_text.specs.Output.{Written, refused, shown}
 use Rattle.ec_cli_answers.specs.RightTexts.{IsWrongText}
-use Rattle.ec_cli_answers.specs.Told.{file_bytes}
+use Rattle.ec_cli_answers.specs.Merged.{IsMergeOf}
+use Rattle.ec_cli_answers.specs.Told.{HandsOutcome, file_bytes}
 use Rattle.ec_cli_answers.specs.declared.told.Told.{Told}
 use Rattle.ec_cli_run.specs.declared.merging.MergeFault.{MergeFault}
 use Rattle.ec_cli_run.specs.declared.merging.MergeFault.TheVariants as fault
@@ -56,9 +57,13 @@ IsMergeFault bytes count why =
 
 -- ---- what is told of them
 
--- what is told of certificates that were merged is true of the units that the bytes say, and so is their file
+-- what goes with the text of some certificates that were merged
+abbrev pub HandsMerge : List ℕ → Told → Type 0
+HandsMerge bytes t = (cert : CertView) × HandsOutcome (IsMergeOf bytes cert) t
+
+-- what is told of certificates that were merged is true of the units that the bytes say, and so is their file; with it goes what their outcome has
 abbrev pub IsTrueMerge : List ℕ → Result Told MergeFault → Type 0
-IsTrueMerge bytes (Ok t) = TellsTruth bytes (shown t.answer) (file_bytes t.file)
+IsTrueMerge bytes (Ok t) = TellsTruth bytes (shown t.answer) (file_bytes t.file) × HandsMerge bytes t
 IsTrueMerge bytes (Err why) = Unit {0}
 
 -- what is written is true of the units that were read

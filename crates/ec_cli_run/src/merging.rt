@@ -11,7 +11,7 @@ ghost use Rattle.ec_cli_text.specs.Output.{shown};
 ghost use Rattle.ec_cli_answers.specs.Merged.{IsMergeWritten};
 ghost use Rattle.ec_cert_merge.specs.Certs.{IsProven};
 ghost use Rattle.ec_cli_answers.specs.Told.{HasText, file_bytes};
-ghost use Rattle.ec_cli_run.specs.Merging.{IsMergeFault, IsNoCert, IsTrueMerge, IsUnmerged, MergeTellsTruth, unmerged};
+ghost use Rattle.ec_cli_run.specs.Merging.{HandsMerge, IsMergeFault, IsNoCert, IsTrueMerge, IsUnmerged, MergeTellsTruth, unmerged};
 ghost use Rattle.ec_cli_run.specs.Runs.{Tells, reported};
 
 use crate::doing::{Origin, write_late};
@@ -157,6 +157,7 @@ fn merge_for<F: Files>(
 ) -> Result<Told, MergeFault>
     requires some { 1 ≤ length paths.now }
     ensures told { (bytes : List ℕ) → AnswersUnits (OkOf units.now) bytes → IfOk result (λ t. IsMergeWritten bytes (shown t.answer) (file_bytes t.file)) }
+    ensures hands { (bytes : List ℕ) → AnswersUnits (OkOf units.now) bytes → IfOk result (HandsMerge bytes) }
     ensures text { IfOk result (λ t. HasText t.file) }
     ensures err { IfErr result (IsUnmerged units.now (length paths.now)) }
 {
