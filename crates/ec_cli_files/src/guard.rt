@@ -3,14 +3,17 @@
 
 use crate::place::are_same_file;
 use crate::reading::read_front;
-use ec_unit_text::{MOST_BYTES, read_units};
+use ec_unit_text::{MOST_BYTES, UnitFault, read_units};
 use std::alloc::Global;
-use std::io::Read;
+use std::io::{ErrorKind, Read};
 use std::rt::Files;
 use std::{fs, io};
 
 /// How a capture file begins: stamps in ns, version 2.4, frames of at most 65,535 bytes, Ethernet.
 const CAPTURE: &[u8] = b"\x4D\x3C\xB2\xA1\x02\0\x04\0\0\0\0\0\0\0\0\0\xFF\xFF\0\0\x01\0\0\0";
+
+/// The greater half of the seconds at which its first frame is sent, in the head of that record.
+const SOON: &[u8] = &[0, 0];
 
 /// How its first frame begins, behind the head of its record: to all, from the master, EtherCAT.
 const FRAME: &[u8] = b"\xFF\xFF\xFF\xFF\xFF\xFF\x02\0\0\0\0\x01\x88\xA4";
@@ -76,6 +79,8 @@ pub enum KeepReason {
     IsNoFile,
     /// What it holds can't be read.
     Unreadable,
+    /// Memory ran out over what it holds.
+    TooLittleMemory,
     /// It holds a certificate of the same units that says more, and no proof.
     SaysMore,
     /// It holds a certificate of the same search that has closed what the new one leaves open.
@@ -84,9 +89,9 @@ pub enum KeepReason {
     IsProof,
     /// It holds another unit text than the one that the run began with. The new file is taken away.
     Changed,
-    /// It holds the same units with places whose busiest tick costs less.
+    /// It holds units of the same names, periods and bytes with places whose busiest tick costs less.
     Cheaper,
-    /// It holds the same units with places whose busiest tick costs as much, which may be those of a certificate that was left.
+    /// It holds such units with places whose busiest tick costs as much, which may be those of a certificate that was left.
     AsCheap,
     /// Other runs write to it at the same time.
     Changing,
@@ -106,6 +111,9 @@ impl KeepReason {
             }
             KeepReason::Unreadable => {
                 "What it holds cannot be read: give another path, or take the file away first"
+            }
+            KeepReason::TooLittleMemory => {
+                "Memory ran out over what it holds: give another path, or run it with more memory"
             }
             KeepReason::SaysMore => {
                 "It holds a certificate of the same units that says more: where check says that it is right, go on from it, else give another path"
@@ -141,10 +149,12 @@ fn has_version(front: &[u8]) -> bool {
     !version.is_empty() && version.iter().all(u8::is_ascii_digit)
 }
 
-/// Whether the front of a file is that of a capture file, whose first frame, if it has one, a master sends.
+/// Whether the front of a file is that of a capture file, whose first frame, if it has one, a master sends within its first
+/// seconds: one that was recorded has the time of a calendar.
 fn is_capture(front: &[u8]) -> bool {
+    let seconds = front.get(26..28).unwrap_or(SOON);
     let frame = front.get(40..54).unwrap_or(FRAME);
-    front.starts_with(CAPTURE) && frame == FRAME
+    front.starts_with(CAPTURE) && seconds == SOON && frame == FRAME
 }
 
 /// Whether a text begins as another one, whose lines end with a line feed, with a carriage return before it or not.
@@ -173,7 +183,13 @@ fn begins<F: Files>(files: &F, path: &str, content: Content) -> io::Result<bool>
 /// Whether the file at a path is a unit text, which no longer one is than those that are read.
 fn are_units<F: Files>(files: &F, alloc: Global, path: &str) -> io::Result<bool> {
     let bytes = read_front(files, alloc, path, MOST_BYTES as u64 + 1)?;
-    Ok(bytes.len() <= MOST_BYTES && read_units(alloc, &bytes).is_ok())
+    if bytes.len() > MOST_BYTES {
+        return Ok(false);
+    }
+    match read_units(alloc, &bytes) {
+        Err(UnitFault::OutOfMemory) => Err(io::Error::from(ErrorKind::OutOfMemory)),
+        read => Ok(read.is_ok()),
+    }
 }
 
 /// Whether the file at a path holds such content.
@@ -208,6 +224,7 @@ pub fn reason_to_keep<F: Files>(
     match holds(files, alloc, path, content) {
         Ok(true) => None,
         Ok(false) => Some(KeepReason::HoldsElse),
+        Err(error) if error.kind() == ErrorKind::OutOfMemory => Some(KeepReason::TooLittleMemory),
         Err(_) => Some(KeepReason::Unreadable),
     }
 }

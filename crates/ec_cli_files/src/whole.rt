@@ -122,7 +122,7 @@ impl<'a, F: Files> Whole<'a, F> {
     fn is_lost(&self) -> bool {
         match fs::symlink_metadata(self.files, self.name.as_str()) {
             Ok(found) => Identity::of(&found) != self.made,
-            Err(error) => error.kind() == ErrorKind::NotFound,
+            Err(error) => matches!(error.kind(), ErrorKind::NotFound | ErrorKind::NotADirectory),
         }
     }
 

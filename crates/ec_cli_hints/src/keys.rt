@@ -115,9 +115,17 @@ fn counts_bits(word: &str, key: Key) -> bool {
     matches!(key, Key::OutBytes | Key::InBytes) && word.as_bytes().windows(3).any(is_bit)
 }
 
-/// Adds which key was meant by a word; where it counts bits, how they become bytes.
+/// Whether a word that was meant for a time in ns names a longer unit of time.
+fn is_longer(word: &str) -> bool {
+    word.ends_with("us") || word.ends_with("ms") || word.ends_with("_s")
+}
+
+/// Adds which key was meant by a word; where it counts bits, how they become bytes; where another unit of time, how many ns it is.
 pub(crate) fn add_meant(out: &mut Draft, word: &str, key: Key) {
     out.add(format_args!("Was {key} meant?\n"));
+    if matches!(key, Key::TickNs) && is_longer(word) {
+        out.add("It counts ns: 1 us is 1000, and 1 ms is 1000000.\n");
+    }
     if counts_bits(word, key) {
         out.add("It counts whole bytes: up to 8 bits are 1, up to 16 are 2.\n");
     }

@@ -43,6 +43,31 @@ pub(crate) fn tell_range(out: &mut Draft, doc: Doc<'_>, spot: Spot, rule: Rule) 
 const REGISTERS: &str =
     "A slave that has its data there, as digital outputs at 3840, can't be planned: leave it out, and let your master write it.\n";
 
+/// Where the outputs and the inputs of a slave lie whose text doesn't say it.
+const OUT_AT: i64 = 4096;
+
+const IN_AT: i64 = 8192;
+
+/// Addresses from here on are told as they stand, and not asked for their base: digital outputs are at 3840, which is 0x0F00.
+const DIGITAL_OUTPUTS: i64 = 3840;
+
+/// The number that digits of base 16 say, if they say one that isn't too great; `_` may stand between them.
+fn hex_value(digits: &str) -> Option<i64> {
+    let mut sum = 0i64;
+    for letter in digits.chars().filter(|letter| *letter != '_') {
+        let digit = i64::from(letter.to_digit(16)?);
+        sum = sum.checked_mul(16)?.checked_add(digit)?;
+    }
+    Some(sum)
+}
+
+/// Whether a number stands in a text with its base, 16.
+fn is_hex_in(text: &str, number: i64) -> bool {
+    text.split(|letter: char| !letter.is_ascii_alphanumeric() && letter != '_')
+        .filter_map(|word| word.strip_prefix("0x"))
+        .any(|digits| hex_value(digits) == Some(number))
+}
+
 /// An area: where it begins, and its bytes.
 #[derive(Clone, Copy)]
 struct Area {
@@ -64,15 +89,28 @@ impl Area {
         self.at.saturating_add(self.bytes)
     }
 
+    /// Adds that it lies where registers are. One of four digits may be meant in base 16, unless it stands so in the text.
+    fn add_registers(self, out: &mut Draft, text: &str, key: &str) {
+        let at = self.at;
+        let is_hex = is_hex_in(text, at);
+        if is_hex {
+            out.add(format_args!(
+                "{key} is {at}, below 4096 (0x1000), where a slave has registers.\n"
+            ));
+        } else {
+            out.add(format_args!("{key} = {at} is below 4096, where a slave has registers.\n"));
+        }
+        if (1000..DIGITAL_OUTPUTS).contains(&at) && !is_hex {
+            out.add(format_args!("Is {at} of base 16? Then write {key} = 0x{at}.\n"));
+        }
+        out.add(REGISTERS);
+    }
+
     /// Adds what is wrong with it, and says whether something is.
-    fn add_fault(self, out: &mut Draft, key: &str) -> bool {
+    fn add_fault(self, out: &mut Draft, text: &str, key: &str) -> bool {
         let Area { at, bytes } = self;
         if at < 4096 {
-            out.add(format_args!("{key} = {at} is below 4096, where a slave has registers.\n"));
-            if at >= 1000 {
-                out.add(format_args!("Is {at} of base 16? Then write {key} = 0x{at}.\n"));
-            }
-            out.add(REGISTERS);
+            self.add_registers(out, text, key);
         } else if at > 65535 {
             out.add(format_args!("{key} = {at} is above 65535, the last address.\n"));
         } else if self.end() > 65536 {
@@ -86,8 +124,8 @@ impl Area {
     }
 }
 
-/// Adds that two areas overlap, and where each lies.
-fn add_overlap(out: &mut Draft, outputs: Area, inputs: Area) {
+/// Adds that two areas overlap, and where each lies; of one that isn't given also why.
+fn add_overlap(out: &mut Draft, slave: Fields<'_>, outputs: Area, inputs: Area) {
     if outputs.bytes <= 0 || inputs.bytes <= 0 {
         return;
     }
@@ -97,6 +135,11 @@ fn add_overlap(out: &mut Draft, outputs: Area, inputs: Area) {
     out.add(format_args!(
         "The two overlap: outputs at {out_at} to {out_last}, inputs at {in_at} to {in_last}.\n"
     ));
+    for (key, default) in [(Key::Area(false), OUT_AT), (Key::Area(true), IN_AT)] {
+        if !slave.has(key) {
+            out.add(format_args!("{key} is not given, so it is {default}.\n"));
+        }
+    }
 }
 
 /// Tells which cause an area has to be refused.
@@ -109,11 +152,11 @@ pub(crate) fn tell_area(out: &mut Draft, doc: Doc<'_>, spot: Spot) {
     if slave.0.is_none() {
         return;
     }
-    let outputs = Area::of(slave, Key::Area(false), 4096, Key::OutBytes);
-    let inputs = Area::of(slave, Key::Area(true), 8192, Key::InBytes);
-    let first = outputs.add_fault(out, "out_at");
-    let second = inputs.add_fault(out, "in_at");
+    let outputs = Area::of(slave, Key::Area(false), OUT_AT, Key::OutBytes);
+    let inputs = Area::of(slave, Key::Area(true), IN_AT, Key::InBytes);
+    let first = outputs.add_fault(out, doc.text, "out_at");
+    let second = inputs.add_fault(out, doc.text, "in_at");
     if !first && !second {
-        add_overlap(out, outputs, inputs);
+        add_overlap(out, slave, outputs, inputs);
     }
 }

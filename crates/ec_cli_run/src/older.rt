@@ -152,8 +152,8 @@ fn reason_by(older: &Cert, newer: &Cert, is_part: bool) -> Option<KeepReason> {
 }
 
 /// Why a certificate that stands at the path of a newer one makes no room for it: it says more for the same units, or has closed
-/// what the newer one leaves open, where that `is_part` of what both come from; or it can't be read. None where nothing of it is lost
-/// (own profile).
+/// what the newer one leaves open, where that `is_part` of what both come from; or it can't be read, or not in this memory. None where
+/// nothing of it is lost (own profile).
 pub(crate) fn reason_to_stay<F: Files>(
     alloc: Global,
     whole: &Whole<'_, F>,
@@ -166,6 +166,7 @@ pub(crate) fn reason_to_stay<F: Files>(
     match standing_cert(alloc, whole) {
         Ok(Some(older)) => reason_by(&older, newer, is_part),
         Ok(None) => None,
+        Err(error) if error.kind() == ErrorKind::OutOfMemory => Some(KeepReason::TooLittleMemory),
         Err(_) => Some(KeepReason::Unreadable),
     }
 }

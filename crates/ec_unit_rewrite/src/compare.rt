@@ -41,8 +41,8 @@ fn is_same_unit(one: &Unit, other: &Unit) -> bool
         && are_same_slaves(one.slaves.as_slice(), other.slaves.as_slice())
 }
 
-/// Whether units are the same but for their places, one by one (own profile).
-pub fn are_same_units(these: &[Unit], others: &[Unit]) -> bool
+/// Whether units are the same but for their places, one by one.
+pub(crate) fn are_same_units(these: &[Unit], others: &[Unit]) -> bool
     ensures { IsTrue result ↔ (map bare these.now ≡ map bare others.now) }
 {
     if these.len() != others.len() {

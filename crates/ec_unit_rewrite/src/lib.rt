@@ -5,5 +5,4 @@ mod compare;
 mod lines;
 mod placing;
 
-pub use compare::are_same_units;
 pub use placing::{PlacingFault, place_text};

@@ -1,8 +1,9 @@
 //! What is written after the text of a job: the picture of costs, the units with the places of a plan, and what is handed over
 //! with frames.
 
-use crate::costs::{are_same, lacks_place, legal_cost, placed_cost, units_at};
+use crate::costs::{Standing, are_alike, lacks_place, legal_cost, placed_cost, standing_at};
 use crate::ending::Done;
+use crate::lines::differ_in_places;
 use crate::targets::Target;
 use crate::telling::{tell_fault, tell_path, tell_whole};
 use crate::units::MOST_TEXT;
@@ -121,8 +122,32 @@ fn holds_still<R: Files + AllocGlobal>(rt: &R, path: &str, units: &[u8]) -> bool
     }
 }
 
-/// Why places aren't written over the unit text that stands at a path. Of the same units it has places that cost less, or as much where
-/// the certificate was left as it is, since they may be its plan's. Of others it lacks places, so that no plan made it.
+/// Why places of a plan with such a cost aren't written over a unit text that stands. It lacks places, so that no plan made it, and
+/// differs from the units' text in more than places. Or its units have the same names, periods and bytes, and places that cost less, or as
+/// much where the certificate was left as it is, since they may be its plan's.
+fn reason_by(
+    alloc: Global,
+    standing: &Standing,
+    units: &Units,
+    cost: u64,
+    done: Done<'_>,
+) -> Option<KeepReason> {
+    let Standing { text, units: held } = standing;
+    if lacks_place(held) {
+        let is_same = differ_in_places(text.as_slice(), done.left.units);
+        return Some(KeepReason::HoldsElse).filter(|_| !is_same);
+    }
+    if !are_alike(held, units) {
+        return None;
+    }
+    let standing = placed_cost(alloc, held)?;
+    if standing < cost {
+        return Some(KeepReason::Cheaper);
+    }
+    Some(KeepReason::AsCheap).filter(|_| standing == cost && done.is_kept)
+}
+
+/// Why places aren't written over the unit text that stands at a path.
 fn standing_reason<R: Files + AllocGlobal>(
     rt: &R,
     target: Target<'_>,
@@ -134,15 +159,10 @@ fn standing_reason<R: Files + AllocGlobal>(
     }
     let units = read_units(rt.alloc(), done.left.units).ok()?;
     let cost = legal_cost(&units, told.plan()?)?;
-    let held = units_at(rt, rt.alloc(), target.path)?;
-    if !are_same(&held, &units) {
-        return Some(KeepReason::HoldsElse).filter(|_| lacks_place(&held));
+    match standing_at(rt, rt.alloc(), target.path) {
+        Ok(standing) => reason_by(rt.alloc(), &standing?, &units, cost, done),
+        Err(AllocError) => Some(KeepReason::TooLittleMemory),
     }
-    let standing = placed_cost(rt.alloc(), &held)?;
-    if standing < cost {
-        return Some(KeepReason::Cheaper);
-    }
-    Some(KeepReason::AsCheap).filter(|_| standing == cost && done.is_kept)
 }
 
 /// Why what stands at a path is kept: it is the units' own file, and doesn't hold their text any more; or it is a unit text over which no
@@ -170,8 +190,8 @@ fn after_fault(fault: FileFault) -> AfterFault {
     }
 }
 
-/// Writes to a path what is to be there. The units' own file must hold their text still, and no unit text better places for them or
-/// other units without places; so once more when the new one, which is whole by then, takes its place.
+/// Writes to a path what is to be there, unless what stands there is kept. That is judged once more when the new file, which is whole by
+/// then, takes its place.
 fn write_to<R: Files + AllocGlobal>(
     rt: &R,
     target: Target<'_>,
@@ -193,7 +213,11 @@ fn write_to<R: Files + AllocGlobal>(
 }
 
 /// Tells why what is written after the job isn't at its path. Whether nothing is missing.
-fn tell_after<R: AllocGlobal + Eprint>(rt: &R, target: Target<'_>, fault: &AfterFault) -> bool {
+fn tell_after<R: Files + AllocGlobal + Eprint>(
+    rt: &R,
+    target: Target<'_>,
+    fault: &AfterFault,
+) -> bool {
     match fault {
         AfterFault::File(fault) => tell_fault(rt, target, fault),
         AfterFault::Unplaced(why) => tell_path(rt, UNPLACED, target.path, *why),
@@ -203,7 +227,7 @@ fn tell_after<R: AllocGlobal + Eprint>(rt: &R, target: Target<'_>, fault: &After
 }
 
 /// Writes what is to be at some paths after the text of a job, each whole before the next one. Whether nothing is missing; tells
-/// what is, and where standard output hasn't got the text where each whole file lies.
+/// what is, and where standard output hasn't got the text, or says that the job's file isn't at its path, where each whole file lies.
 pub(crate) fn write_after<R: Files + AllocGlobal + Eprint>(
     rt: &R,
     targets: &[Option<Target<'_>>],
@@ -213,7 +237,7 @@ pub(crate) fn write_after<R: Files + AllocGlobal + Eprint>(
     let mut is_whole = true;
     for target in targets.iter().flatten() {
         match write_to(rt, *target, done, told) {
-            Ok(()) if done.untold.is_some() => tell_whole(rt, *target),
+            Ok(()) if done.untold.is_some() || done.is_missing => tell_whole(rt, *target),
             Ok(()) => {}
             Err(fault) => is_whole = tell_after(rt, *target, &fault) && is_whole,
         }

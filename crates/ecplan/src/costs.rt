@@ -4,10 +4,10 @@ use crate::units::MOST_TEXT;
 use ec_cli_files::read_file;
 use ec_cli_text::placed_plan;
 use ec_loads::{Plan, busiest, is_legal};
-use ec_unit_rewrite::are_same_units;
-use ec_unit_text::read_units;
-use ec_units::Units;
-use std::alloc::Global;
+use ec_unit_text::{UnitFault, read_units};
+use ec_units::{Unit, Units, bytes_of};
+use std::alloc::{AllocError, Global};
+use std::io::ErrorKind;
 use std::rt::Files;
 
 /// What the busiest tick of a plan costs, in wire bytes, if the plan is legal.
@@ -21,10 +21,22 @@ pub(crate) fn placed_cost(alloc: Global, units: &Units) -> Option<u64> {
     legal_cost(units, &placed_plan(alloc, units).ok()?)
 }
 
-/// Whether two unit texts say the same but for places.
-pub(crate) fn are_same(one: &Units, other: &Units) -> bool {
-    (one.tick_ns, one.slots) == (other.tick_ns, other.slots)
-        && are_same_units(one.units.as_slice(), other.units.as_slice())
+/// Whether two units have one name, one period and as many bytes.
+fn is_alike(one: &Unit, other: &Unit) -> bool {
+    one.name.as_str() == other.name.as_str()
+        && one.period == other.period
+        && bytes_of(one) == bytes_of(other)
+}
+
+/// Whether a plan of one unit text is one of the other, and costs as much.
+pub(crate) fn are_alike(one: &Units, other: &Units) -> bool {
+    let (these, those) = (one.units.as_slice(), other.units.as_slice());
+    one.slots == other.slots
+        && these.len() == those.len()
+        && these
+            .iter()
+            .zip(those)
+            .all(|(one, other)| is_alike(one, other))
 }
 
 /// Whether some unit has no place, as in a text that is written by hand.
@@ -36,11 +48,27 @@ pub(crate) fn lacks_place(units: &Units) -> bool {
         .any(|unit| unit.place.is_none())
 }
 
-/// The units that the file at a path holds, if that is a unit text that can be read.
-pub(crate) fn units_at<F: Files>(files: &F, alloc: Global, path: &str) -> Option<Units> {
-    let text = read_file(files, alloc, path, MOST_TEXT as u64).ok()??;
-    if text.len() == MOST_TEXT {
-        return None;
+/// A unit text that stands at a path, and what it says.
+#[derive(Drop)]
+pub(crate) struct Standing {
+    pub text: Vec<u8>,
+    pub units: Units,
+}
+
+/// The unit text at a path, if one stands there that can be read. Only want of memory is an error.
+pub(crate) fn standing_at<F: Files>(
+    files: &F,
+    alloc: Global,
+    path: &str,
+) -> Result<Option<Standing>, AllocError> {
+    let text = match read_file(files, alloc, path, MOST_TEXT as u64) {
+        Ok(Some(text)) if text.len() < MOST_TEXT => text,
+        Err(error) if error.kind() == ErrorKind::OutOfMemory => return Err(AllocError),
+        _ => return Ok(None),
+    };
+    match read_units(alloc, text.as_slice()) {
+        Ok(units) => Ok(Some(Standing { text, units })),
+        Err(UnitFault::OutOfMemory) => Err(AllocError),
+        Err(_) => Ok(None),
     }
-    read_units(alloc, text.as_slice()).ok()
 }

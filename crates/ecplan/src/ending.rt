@@ -190,6 +190,11 @@ fn file_bytes<R: Files>(files: &R, path: &str) -> Option<u64> {
     Some(found.len()).filter(|_| found.is_file())
 }
 
+/// Whether what stands at a path is there and is no file, as a pipe: its units can't be read there once more.
+fn is_no_file<R: Files>(files: &R, path: &str) -> bool {
+    fs::metadata(files, path).is_ok_and(|found| !found.is_file())
+}
+
 /// How many bytes a node takes of the certificate of a search without a proof, which has so many; 0 where it has so few nodes that its
 /// other lines count.
 fn bytes_each(told: &Told, bytes: u64) -> u64 {
@@ -222,7 +227,7 @@ fn filed_at<'x, R: Files>(
         None => match file_bytes(files, path) {
             Some(bytes) => Filed::There(Written {
                 path,
-                units: units.filter(|path| file_bytes(files, path).is_some()),
+                units: units.filter(|path| !is_no_file(files, path)),
                 bytes,
                 each: bytes_each(told, bytes),
                 again,
@@ -242,10 +247,13 @@ pub(crate) struct Done<'a> {
     pub untold: Option<io::Error>,
     /// Whether a certificate that stands at its path was left as it is.
     pub is_kept: bool,
+    /// Whether the file isn't at its path, or may not last there.
+    pub is_missing: bool,
 }
 
 /// Tells at the end of a job which number of its units is read otherwise than it looks, if one is, and why its file isn't at its
-/// path, or where it lies where standard output hasn't got the text. Of what was asked of a search or a merge also what was found, where standard output hasn't got it, and what to do.
+/// path, or where it lies where standard output hasn't got the text. Of what was asked of a search or a merge also what was found, where
+/// standard output hasn't got it, and what to do.
 pub(crate) fn tell_end<R: Files + AllocGlobal + Eprint, E>(
     rt: &R,
     told: &Told,

@@ -9,6 +9,7 @@ mod after;
 mod costs;
 mod ending;
 mod job;
+mod lines;
 mod merging;
 mod onward;
 mod output;

@@ -112,6 +112,7 @@ fn merge_units<H: Files + AllocGlobal + Eprint + Print, R: Read + Drop>(
         target,
         untold: output.fault(),
         is_kept: false,
+        is_missing: report.fault.is_some(),
     };
     tell_merge(rt, merging, &report, done);
     report.status.code

@@ -13,6 +13,12 @@ use std::rt::Files;
 /// How the certificate of a search by the strong rules begins.
 const STRONG: &[u8] = b"ecplan 4";
 
+/// Before its tree a certificate has at most so many bytes: those of 48 units and of their places.
+const MOST_HEAD: u64 = 8192;
+
+/// How the line begins that says the level, a number, of a certificate without a proof.
+const LEVEL: &[u8] = b"\nlevel ";
+
 /// A certificate with which a search goes on, its bytes, and how many nodes leave room for one that can be read.
 #[derive(Clone, Copy)]
 struct Room<'a> {
@@ -21,12 +27,19 @@ struct Room<'a> {
     nodes: u64,
 }
 
-/// The room beside the certificate at a path, unless it isn't a file.
+/// Whether a certificate that begins so has a level, and so is no proof.
+fn has_level(head: &[u8]) -> bool {
+    head.windows(LEVEL.len() + 1).any(|words| words.starts_with(LEVEL)
+        && words.last().is_some_and(|byte| byte.is_ascii_digit()))
+}
+
+/// The room beside the certificate at a path, unless it isn't a file, or is a proof, with which no search goes on.
 fn room_at<'a, H: Files + AllocGlobal>(rt: &H, path: &'a str) -> Option<Room<'a>> {
     let bytes = fs::metadata(rt, path).ok()?.len();
-    let front = read_file(rt, rt.alloc(), path, STRONG.len() as u64).ok()??;
-    let nodes = room_beside(bytes, front.as_slice() == STRONG);
-    Some(Room { path, bytes, nodes })
+    let head = read_file(rt, rt.alloc(), path, MOST_HEAD).ok()??;
+    let head = head.as_slice();
+    let nodes = room_beside(bytes, head.starts_with(STRONG));
+    Some(Room { path, bytes, nodes }).filter(|_| has_level(head))
 }
 
 /// That so many nodes may make a certificate that can't be read, and how many do not.

@@ -1,6 +1,6 @@
 //! What the words write to paths, looked at before the job.
 
-use crate::telling::{more_on, tell};
+use crate::telling::{more_on, reason_at, tell};
 use ec_cli_command::Line;
 use ec_cli_explain::quoted_path;
 use ec_cli_files::{Content, KeepReason, Late, are_one, are_same_file, reason_to_keep};
@@ -173,15 +173,16 @@ pub(crate) fn may_write<H: Files + AllocGlobal + Eprint>(
 }
 
 /// That a path can't be written, while a search goes on.
-fn unwritable_text(
-    alloc: Global,
+fn unwritable_text<H: Files + AllocGlobal>(
+    rt: &H,
     target: Target<'_>,
     why: io::Error,
 ) -> Result<String, AllocError> {
+    let alloc = rt.alloc();
     let (name, path) = (target.content.as_str(), quoted_path(alloc, target.path)?);
-    let more = more_on(why);
+    let (reason, more) = (reason_at(rt, target.path, why)?, more_on(why));
     format!(in alloc;
-        "A search tells its plan all the same, but the {name} cannot be written to {path}.\n{why}.\n{more}"
+        "A search tells its plan all the same, but the {name} cannot be written to {path}.\n{reason}.\n{more}"
     )
 }
 
@@ -192,7 +193,7 @@ fn try_target<H: Files + AllocGlobal + Eprint>(
 ) -> Result<(), AllocError> {
     let mut late = Late::new(rt, rt.alloc(), target.path, target.content)?;
     if let Err(why) = late.try_path() {
-        tell(rt, unwritable_text(rt.alloc(), target, why));
+        tell(rt, unwritable_text(rt, target, why));
     }
     Ok(())
 }

@@ -40,13 +40,14 @@ fn path_text<W: Display + Drop>(
     format!(in alloc; "{words} {path}.\n{why}.\n")
 }
 
-/// Why the system refuses to read a path; of a link that leads nowhere that it is one.
+/// Why the system refuses to read or to write a path; of a link that leads nowhere that it is one.
 pub(crate) fn reason_at<R: Files + AllocGlobal>(
     rt: &R,
     path: &str,
     why: io::Error,
 ) -> Result<String, AllocError> {
-    if why.kind() == ErrorKind::NotFound && fs::symlink_metadata(rt, path).is_ok() {
+    let leads_nowhere = fs::symlink_metadata(rt, path).is_ok() && fs::metadata(rt, path).is_err();
+    if why.kind() == ErrorKind::NotFound && leads_nowhere {
         return String::from_str(rt.alloc(), "It is a link to a file that isn't there");
     }
     why.to_string(rt.alloc())
@@ -111,13 +112,18 @@ fn kept_since(why: KeepReason) -> &'static str {
 }
 
 /// Why a file isn't at its path, and where it lies.
-fn fault_text(alloc: Global, target: Target<'_>, fault: &FileFault) -> Result<String, AllocError> {
+fn fault_text<R: Files + AllocGlobal>(
+    rt: &R,
+    target: Target<'_>,
+    fault: &FileFault,
+) -> Result<String, AllocError> {
+    let alloc = rt.alloc();
     let Target { path, content, .. } = target;
     let (name, path) = (content.as_str(), quoted_path(alloc, path)?);
     match fault {
         FileFault::Unwritten { why } => {
-            let more = more_on(*why);
-            format!(in alloc; "The {name} cannot be written to {path}.\n{why}.\n{more}")
+            let (reason, more) = (reason_at(rt, target.path, *why)?, more_on(*why));
+            format!(in alloc; "The {name} cannot be written to {path}.\n{reason}.\n{more}")
         }
         FileFault::Unsure { at, why } => {
             let at = quoted_path(alloc, at.as_str())?;
@@ -148,6 +154,10 @@ fn fault_text(alloc: Global, target: Target<'_>, fault: &FileFault) -> Result<St
 }
 
 /// Tells why a file isn't at its path, and where it lies.
-pub(crate) fn tell_fault<R: AllocGlobal + Eprint>(rt: &R, target: Target<'_>, fault: &FileFault) {
-    tell(rt, fault_text(rt.alloc(), target, fault));
+pub(crate) fn tell_fault<R: Files + AllocGlobal + Eprint>(
+    rt: &R,
+    target: Target<'_>,
+    fault: &FileFault,
+) {
+    tell(rt, fault_text(rt, target, fault));
 }
