@@ -470,8 +470,21 @@ def try_places_of_a_proof(trial):
     trial.holds(again.code == 2 and trial.get("placed.toml") != before["placed.toml"].holds, f"places without a certificate: {again.said}")
 
 
+def try_alike_places(change, trial):
+    """Better places stay, also of a text that says something else on which no cost stands."""
+    trial.put("units.toml", example("assembly-line.toml"))
+    trial.run("plan", "--strong", "--places", "placed.toml", "units.toml")
+    trial.put("placed.toml", change(trial.get("placed.toml")))
+    before = trial.seen()
+    worse = trial.run("plan", "--nodes", "1", "units.toml")
+    done = trial.run("plan", "--nodes", "1", "--places", "placed.toml", "units.toml")
+    trial.ends(done, 4, worse.text)
+    trial.tells(done, "placed.toml", "costs less")
+    trial.left(before)
+
+
 def try_other_places(change, trial):
-    """Better places of a text that says something else are replaced."""
+    """Better places of a text that says something else on which costs stand, or is of other units, are replaced."""
     trial.put("units.toml", example("assembly-line.toml"))
     trial.run("plan", "--strong", "--places", "placed.toml", "units.toml")
     other = change(trial.get("placed.toml"))
@@ -496,6 +509,9 @@ def better_places(_outputs):
     """`--places` where better places for the same units stand, or for others."""
     for what, change in (("another station", lambda text: text.replace(b"station = 2001", b"station = 2999")),
                          ("another tick", lambda text: text.replace(b"tick_ns = ", b"tick_ns = 1"))):
+        yield f"plan --places p, over better places with {what}", partial(try_alike_places, change)
+    for what, change in (("other names", lambda text: text.replace(b'name = "', b'name = "x-')),
+                         ("one slot more", lambda text: text.replace(b"slots = 1", b"slots = 2"))):
         yield f"plan --places p, over better places with {what}", partial(try_other_places, change)
     yield "plan --places p, over better places with a text that is too long", try_longer_text
     yield "plan --places p, over better places of another text for the same units", partial(try_better_places, "units.toml")
