@@ -7,61 +7,42 @@ use std::alloc::{AllocError, Global};
 /// The most digits that are told.
 const MOST_DIGITS: usize = 32;
 
-/// A number that a PLC program would write so: its base, how TOML marks that, and its digits.
-#[derive(Clone, Copy)]
-struct Marked<'a> {
-    base: &'a str,
-    mark: &'static str,
-    digits: &'a str,
-}
-
-/// How TOML marks a base.
-fn mark_of(base: &str) -> Option<&'static str> {
-    match base {
-        "16" => Some("0x"),
-        "8" => Some("0o"),
-        "2" => Some("0b"),
-        _ => None,
-    }
-}
-
-/// The letters and digits with which a text begins.
-fn first_word(text: &str) -> &str {
-    text.split(|letter: char| !letter.is_ascii_alphanumeric() && letter != '_')
-        .next()
-        .unwrap_or("")
-}
-
-/// The number of a line whose base stands before its first `#` and whose digits stand behind it, if there is one.
-fn marked_in(line: &str) -> Option<Marked<'_>> {
+/// The number of a line whose base stands before its first `#` and whose digits stand behind it, if there is one: the base, how TOML
+/// marks that, and the digits.
+fn marked_in(line: &str) -> Option<(&str, &'static str, &str)> {
     let value = uncommented(line);
     let comment = line.strip_prefix(value)?.strip_prefix('#')?;
     let base = value
         .rsplit(|letter: char| !letter.is_ascii_digit())
         .next()?;
-    let mark = mark_of(base)?;
-    let digits = first_word(comment);
-    let is_number = digits.starts_with(|letter: char| letter.is_ascii_hexdigit())
+    let mark = match base {
+        "16" => "0x",
+        "8" => "0o",
+        "2" => "0b",
+        _ => return None,
+    };
+    let mut words = comment.split(|letter: char| !letter.is_ascii_alphanumeric() && letter != '_');
+    let digits = words.next()?;
+    let is_digit = |letter: char| letter.is_ascii_hexdigit();
+    let is_number = digits.starts_with(is_digit)
         && digits
             .chars()
-            .all(|letter| letter.is_ascii_hexdigit() || letter == '_');
-    Some(Marked { base, mark, digits }).filter(|_| is_number
+            .all(|letter| is_digit(letter) || letter == '_');
+    Some((base, mark, digits)).filter(|_| is_number
         && digits.len() <= MOST_DIGITS
         && value.contains('='))
 }
 
 /// Adds the first number of a unit text that a PLC program would write so, as it is read and as it is to be written.
 pub(crate) fn add_marked(out: &mut Draft, text: &str) {
-    let found = text.split('\n').enumerate().find_map(|(line, words)| marked_in(words).map(
-        |marked| (line, marked),
-    ));
-    let Some((line, Marked { base, mark, digits })) = found else {
-        return;
-    };
-    let line = line.saturating_add(1);
-    out.add(format_args!(
-        "Line {line}: {base}#{digits} is read as {base}, since a comment begins with #. Write {mark}{digits}.\n"
-    ));
+    for (index, line) in text.split('\n').enumerate() {
+        if let Some((base, mark, digits)) = marked_in(line) {
+            let number = index.saturating_add(1);
+            return out.add(format_args!(
+                "Line {number}: {base}#{digits} is read as {base}, since a comment begins with #. Write {mark}{digits}.\n"
+            ));
+        }
+    }
 }
 
 /// What there is to tell of a unit text that was found right, and has numbers that are read otherwise than they look. Only want of

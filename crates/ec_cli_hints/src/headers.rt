@@ -46,21 +46,19 @@ pub(crate) fn line_named(doc: Doc<'_>, name: &str) -> Option<usize> {
 /// The line, from 1, at which the table of a unit begins, or of a slave of it, both numbered from 0. None where the units aren't
 /// all begun by such lines, or the unit's slaves.
 pub(crate) fn header_line(doc: Doc<'_>, unit: usize, slave: Option<usize>) -> Option<usize> {
+    let sought = (
+        unit.saturating_add(1),
+        slave.map_or(0, |slave| slave.saturating_add(1)),
+    );
     let (mut units, mut slaves) = (0usize, 0usize);
     let mut found = None;
     for (index, line) in doc.text.lines().enumerate() {
-        let is_sought = match header_of(line) {
-            Some(Header::Unit) => {
-                units = units.saturating_add(1);
-                slave.is_none() && units == unit.saturating_add(1)
-            }
-            Some(Header::Slave) if units == unit.saturating_add(1) => {
-                slaves = slaves.saturating_add(1);
-                slave.is_some_and(|slave| slaves == slave.saturating_add(1))
-            }
-            _ => false,
-        };
-        if is_sought {
+        match header_of(line) {
+            Some(Header::Unit) => units = units.saturating_add(1),
+            Some(Header::Slave) if units == sought.0 => slaves = slaves.saturating_add(1),
+            _ => continue,
+        }
+        if (units, slaves) == sought {
             found = Some(index.saturating_add(1));
         }
     }

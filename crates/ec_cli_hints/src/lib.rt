@@ -29,7 +29,6 @@ mod ranges;
 mod slips;
 mod syntax;
 mod telling;
-mod twice;
 mod units;
 
 pub use advising::{Asked, Filed, Found, Written, counsel, room_beside};

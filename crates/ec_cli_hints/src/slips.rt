@@ -1,7 +1,7 @@
 //! What was likely meant by a line of a unit text at which the TOML reader stopped.
 
 use crate::headers::{header_of, name_of};
-use crate::twice::hint_of_twice;
+use crate::keys::{SLAVE, UNIT};
 
 /// Where the reader stopped.
 #[derive(Clone, Copy)]
@@ -25,9 +25,6 @@ const BASE: &str = "A number of base 16 is written 0x3E9.\n";
 /// What is told of a number with a unit of measure.
 const MEASURE: &str =
     "A number has no letters behind it. A period is in ticks, and tick_ns in ns: 1 ms is 1000000.\n";
-
-/// What is told of a blank that TOML doesn't know.
-const BLANK: &str = "A blank stands there that looks like a space and is none: type it again.\n";
 
 /// What is told of a text whose quotes aren't whole.
 const QUOTES: &str =
@@ -56,10 +53,9 @@ fn lacks_quote(line: &str) -> bool {
 
 /// Whether a line has a comment of another language.
 fn has_slashes(line: &str) -> bool {
-    match uncommented(line).split_once("//") {
-        Some((before, _)) => !lacks_quote(before),
-        None => false,
-    }
+    uncommented(line)
+        .split_once("//")
+        .is_some_and(|(before, _)| !lacks_quote(before))
 }
 
 /// What stands in a line before its first #.
@@ -84,9 +80,13 @@ fn has_curly(stop: Stop<'_>) -> bool {
     }
 }
 
+/// Whether a character is a digit of base 10.
+fn is_digit(letter: char) -> bool {
+    letter.is_ascii_digit()
+}
+
 /// Whether a value has digits, and nothing else but what is written between them.
 fn is_spaced_number(value: &str) -> bool {
-    let is_digit = |letter: char| letter.is_ascii_digit();
     value.contains(is_digit)
         && value
             .chars()
@@ -95,30 +95,26 @@ fn is_spaced_number(value: &str) -> bool {
 
 /// Whether a value is a number with a 0 in front.
 fn has_zero(value: &str) -> bool {
-    match value.trim_start_matches(['+', '-']).strip_prefix('0') {
-        Some(rest) => rest.starts_with(|letter: char| letter.is_ascii_digit()),
-        None => false,
-    }
+    let behind = value
+        .trim_start_matches(['+', '-'])
+        .strip_prefix('0')
+        .unwrap_or("");
+    behind.starts_with(is_digit)
 }
 
 /// What is left of a value without the marks of base 16 in other languages, and without one that TOML has in small letters.
 fn without_marks(value: &str) -> &str {
-    for mark in ["0X", "$"] {
-        if let Some(rest) = value.strip_prefix(mark) {
-            return rest;
-        }
+    if let Some(rest) = value.strip_prefix("0X").or_else(|| value.strip_prefix('$')) {
+        return rest;
     }
-    match value.strip_suffix('h').or_else(|| value.strip_suffix('H')) {
-        Some(rest) => rest.trim_end(),
-        None => value,
-    }
+    value.strip_suffix(['h', 'H']).map_or(value, str::trim_end)
 }
 
 /// Whether a value is a number of base 16 as TOML doesn't write it, as `1A00`, `0X3E9` and `3E9h` are.
 fn is_other_base(value: &str) -> bool {
     let digits = without_marks(value);
     let is_marked = digits.len() < value.len();
-    digits.contains(|letter: char| letter.is_ascii_digit())
+    digits.contains(is_digit)
         && digits.chars().all(|letter| letter.is_ascii_hexdigit())
         && (is_marked || digits.contains(|letter: char| letter.is_ascii_alphabetic()))
 }
@@ -130,7 +126,7 @@ fn is_letters(word: &str) -> bool {
 
 /// Whether a value is digits, and a word of letters behind them.
 fn has_measure(value: &str) -> bool {
-    let behind = value.trim_start_matches(|letter: char| letter.is_ascii_digit());
+    let behind = value.trim_start_matches(is_digit);
     behind.len() < value.len() && !value.starts_with('0') && is_letters(behind.trim_start())
 }
 
@@ -158,40 +154,58 @@ fn is_strange_blank(letter: char) -> bool {
     )
 }
 
-/// What was likely meant by a header in other brackets.
-fn hint_of_header(word: &str) -> Option<&'static str> {
-    if word.starts_with("[[unit") && header_of(word).is_none() {
-        return Some(
-            "A header is [[unit]] or [[unit.slave]], with two brackets side by side before and behind it.\n",
-        );
+/// Whether braces are open behind a text.
+fn is_within_braces(text: &str) -> bool {
+    let (mut opened, mut closed) = (0usize, 0usize);
+    for line in text.lines().map(uncommented) {
+        opened = opened.saturating_add(line.matches('{').count());
+        closed = closed.saturating_add(line.matches('}').count());
     }
-    if word.starts_with("[unit]") {
-        return Some("Each unit begins with [[unit]], in double brackets.\n");
-    }
-    if word.starts_with("[unit.slave]") || word.starts_with("[slave]") {
-        return Some("Each slave begins with [[unit.slave]], in double brackets.\n");
-    }
-    None
+    opened > closed
 }
 
-/// What was likely meant by a word, where the line has the signs of another language.
-fn hint_of_signs(stop: Stop<'_>, word: &str) -> Option<&'static str> {
-    if word.starts_with("```") {
-        return Some("This line is no part of the text: take it out.\n");
+/// What was likely meant by a key at which the reader stopped since its table has it already: a table that isn't begun, if the key is
+/// one of a slave or a unit.
+fn hint_of_twice(stop: Stop<'_>) -> &'static str {
+    let key = stop.line.split('=').next().unwrap_or("").trim();
+    if is_within_braces(stop.before) {
+        "A key stands once within { }. Each table has braces of its own, with a comma between two.\n"
+    } else if SLAVE.has(key) {
+        "A key stands once in its table. Where a further slave begins here, the line [[unit.slave]] before it is missing; else take one of the two lines out.\n"
+    } else if key == "slave" {
+        "A key stands once in its table. All slaves of a unit stand in one list, as slave = [{ .. }, { .. }]; a further unit begins with a line [[unit]].\n"
+    } else if UNIT.has(key) {
+        "A key stands once in its table. Where a further unit begins here, the line [[unit]] before it is missing; else take one of the two lines out.\n"
+    } else {
+        "A key stands once in its table: take one of the two lines out.\n"
     }
-    if stop.rest.starts_with(is_strange_blank) {
-        return Some(BLANK);
+}
+
+/// What was likely meant by a line with a header in other brackets, a key that stands twice, or the signs of another language.
+fn hint_of_line(stop: Stop<'_>, word: &str) -> Option<&'static str> {
+    if word.starts_with("[[unit") && header_of(word).is_none() {
+        Some(
+            "A header is [[unit]] or [[unit.slave]], with two brackets side by side before and behind it.\n",
+        )
+    } else if word.starts_with("[unit]") {
+        Some("Each unit begins with [[unit]], in double brackets.\n")
+    } else if word.starts_with("[unit.slave]") || word.starts_with("[slave]") {
+        Some("Each slave begins with [[unit.slave]], in double brackets.\n")
+    } else if stop.message.contains("duplicate") {
+        Some(hint_of_twice(stop))
+    } else if word.starts_with("```") {
+        Some("This line is no part of the text: take it out.\n")
+    } else if stop.rest.starts_with(is_strange_blank) {
+        Some("A blank stands there that looks like a space and is none: type it again.\n")
+    } else if has_slashes(stop.line) || word.starts_with("/*") || word.starts_with(';') {
+        Some("A comment begins with #.\n")
+    } else if has_curly(stop) {
+        Some("Take the plain quote \".\n")
+    } else if lacks_quote(stop.line) {
+        Some(QUOTES)
+    } else {
+        None
     }
-    if has_slashes(stop.line) || word.starts_with("/*") || word.starts_with(';') {
-        return Some("A comment begins with #.\n");
-    }
-    if has_curly(stop) {
-        return Some("Take the plain quote \".\n");
-    }
-    if lacks_quote(stop.line) {
-        return Some(QUOTES);
-    }
-    None
 }
 
 /// What was likely meant by what stands behind the value or the header of a line: behind a digit, perhaps the rest of a number.
@@ -202,9 +216,9 @@ fn hint_behind(stop: Stop<'_>, word: &str) -> &'static str {
         "A header stands alone on its line, without , or ; behind it.\n"
     } else if matches!(behind, "h" | "H") {
         BASE
-    } else if before.ends_with(|letter: char| letter.is_ascii_digit()) && is_letters(behind) {
+    } else if before.ends_with(is_digit) && is_letters(behind) {
         MEASURE
-    } else if before.ends_with(|letter: char| letter.is_ascii_digit()) {
+    } else if before.ends_with(is_digit) {
         "A line has one key and its value, without , or ; behind it. A number is written 1000000 or 1_000_000.\n"
     } else {
         "A line has one key and its value, without , or ; behind it.\n"
@@ -218,17 +232,12 @@ fn is_own_line(line: &str) -> bool {
         || (line.contains('=') && !line.contains(['{', '}']) && !line.ends_with(','))
 }
 
-/// Whether the reader stopped at a line that it took for part of a list.
-fn is_in_list(stop: Stop<'_>, word: &str) -> bool {
-    let is_whole = stop.rest.trim() == word || header_of(word).is_some();
-    is_whole
-        && (stop.message.contains("between array elements")
-            || stop.message.starts_with("invalid value"))
-}
-
 /// What was likely meant by a line that the reader took for part of a list.
 fn hint_in_list(stop: Stop<'_>, word: &str) -> Option<&'static str> {
-    if !is_in_list(stop, word) {
+    let is_whole = stop.rest.trim() == word || header_of(word).is_some();
+    let is_item = stop.message.contains("between array elements")
+        || stop.message.starts_with("invalid value");
+    if !is_whole || !is_item {
         None
     } else if is_own_line(word) {
         Some("A list that begins above this line is not closed: its ] is missing.\n")
@@ -246,10 +255,10 @@ fn has_key_of_words(line: &str) -> bool {
             && word.chars().all(|letter| letter.is_ascii_alphanumeric()
                 || matches!(letter, '_' | '-'))
     };
-    match uncommented(line).split_once('=') {
-        Some((key, _)) => key.trim().contains(' ') && key.split_whitespace().all(is_plain),
-        None => false,
-    }
+    let key = uncommented(line)
+        .split_once('=')
+        .map_or("", |(key, _)| key.trim());
+    key.contains(' ') && key.split_whitespace().all(is_plain)
 }
 
 /// What was likely meant by a line with nothing but plain signs, by the reader's message; empty where that isn't known.
@@ -283,13 +292,7 @@ fn hint_of_message(stop: Stop<'_>, word: &str) -> &'static str {
 /// What was likely meant by a line at which the reader stopped; empty where that isn't known.
 pub(crate) fn hint(stop: Stop<'_>) -> &'static str {
     let word = stop.line.trim();
-    if let Some(meant) = hint_of_header(word) {
-        return meant;
-    }
-    if stop.message.contains("duplicate") {
-        return hint_of_twice(stop);
-    }
-    hint_of_signs(stop, word)
+    hint_of_line(stop, word)
         .or_else(|| hint_in_list(stop, word))
         .unwrap_or_else(|| hint_of_message(stop, word))
 }

@@ -23,39 +23,24 @@ pub(crate) fn line_at(text: &[u8], line: usize) -> Option<&[u8]> {
     text.split(|byte| *byte == b'\n').nth(line)
 }
 
-/// Whether a text is that of a certificate.
-fn is_cert(text: &str) -> bool {
-    match text.strip_prefix("ecplan ") {
-        Some(rest) => rest.starts_with(|letter: char| letter.is_ascii_digit()),
-        None => false,
-    }
-}
-
 /// What a text is that isn't one of units, as far as that is seen.
 pub(crate) fn kind_of(text: &str) -> Option<&'static str> {
-    if is_cert(text) {
-        return Some(
-            "It is a certificate, and the file of the units is wanted here. A command that reads a certificate takes it behind --cert.\n",
-        );
-    }
+    let version = text.strip_prefix("ecplan ").unwrap_or("");
     let front = text.trim_start_matches('\u{feff}').trim_start();
-    if front.contains("<EtherCATInfo") {
-        return Some(
-            "It is a device description (ESI). Have the engineering tool export the network (ENI), of which tools/units-from-eni of the sources makes a unit text.\n",
-        );
-    }
-    if front.starts_with("<?xml") || front.starts_with("<EtherCAT") {
-        return Some(
-            "It is XML. Of the network description (ENI) of an engineering tool tools/units-from-eni of the sources makes a unit text.\n",
-        );
-    }
-    if front.starts_with("{\\rtf") {
-        return Some("It is a text with formats: save it as plain text.\n");
-    }
-    if text.contains('\r') && !text.contains('\n') {
-        return Some("Its lines end with a carriage return alone: save it with line feeds.\n");
-    }
-    None
+    let kind = if version.starts_with(|letter: char| letter.is_ascii_digit()) {
+        "It is a certificate, and the file of the units is wanted here. A command that reads a certificate takes it behind --cert.\n"
+    } else if front.contains("<EtherCATInfo") {
+        "It is a device description (ESI). Have the engineering tool export the network (ENI), of which tools/units-from-eni of the sources makes a unit text.\n"
+    } else if front.starts_with("<?xml") || front.starts_with("<EtherCAT") {
+        "It is XML. Of the network description (ENI) of an engineering tool tools/units-from-eni of the sources makes a unit text.\n"
+    } else if front.starts_with("{\\rtf") {
+        "It is a text with formats: save it as plain text.\n"
+    } else if text.contains('\r') && !text.contains('\n') {
+        "Its lines end with a carriage return alone: save it with line feeds.\n"
+    } else {
+        return None;
+    };
+    Some(kind)
 }
 
 /// Adds what was likely meant where the reader stopped with a message behind so many bytes, at a line, from 0.
