@@ -50,6 +50,12 @@ impl<'a> Fields<'a> {
         self.value(key)?.as_str()
     }
 
+    /// Whether there is an array at a word, which may be no key.
+    pub(crate) fn has_array(self, word: &str) -> bool {
+        let value = self.0.and_then(|table| table.get(word));
+        matches!(value, Some(Value::Array(_)))
+    }
+
     /// The values of the array at a key; none where there is no array.
     pub(crate) fn array(self, key: Key) -> &'a [Value] {
         match self.value(key) {
@@ -61,10 +67,8 @@ impl<'a> Fields<'a> {
 
 /// The table that is this item of an array.
 fn item(values: &[Value], index: Option<usize>) -> Fields<'_> {
-    match index {
-        Some(index) => Fields(values.get(index).and_then(Value::as_table)),
-        None => Fields(None),
-    }
+    let value = index.and_then(|index| values.get(index));
+    Fields(value.and_then(Value::as_table))
 }
 
 /// The unit text, the table that it is or why it isn't TOML, and what gives memory for more.

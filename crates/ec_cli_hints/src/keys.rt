@@ -80,12 +80,8 @@ pub(crate) fn meaning(key: Key) -> &'static str {
 
 /// The first key of a table that isn't one of its kind.
 pub(crate) fn unknown_in<'a>(table: Fields<'a>, kind: Kind) -> Option<&'a str> {
-    for word in table.0?.keys() {
-        if !kind.has(word.as_str()) {
-            return Some(word.as_str());
-        }
-    }
-    None
+    let mut words = table.0?.keys().map(|word| word.as_str());
+    words.find(|word| !kind.has(word))
 }
 
 /// Whether a word that isn't known in a table was meant for the slaves of a unit: at the top of the file each one that begins as
@@ -101,12 +97,11 @@ fn place_of(word: &str, at: Kind) -> Option<&'static str> {
     if are_slaves(word, at) {
         return Some("A slave begins with [[unit.slave]], below the [[unit]] that it belongs to.\n");
     }
-    for kind in [SLAVE, UNIT, TOP] {
-        if kind.has(word) {
-            return Some(kind.astray);
-        }
-    }
-    None
+    let kinds = [SLAVE, UNIT, TOP];
+    kinds
+        .iter()
+        .find(|kind| kind.has(word))
+        .map(|kind| kind.astray)
 }
 
 /// Whether a word that was meant for a key counts bits, where the key counts bytes.
@@ -115,15 +110,11 @@ fn counts_bits(word: &str, key: Key) -> bool {
     matches!(key, Key::OutBytes | Key::InBytes) && word.as_bytes().windows(3).any(is_bit)
 }
 
-/// Whether a word that was meant for a time in ns names a longer unit of time.
-fn is_longer(word: &str) -> bool {
-    word.ends_with("us") || word.ends_with("ms") || word.ends_with("_s")
-}
-
 /// Adds which key was meant by a word; where it counts bits, how they become bytes; where another unit of time, how many ns it is.
 pub(crate) fn add_meant(out: &mut Draft, word: &str, key: Key) {
     out.add(format_args!("Was {key} meant?\n"));
-    if matches!(key, Key::TickNs) && is_longer(word) {
+    let is_longer = word.ends_with("us") || word.ends_with("ms") || word.ends_with("_s");
+    if matches!(key, Key::TickNs) && is_longer {
         out.add("It counts ns: 1 us is 1000, and 1 ms is 1000000.\n");
     }
     if counts_bits(word, key) {
@@ -135,15 +126,8 @@ pub(crate) fn add_meant(out: &mut Draft, word: &str, key: Key) {
 /// which key was meant, if that isn't there.
 pub(crate) fn add_unknown(out: &mut Draft, doc: Doc<'_>, word: &str, spot: Spot) {
     let kind = Kind::at(spot);
-    let line = match spot.unit {
-        Some(_) => None,
-        None => line_named(doc, word),
-    };
-    out.add(format_args!(
-        "the key {}{} is not known there.\n",
-        Quoted(word),
-        AtLine(line)
-    ));
+    let line = AtLine(line_named(doc, word).filter(|_| spot.unit.is_none()));
+    out.add(format_args!("the key {}{line} is not known there.\n", Quoted(word)));
     if let Some(place) = place_of(word, kind) {
         return out.add(place);
     }
@@ -201,35 +185,19 @@ fn type_of(key: Key, value: &Value) -> &'static str {
     }
 }
 
-/// The key at the top of the file that stands in place of `unit` above its units, where slaves alone begin that.
-fn unit_meant<'a>(doc: Doc<'a>, spot: Spot) -> Result<Option<&'a str>, AllocError> {
-    let top = doc.top();
-    let Some(Value::Table(begun)) = top.value(Key::Unit) else {
-        return Ok(None);
+/// Tells that no unit is begun, but by its slaves alone, where another key of an array was meant for `unit`; says whether one was.
+fn tell_unbegun(out: &mut Draft, doc: Doc<'_>, spot: Spot) -> bool {
+    let Some(Value::Table(begun)) = doc.top().value(Key::Unit) else {
+        return false;
     };
     let is_of_slaves = begun.keys().all(|key| key.as_str() == Key::Slave.as_str());
-    match meant_for(doc, spot, Key::Unit)? {
-        Some(word) if is_of_slaves && top.0.is_some_and(|table| is_array(table.get(word))) => {
-            Ok(Some(word))
-        }
-        _ => Ok(None),
-    }
-}
-
-/// Whether a value is there and an array.
-fn is_array(value: Option<&Value>) -> bool {
-    matches!(value, Some(Value::Array(_)))
-}
-
-/// Tells that no unit is begun, but by its slaves, where another key was meant for `unit`; says whether one was.
-fn tell_unbegun(out: &mut Draft, doc: Doc<'_>, spot: Spot) -> bool {
-    match unit_meant(doc, spot) {
+    match meant_for(doc, spot, Key::Unit) {
         Err(_) => out.give_up(),
-        Ok(None) => return false,
-        Ok(Some(word)) => out.add(format_args!(
+        Ok(Some(word)) if is_of_slaves && doc.top().has_array(word) => out.add(format_args!(
             "No unit is begun: at the top of the file stands {} in place of unit.\nEach unit begins with a line [[unit]].\n",
             Quoted(word)
         )),
+        Ok(_) => return false,
     }
     true
 }

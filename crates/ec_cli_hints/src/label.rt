@@ -20,20 +20,6 @@ impl fmt::Display for AtLine {
     }
 }
 
-/// A unit without its line: `unit "a"`, or its number where it has no name.
-#[derive(Clone, Copy)]
-struct UnitName<'a>(Doc<'a>, usize);
-
-impl fmt::Display for UnitName<'_> {
-    fn fmt<W: fmt::Write>(&self, f: &mut fmt::Formatter<W>) -> fmt::Result {
-        let UnitName(doc, unit) = *self;
-        match doc.unit(Some(unit)).text(Key::Name) {
-            Some(name) => write!(f, "unit {}", Quoted(name)),
-            None => write!(f, "unit number {}", unit.saturating_add(1)),
-        }
-    }
-}
-
 /// Whether several slaves of a unit have a station.
 fn is_shared(doc: Doc<'_>, unit: usize, station: i64) -> bool {
     let has_it = |slave: &&Value| Fields::of(slave).number(Key::Station) == Some(station);
@@ -59,8 +45,15 @@ impl fmt::Display for Named<'_> {
                 None => write!(f, "slave number {number} of ")?,
             }
         }
-        let line = line.or_else(|| header_line(doc, unit, None));
-        write!(f, "{}{}", UnitName(doc, unit), AtLine(line))
+        match doc.unit(Some(unit)).text(Key::Name) {
+            Some(name) => write!(f, "unit {}", Quoted(name))?,
+            None => write!(f, "unit number {}", unit.saturating_add(1))?,
+        }
+        write!(
+            f,
+            "{}",
+            AtLine(line.or_else(|| header_line(doc, unit, None)))
+        )
     }
 }
 

@@ -1,6 +1,6 @@
 //! Units that meet in some tick wherever they are placed.
 
-use crate::periods::times;
+use crate::periods::are_coprime;
 use ec_units::{Unit, bytes_of};
 use ec_wire::frame_wire;
 use std::fmt;
@@ -44,9 +44,12 @@ impl fmt::Display for Meeting {
     }
 }
 
-/// Whether two periods are different and have no common divisor but 1.
-fn are_coprime(one: u16, other: u16) -> bool {
-    one != other && times(u64::from(one), u64::from(other)) == u64::from(other)
+/// The meeting of two units, if their periods are different and have no common divisor but 1.
+fn meeting_of(one: &Unit, other: &Unit) -> Option<Meeting> {
+    let periods = (one.period, other.period);
+    let bytes = u32::from(bytes_of(one)) + u32::from(bytes_of(other));
+    let is_met = periods.0 != periods.1 && are_coprime(u64::from(periods.0), u64::from(periods.1));
+    Some(Meeting { periods, bytes }).filter(|_| is_met)
 }
 
 /// The least bytes of a unit of which no two go into one frame, also in one datagram.
@@ -58,7 +61,7 @@ pub(crate) fn crowd(units: &[Unit]) -> u64 {
     let (mut count, mut product) = (0u64, 1u64);
     for unit in units {
         let period = u64::from(unit.period);
-        if bytes_of(unit) >= LARGE && times(product, period) == period {
+        if bytes_of(unit) >= LARGE && are_coprime(product, period) {
             count = count.saturating_add(1);
             product = product.saturating_mul(period);
         }
@@ -74,24 +77,13 @@ fn heavier(one: Option<Meeting>, other: Meeting) -> Option<Meeting> {
     }
 }
 
-/// The heaviest meeting of a unit with one of some others, if it has one, or a heavier one that was found before.
-fn heaviest_with(found: Option<Meeting>, unit: &Unit, others: &[Unit]) -> Option<Meeting> {
-    let mut most = found;
-    for other in others {
-        if are_coprime(unit.period, other.period) {
-            let bytes = u32::from(bytes_of(unit)) + u32::from(bytes_of(other));
-            let periods = (unit.period, other.period);
-            most = heavier(most, Meeting { periods, bytes });
-        }
-    }
-    most
-}
-
 /// The two of some units that have the most bytes of those that meet in some tick wherever they are placed.
 pub(crate) fn heaviest(units: &[Unit]) -> Option<Meeting> {
     let mut most = None;
     for (at, unit) in units.iter().enumerate() {
-        most = heaviest_with(most, unit, units.get(at..).unwrap_or(&[]));
+        let others = units.get(at..).unwrap_or(&[]).iter();
+        let meetings = others.filter_map(|other| meeting_of(unit, other));
+        most = meetings.fold(most, heavier);
     }
     most
 }

@@ -8,24 +8,6 @@ use crate::quoted::Quoted;
 use ec_text_builder::Draft;
 use ec_unit_text::{Key, Spot};
 
-/// Which table a key belongs to.
-#[derive(Clone, Copy)]
-enum Owner {
-    Top,
-    Unit,
-    Slave,
-}
-
-/// Which table a key belongs to, if a line `key = value` gives it.
-fn owner_of(key: Key) -> Option<Owner> {
-    match key {
-        Key::TickNs | Key::Slots => Some(Owner::Top),
-        Key::Name | Key::Period | Key::Phase | Key::Slot => Some(Owner::Unit),
-        Key::Station | Key::OutBytes | Key::InBytes | Key::Area(_) => Some(Owner::Slave),
-        Key::Unit | Key::Slave => None,
-    }
-}
-
 /// The spot of a unit, of a slave or of the top, if its table has a key.
 fn spot_with(doc: Doc<'_>, unit: Option<usize>, slave: Option<usize>, key: Key) -> Option<Spot> {
     Some(Spot { unit, slave }).filter(|spot| doc.table(*spot).has(key))
@@ -43,45 +25,48 @@ fn unit_with(doc: Doc<'_>, key: Key) -> Option<Spot> {
     })
 }
 
-/// Another table that has the key which is missing at a spot.
-fn other_with(doc: Doc<'_>, spot: Spot, owner: Owner, key: Key) -> Option<Spot> {
-    let around = match (owner, spot.unit) {
-        (Owner::Top, _) => return unit_with(doc, key),
-        (_, None) => return None,
-        (Owner::Unit, unit) => slave_with(doc, unit, key),
-        (Owner::Slave, unit) => spot_with(doc, unit, None, key),
+/// Another table that has the key which is missing at a spot, where a line `key = value` gives it: for the top the first unit or slave; for
+/// a unit a slave of it, for a slave its unit, else the top.
+fn other_with(doc: Doc<'_>, spot: Spot, key: Key) -> Option<Spot> {
+    if matches!(key, Key::Unit | Key::Slave) {
+        return None;
+    }
+    let around = match (spot.unit, spot.slave) {
+        (None, _) => return unit_with(doc, key),
+        (unit, None) => slave_with(doc, unit, key),
+        (unit, Some(_)) => spot_with(doc, unit, None, key),
     };
     around.or_else(|| spot_with(doc, None, None, key))
 }
 
 /// Where a key is to be written that is missing at a spot, and stands in another table.
-fn right_place(doc: Doc<'_>, spot: Spot, owner: Owner, other: Spot) -> &'static str {
-    let judged = match (owner, other.unit) {
-        (Owner::Top, unit) => Spot { unit, slave: None },
-        (Owner::Unit, Some(_)) => other,
-        (Owner::Unit, None) | (Owner::Slave, _) => spot,
+fn right_place(doc: Doc<'_>, spot: Spot, other: Spot) -> &'static str {
+    let (unit, slave) = match (spot.unit, spot.slave) {
+        (None, _) => (other.unit, None),
+        (unit, None) => (unit, other.slave),
+        (unit, slave) => (unit, slave),
     };
     // A table that stands inline, in braces, has no header.
-    let has_header = header_line(doc, judged.unit.unwrap_or(0), judged.slave).is_some();
-    match (owner, other.unit, has_header) {
-        (Owner::Top, _, true) => "above the first [[unit]]",
-        (Owner::Top, _, false) => "above the units",
-        (Owner::Unit, Some(_), true) => "above the unit's first [[unit.slave]]",
-        (Owner::Unit, Some(_), false) => "outside the { } of the unit's slaves",
-        (Owner::Unit, None, true) => "below the [[unit]] that it belongs to",
-        (Owner::Unit, None, false) => "within the { } of the unit that it belongs to",
-        (Owner::Slave, _, true) => "below the [[unit.slave]] that it belongs to",
-        (Owner::Slave, _, false) => "within the { } of the slave that it belongs to",
+    let has_header = header_line(doc, unit.unwrap_or(0), slave).is_some();
+    match (spot.unit, spot.slave, other.unit, has_header) {
+        (None, _, _, true) => "above the first [[unit]]",
+        (None, _, _, false) => "above the units",
+        (_, None, Some(_), true) => "above the unit's first [[unit.slave]]",
+        (_, None, Some(_), false) => "outside the { } of the unit's slaves",
+        (_, None, None, true) => "below the [[unit]] that it belongs to",
+        (_, None, None, false) => "within the { } of the unit that it belongs to",
+        (_, Some(_), _, true) => "below the [[unit.slave]] that it belongs to",
+        (_, Some(_), _, false) => "within the { } of the slave that it belongs to",
     }
 }
 
 /// Adds in which other table a key stands that is missing at a spot, and where to write it.
-fn add_other(out: &mut Draft, doc: Doc<'_>, spot: Spot, owner: Owner, other: Spot) {
+fn add_other(out: &mut Draft, doc: Doc<'_>, spot: Spot, other: Spot) {
     match other.unit {
         Some(unit) => out.add(format_args!("It stands in {}", Named(doc, unit, other.slave))),
         None => out.add("It stands at the top of the file"),
     }
-    out.add(format_args!(": write it {}.\n", right_place(doc, spot, owner, other)));
+    out.add(format_args!(": write it {}.\n", right_place(doc, spot, other)));
 }
 
 /// Adds a key that isn't known where one is missing: one that was meant for it, else the first.
@@ -101,13 +86,6 @@ fn add_beside(out: &mut Draft, doc: Doc<'_>, spot: Spot, key: Key) {
     }
 }
 
-/// Where the key that is missing at a spot stands, and which table it belongs to.
-fn astray(doc: Doc<'_>, spot: Spot, key: Key) -> Option<(Owner, Spot)> {
-    let owner = owner_of(key)?;
-    let other = other_with(doc, spot, owner, key)?;
-    Some((owner, other))
-}
-
 /// Tells a key that is missing: where it stands, if it stands in another table; else which key stands in its place, if one
 /// isn't known there, and what it says.
 pub(crate) fn tell_missing(out: &mut Draft, doc: Doc<'_>, spot: Spot, key: Key) {
@@ -115,8 +93,8 @@ pub(crate) fn tell_missing(out: &mut Draft, doc: Doc<'_>, spot: Spot, key: Key) 
         return out.add("The file is empty.\n");
     }
     out.add(format_args!("{}the key \"{key}\" is missing.\n", In(doc, spot)));
-    if let Some((owner, other)) = astray(doc, spot, key) {
-        return add_other(out, doc, spot, owner, other);
+    if let Some(other) = other_with(doc, spot, key) {
+        return add_other(out, doc, spot, other);
     }
     add_beside(out, doc, spot, key);
     out.add(format_args!("{}\n", meaning(key)));

@@ -22,16 +22,11 @@ fn key_for(word: &str) -> Option<Key> {
         "label" | "title" => Some(Key::Name),
         "units" => Some(Key::Unit),
         "slaves" => Some(Key::Slave),
+        // The bytes of PDOs: what a slave receives are the master's outputs.
+        _ if word.starts_with("rx") => Some(Key::OutBytes),
+        _ if word.starts_with("tx") => Some(Key::InBytes),
         _ => None,
     }
-}
-
-/// The bytes that a word counts which begins as those of PDOs do: what a slave receives are the master's outputs.
-fn bytes_for(word: &str) -> Option<Key> {
-    if word.starts_with("rx") {
-        return Some(Key::OutBytes);
-    }
-    Some(Key::InBytes).filter(|_| word.starts_with("tx"))
 }
 
 /// Whether so many edits lead to the key from a word that was meant for it: a third of its letters, roughly.
@@ -55,9 +50,9 @@ fn by_letters(alloc: Global, word: &str, keys: &[Key]) -> Result<Option<Key>, Al
 
 /// The key of these that a word has in front, before the unit of its value or what else, as `period_ms` has.
 fn by_front(word: &str, keys: &[Key]) -> Option<Key> {
-    let has_front = |key: &&Key| match word.strip_prefix(key.as_str()) {
-        Some(rest) => rest.starts_with('_') && !matches!(key, Key::Unit | Key::Slave),
-        None => false,
+    let has_front = |key: &&Key| {
+        let rest = word.strip_prefix(key.as_str()).unwrap_or("");
+        rest.starts_with('_') && !matches!(key, Key::Unit | Key::Slave)
     };
     keys.iter().find(has_front).copied()
 }
@@ -69,8 +64,7 @@ pub(crate) fn nearest(alloc: Global, word: &str, keys: &[Key]) -> Result<Option<
     }
     let small = word.to_ascii_lowercase(alloc)?;
     let word = small.as_str();
-    let key = key_for(word).or_else(|| bytes_for(word));
-    match key.or_else(|| by_front(word, keys)) {
+    match key_for(word).or_else(|| by_front(word, keys)) {
         Some(key) if keys.contains(&key) => Ok(Some(key)),
         _ => by_letters(alloc, word, keys),
     }

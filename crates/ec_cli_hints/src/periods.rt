@@ -11,14 +11,16 @@ fn has_period(units: &[Value], period: i64) -> bool {
 }
 
 /// How many times a count of ticks has to be taken to be a multiple of a period of at most 60.
-pub(crate) fn times(ticks: u64, period: u64) -> u64 {
+fn times(ticks: u64, period: u64) -> u64 {
     let rest = ticks.checked_rem(period).unwrap_or(0);
-    for count in 1..61u64 {
-        if rest.saturating_mul(count).checked_rem(period) == Some(0) {
-            return count;
-        }
-    }
-    1
+    (1..61u64)
+        .find(|count| rest.saturating_mul(*count).checked_rem(period) == Some(0))
+        .unwrap_or(1)
+}
+
+/// Whether a count of ticks and a period of at most 60 have no common divisor but 1.
+pub(crate) fn are_coprime(ticks: u64, period: u64) -> bool {
+    times(ticks, period) == period
 }
 
 /// The least common multiple of the periods, if 64 bits hold it.
@@ -32,18 +34,7 @@ pub(crate) fn ticks_of(units: &[Value]) -> Option<u64> {
     Some(ticks)
 }
 
-/// Adds a line with the periods of some units, each once, the least first.
-fn add_periods(out: &mut Draft, units: &[Value]) {
-    out.add("   ");
-    for period in 1..61i64 {
-        if has_period(units, period) {
-            out.add(format_args!(" {period}"));
-        }
-    }
-    out.add('\n');
-}
-
-/// Tells the periods, and the ticks after which all units stand as they did.
+/// Tells the periods, each once, the least first, and the ticks after which all units stand as they did.
 pub(crate) fn tell_hyper(out: &mut Draft, doc: Doc<'_>) {
     let units = doc.units();
     out.add("The hyperperiod is too long: the least common multiple of these periods ");
@@ -51,7 +42,9 @@ pub(crate) fn tell_hyper(out: &mut Draft, doc: Doc<'_>) {
         Some(ticks) => out.add(format_args!("is {ticks} ticks")),
         None => out.add("has more than 19 digits"),
     }
-    out.add(", and at most 1024 can be planned.\n");
-    add_periods(out, units);
-    out.add("Take periods that divide one another, as 2, 4 and 8.\n");
+    out.add(", and at most 1024 can be planned.\n   ");
+    for period in (1..61i64).filter(|period| has_period(units, *period)) {
+        out.add(format_args!(" {period}"));
+    }
+    out.add("\nTake periods that divide one another, as 2, 4 and 8.\n");
 }

@@ -2,7 +2,7 @@
 
 use crate::inputs::{Doc, Fields};
 use crate::label::{In, Named, Pair};
-use crate::periods::times;
+use crate::periods::are_coprime;
 use crate::quoted::Quoted;
 use ec_loads::Illegal;
 use ec_text_builder::Draft;
@@ -70,12 +70,11 @@ pub(crate) fn tell_no_place(out: &mut Draft, doc: Doc<'_>, unit: usize) {
 
 /// Whether a unit with this place travels in a tick and a slot.
 fn travels(unit: Fields<'_>, tick: i64, slot: i64) -> bool {
-    let period = unit.number(Key::Period).unwrap_or(0);
-    let phase = unit.number(Key::Phase).unwrap_or(0);
-    if period <= 0 || tick < 0 || !unit.has(Key::Phase) {
-        return false;
-    }
-    unit.number(Key::Slot) == Some(slot) && tick % period == phase
+    let rest = tick.checked_rem(unit.number(Key::Period).unwrap_or(0));
+    let is_then = unit
+        .number(Key::Phase)
+        .is_some_and(|phase| rest == Some(phase));
+    is_then && unit.number(Key::Slot) == Some(slot)
 }
 
 /// Adds the names of the units that travel in a tick and a slot.
@@ -110,38 +109,21 @@ pub(crate) fn add_illegal(out: &mut Draft, doc: Doc<'_>, illegal: Illegal) {
     }
 }
 
-/// Whether units with these periods can stand apart by their phases.
-fn can_part(one: i64, other: i64) -> bool {
-    let (one, other) = (one.unsigned_abs(), other.unsigned_abs());
-    times(one, other) != other
-}
-
 /// Whether another phase may part some of the units that travel in a tick and a slot: the periods of two of them have a common divisor.
 /// Also where no unit is known to travel in it.
 fn has_phases(units: &[Value], tick: i64, slot: i64) -> bool {
-    let mut is_alone = true;
-    for (at, unit) in units.iter().map(Fields::of).enumerate() {
+    let (mut is_alone, mut product) = (true, 1u64);
+    for unit in units.iter().map(Fields::of) {
         if travels(unit, tick, slot) {
-            is_alone = false;
-            let period = unit.number(Key::Period).unwrap_or(1);
-            let after = units.get(at.saturating_add(1)..).unwrap_or(&[]);
-            if is_any_parted(after, tick, slot, period) {
+            let period = unit.number(Key::Period).unwrap_or(1).unsigned_abs();
+            if !are_coprime(product, period) {
                 return true;
             }
+            is_alone = false;
+            product = product.saturating_mul(period);
         }
     }
     is_alone
-}
-
-/// Whether a unit with a period can stand apart from one of these that travel in a tick and a slot.
-fn is_any_parted(units: &[Value], tick: i64, slot: i64, period: i64) -> bool {
-    for unit in units.iter().map(Fields::of) {
-        let other = unit.number(Key::Period).unwrap_or(1);
-        if travels(unit, tick, slot) && can_part(period, other) {
-            return true;
-        }
-    }
-    false
 }
 
 /// Tells why the places of the file are no legal plan: which slot carries too much in which tick, and which units travel in it. Of

@@ -43,9 +43,10 @@ pub(crate) fn tell_range(out: &mut Draft, doc: Doc<'_>, spot: Spot, rule: Rule) 
 const REGISTERS: &str =
     "A slave that has its data there, as digital outputs at 3840, can't be planned: leave it out, and let your master write it.\n";
 
-/// Where the outputs and the inputs of a slave lie whose text doesn't say it.
+/// Where the outputs of a slave lie whose text doesn't say it.
 const OUT_AT: i64 = 4096;
 
+/// The same of the inputs.
 const IN_AT: i64 = 8192;
 
 /// Addresses from here on are told as they stand, and not asked for their base: digital outputs are at 3840, which is 0x0F00.
@@ -68,18 +69,20 @@ fn is_hex_in(text: &str, number: i64) -> bool {
         .any(|digits| hex_value(digits) == Some(number))
 }
 
-/// An area: where it begins, and its bytes.
+/// An area: the key of its address, where it begins, and its bytes.
 #[derive(Clone, Copy)]
 struct Area {
+    key: Key,
     at: i64,
     bytes: i64,
 }
 
 impl Area {
     /// An area of a slave, with the address that stands for one that isn't given.
-    fn of(slave: Fields<'_>, at: Key, default: i64, bytes: Key) -> Area {
+    fn of(slave: Fields<'_>, key: Key, default: i64, bytes: Key) -> Area {
         Area {
-            at: slave.number(at).unwrap_or(default),
+            key,
+            at: slave.number(key).unwrap_or(default),
             bytes: slave.number(bytes).unwrap_or(0),
         }
     }
@@ -90,27 +93,26 @@ impl Area {
     }
 
     /// Adds that it lies where registers are. One of four digits may be meant in base 16, unless it stands so in the text.
-    fn add_registers(self, out: &mut Draft, text: &str, key: &str) {
-        let at = self.at;
-        let is_hex = is_hex_in(text, at);
-        if is_hex {
+    fn add_registers(self, out: &mut Draft, text: &str) {
+        let Area { key, at, .. } = self;
+        if is_hex_in(text, at) {
             out.add(format_args!(
                 "{key} is {at}, below 4096 (0x1000), where a slave has registers.\n"
             ));
         } else {
             out.add(format_args!("{key} = {at} is below 4096, where a slave has registers.\n"));
-        }
-        if (1000..DIGITAL_OUTPUTS).contains(&at) && !is_hex {
-            out.add(format_args!("Is {at} of base 16? Then write {key} = 0x{at}.\n"));
+            if (1000..DIGITAL_OUTPUTS).contains(&at) {
+                out.add(format_args!("Is {at} of base 16? Then write {key} = 0x{at}.\n"));
+            }
         }
         out.add(REGISTERS);
     }
 
     /// Adds what is wrong with it, and says whether something is.
-    fn add_fault(self, out: &mut Draft, text: &str, key: &str) -> bool {
-        let Area { at, bytes } = self;
+    fn add_fault(self, out: &mut Draft, text: &str) -> bool {
+        let Area { key, at, bytes } = self;
         if at < 4096 {
-            self.add_registers(out, text, key);
+            self.add_registers(out, text);
         } else if at > 65535 {
             out.add(format_args!("{key} = {at} is above 65535, the last address.\n"));
         } else if self.end() > 65536 {
@@ -126,18 +128,14 @@ impl Area {
 
 /// Adds that two areas overlap, and where each lies; of one that isn't given also why.
 fn add_overlap(out: &mut Draft, slave: Fields<'_>, outputs: Area, inputs: Area) {
-    if outputs.bytes <= 0 || inputs.bytes <= 0 {
-        return;
-    }
-    let (out_at, in_at) = (outputs.at, inputs.at);
-    let out_last = outputs.end().saturating_sub(1);
-    let in_last = inputs.end().saturating_sub(1);
+    let (out_at, out_last) = (outputs.at, outputs.end().saturating_sub(1));
+    let (in_at, in_last) = (inputs.at, inputs.end().saturating_sub(1));
     out.add(format_args!(
         "The two overlap: outputs at {out_at} to {out_last}, inputs at {in_at} to {in_last}.\n"
     ));
-    for (key, default) in [(Key::Area(false), OUT_AT), (Key::Area(true), IN_AT)] {
+    for Area { key, at, .. } in [outputs, inputs] {
         if !slave.has(key) {
-            out.add(format_args!("{key} is not given, so it is {default}.\n"));
+            out.add(format_args!("{key} is not given, so it is {at}.\n"));
         }
     }
 }
@@ -154,9 +152,9 @@ pub(crate) fn tell_area(out: &mut Draft, doc: Doc<'_>, spot: Spot) {
     }
     let outputs = Area::of(slave, Key::Area(false), OUT_AT, Key::OutBytes);
     let inputs = Area::of(slave, Key::Area(true), IN_AT, Key::InBytes);
-    let first = outputs.add_fault(out, doc.text, "out_at");
-    let second = inputs.add_fault(out, doc.text, "in_at");
-    if !first && !second {
+    let first = outputs.add_fault(out, doc.text);
+    let second = inputs.add_fault(out, doc.text);
+    if !first && !second && outputs.bytes > 0 && inputs.bytes > 0 {
         add_overlap(out, slave, outputs, inputs);
     }
 }

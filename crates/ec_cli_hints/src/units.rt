@@ -8,17 +8,13 @@ use ec_unit_text::{Key, Spot};
 use ec_units::is_name_byte;
 use toml::Value;
 
-/// Whether a character may stand in a name.
-fn is_of_name(letter: char) -> bool {
-    letter.is_ascii() && is_name_byte(letter as u8)
-}
-
 /// Adds why a text is no name.
 fn add_name_cause(out: &mut Draft, name: &str) {
     let count = name.len();
+    let is_strange = |letter: &char| !letter.is_ascii() || !is_name_byte(*letter as u8);
     if count == 0 {
         out.add("This one is empty.\n");
-    } else if let Some(letter) = name.chars().find(|letter| !is_of_name(*letter)) {
+    } else if let Some(letter) = name.chars().find(is_strange) {
         out.add(format_args!("The character \"{}\" is none of these.\n", Letter(letter)));
     } else {
         out.add(format_args!("This one has {count}.\n"));
@@ -36,24 +32,28 @@ pub(crate) fn tell_name(out: &mut Draft, doc: Doc<'_>, spot: Spot) {
     }
 }
 
+/// Adds the second of two tables that have the same, behind the first where that is known, and what each has to have.
+fn add_two(out: &mut Draft, first: Option<Named<'_>>, second: Named<'_>, rule: &str) {
+    if let Some(first) = first {
+        out.add(format_args!("{first} and "));
+    }
+    out.add(format_args!("{second}.\n{rule}"));
+}
+
 /// The first unit with a name.
-fn unit_named(doc: Doc<'_>, name: &str) -> Option<usize> {
-    doc.units()
-        .iter()
-        .position(|unit| Fields::of(unit).text(Key::Name) == Some(name))
+fn unit_named<'a>(doc: Doc<'a>, name: &str) -> Option<Named<'a>> {
+    let mut units = doc.units().iter().map(Fields::of);
+    let unit = units.position(|unit| unit.text(Key::Name) == Some(name))?;
+    Some(Named(doc, unit, None))
 }
 
 /// Tells which two units have one name.
 pub(crate) fn tell_same_name(out: &mut Draft, doc: Doc<'_>, spot: Spot) {
     let name = doc.unit(spot.unit).text(Key::Name);
+    let first = name.and_then(|name| unit_named(doc, name));
+    let second = Named(doc, spot.unit.unwrap_or(0), None);
     out.add("Two units have one name: ");
-    if let Some(first) = name.and_then(|name| unit_named(doc, name)) {
-        out.add(format_args!("{} and ", Named(doc, first, None)));
-    }
-    out.add(format_args!(
-        "{}.\nGive each unit a name of its own.\n",
-        Named(doc, spot.unit.unwrap_or(0), None)
-    ));
+    add_two(out, first, second, "Give each unit a name of its own.\n");
 }
 
 /// Tells how many slaves a unit has, too few or too many, and what to do with it.
@@ -82,19 +82,16 @@ fn slave_bytes(slave: &Value) -> i128 {
 
 /// The process bytes of some slaves together.
 pub(crate) fn bytes_of(slaves: &[Value]) -> i128 {
-    let mut sum = 0i128;
-    for slave in slaves {
-        sum = sum.saturating_add(slave_bytes(slave));
-    }
-    sum
+    slaves
+        .iter()
+        .map(slave_bytes)
+        .fold(0i128, |sum, bytes| sum.saturating_add(bytes))
 }
 
 /// Whether each of some slaves has room in one of two units, taken in their order.
 fn fits_two(slaves: &[Value]) -> bool {
-    let mut first = 0i128;
-    let mut second = 0i128;
-    for slave in slaves {
-        let bytes = slave_bytes(slave);
+    let (mut first, mut second) = (0i128, 0i128);
+    for bytes in slaves.iter().map(slave_bytes) {
         if first.saturating_add(bytes) <= MOST_BYTES {
             first = first.saturating_add(bytes);
         } else {
@@ -141,12 +138,13 @@ fn slave_with(doc: Doc<'_>, station: i64) -> Option<Named<'_>> {
 /// Tells which two slaves have one station.
 pub(crate) fn tell_same_station(out: &mut Draft, doc: Doc<'_>, spot: Spot) {
     let station = doc.slave(spot.unit, spot.slave).number(Key::Station);
+    let first = station.and_then(|station| slave_with(doc, station));
+    let second = Named(doc, spot.unit.unwrap_or(0), Some(spot.slave.unwrap_or(0)));
     out.add("Two slaves have one station address: ");
-    if let Some(first) = station.and_then(|station| slave_with(doc, station)) {
-        out.add(format_args!("{first} and "));
-    }
-    out.add(format_args!(
-        "{}.\nEach slave of the line has an address of its own.\n",
-        Named(doc, spot.unit.unwrap_or(0), Some(spot.slave.unwrap_or(0)))
-    ));
+    add_two(
+        out,
+        first,
+        second,
+        "Each slave of the line has an address of its own.\n",
+    );
 }
