@@ -45,7 +45,7 @@ impl Written<'_> {
     /// How many nodes a search by such rules may go on with, so that its certificate can be read in most cases: where a node takes more
     /// bytes of this one than is usual, as many as they leave room for.
     fn room(self, strong: bool) -> u64 {
-        room_for(self.bytes, self.each.max(bytes_each(strong)))
+        room_for(self.bytes, self.each, strong)
     }
 }
 
@@ -56,14 +56,6 @@ impl Filed<'_> {
             Filed::TooLarge => true,
             Filed::There(cert) => cert.bytes > MOST_READ,
             Filed::Unasked | Filed::Missing => false,
-        }
-    }
-
-    /// Whether it is there, and leaves no room for a search by such rules that goes on with it.
-    fn is_full(self, strong: bool) -> bool {
-        match self {
-            Filed::There(cert) => cert.room(strong) == 0,
-            Filed::Unasked | Filed::Missing | Filed::TooLarge => false,
         }
     }
 }
@@ -97,17 +89,13 @@ pub enum Asked {
 /// How many nodes a search may go on with from a certificate of so many bytes, so that its own can be read in most cases: a node takes
 /// at most 13 bytes of it by the strong rules, and else 10, but for few searches. In thousands (own profile).
 pub fn room_beside(bytes: u64, strong: bool) -> u64 {
-    room_for(bytes, bytes_each(strong))
+    room_for(bytes, 0, strong)
 }
 
-/// The most bytes that a node takes in most certificates, by the strong rules or others.
-fn bytes_each(strong: bool) -> u64 {
-    if strong { 13 } else { 10 }
-}
-
-/// How many nodes of so many bytes each fit beside so many bytes, in thousands.
-fn room_for(bytes: u64, each: u64) -> u64 {
-    MOST_READ.saturating_sub(bytes) / each.max(1) / 1000 * 1000
+/// The same where a node takes so many bytes, if that is more than it takes in most certificates.
+fn room_for(bytes: u64, each: u64, strong: bool) -> u64 {
+    let usual = if strong { 13 } else { 10 };
+    MOST_READ.saturating_sub(bytes) / each.max(usual).max(1) / 1000 * 1000
 }
 
 /// A search, or a merge, that ended without a proof.
@@ -152,52 +140,34 @@ impl Search<'_> {
         }
     }
 
-    /// What a search is asked for that goes on from a certificate that was written: as before, within the room that it leaves.
-    fn again_from(self, written: Written<'_>) -> Again<'_> {
-        let again = written.again.within(written.room(self.ending.strong));
-        if self.ending.cut == Cut::Journal {
-            return Again {
-                workers: 1,
-                ..again
-            };
-        }
-        again
-    }
-
     /// Adds how one goes on from a certificate that was written and leaves room.
     fn add_onward(self, out: &mut Draft, written: Written<'_>) {
         let (cert, units) = (written.path, written.units);
-        let again = self.again_from(written);
-        if !is_told_whole(cert) || !units.is_none_or(is_told_whole) || !again.is_told_whole() {
+        let again = written.again.within(written.room(self.ending.strong));
+        let paths = [Some(cert), units, again.places];
+        if !paths.iter().all(|path| path.is_none_or(is_told_whole)) {
             return out.add(
                 "The command resume or merge goes on with its certificate, whose path, or that of the units or of their places, has characters that aren't told as they are.\n",
             );
         }
-        let on_input = if units.is_none() {
-            " with its units on standard input"
-        } else {
-            ""
+        // Where the workers' notes don't agree, one worker goes on.
+        let workers = match self.ending.cut {
+            Cut::Journal => 1,
+            _ => again.workers,
         };
-        let resume = Command::Resume { cert, units, again };
-        let merge = Command::Merge { cert, units };
-        match self.asked {
-            Asked::Whole | Asked::Most => {
-                out.add(format_args!(
-                    "The command {resume}{on_input} goes on with this search, and counts new nodes alone.\n"
-                ));
-                if self.ending.cut == Cut::Memory {
-                    out.add(
-                        "It reads the certificate too, and so needs more memory than this run had.\n",
-                    );
-                }
-            }
-            Asked::Part => out.add(format_args!(
-                "The command {merge}{on_input} merges it: add a --cert for each of the others, and an --out for what they show together.\n"
-            )),
-            Asked::Merged => out.add(format_args!(
-                "The command {resume}{on_input} goes on with these leaves; on many machines each has --part I/N and an --out of its own.\n"
-            )),
-        }
+        let again = Some(Again { workers, ..again }).filter(|_| self.asked != Asked::Part);
+        let command = Command { cert, units, again };
+        out.add(format_args!("The command {command} "));
+        out.add(match (self.asked, self.ending.cut) {
+            (Asked::Whole | Asked::Most, Cut::Memory) =>
+                "goes on with this search, and counts new nodes alone.\nIt reads the certificate too, and so needs more memory than this run had.\n",
+            (Asked::Whole | Asked::Most, _) =>
+                "goes on with this search, and counts new nodes alone.\n",
+            (Asked::Part, _) =>
+                "merges it: add a --cert for each of the others, and an --out for what they show together.\n",
+            (Asked::Merged, _) =>
+                "goes on with these leaves; on many machines each has --part I/N and an --out of its own.\n",
+        });
     }
 
     /// Adds how one could go on if a certificate were asked for.
@@ -221,7 +191,8 @@ impl Search<'_> {
             asked,
         } = self;
         let is_too_large = filed.is_too_large();
-        let is_full = filed.is_full(ending.strong) && asked != Asked::Part;
+        let is_full = asked != Asked::Part
+            && matches!(filed, Filed::There(cert) if cert.room(ending.strong) == 0);
         self.add_level(out);
         if !(is_too_large || is_full) || asked == Asked::Merged || ending.cut == Cut::Journal {
             out.add(help(ending, asked));
@@ -311,18 +282,16 @@ pub fn counsel(
 ) -> Result<String, AllocError> {
     let mut out = Draft::new(alloc);
     match (found, cycle) {
-        (Found::Unproved(ending), _) => {
-            let search = Search {
-                ending,
-                filed,
-                asked,
-            };
-            search.add_ending(&mut out, cycle);
+        (Found::Unproved(ending), _) => Search {
+            ending,
+            filed,
+            asked,
         }
+        .add_ending(&mut out, cycle),
+        (Found::NoPlan, Some(cycle)) => cycle.add_none(&mut out),
         (Found::Least(busiest), Some(cycle)) if cycle.is_beyond(busiest) => {
             cycle.add_beyond(&mut out, busiest);
         }
-        (Found::NoPlan, Some(cycle)) => cycle.add_none(&mut out),
         (Found::Given(busiest), Some(cycle)) if cycle.is_beyond(busiest) => {
             cycle.add_use(&mut out, busiest);
         }

@@ -1,6 +1,6 @@
 //! How a search goes on as the last one did.
 
-use crate::quoted::{Word, is_told_whole};
+use crate::quoted::Word;
 use std::fmt;
 
 /// The nodes that a search visits where no number is asked for.
@@ -44,15 +44,7 @@ impl<'a> Again<'a> {
 
     /// The nodes that it visits where its number isn't told.
     fn usual_nodes(self) -> u32 {
-        match self.minutes {
-            Some(_) => TIMED_NODES,
-            None => USUAL_NODES,
-        }
-    }
-
-    /// Whether its path is told as it stands, so that it can be given again.
-    pub(crate) fn is_told_whole(self) -> bool {
-        self.places.is_none_or(is_told_whole)
+        self.minutes.map_or(USUAL_NODES, |_| TIMED_NODES)
     }
 }
 

@@ -36,15 +36,11 @@ pub(crate) fn add_line(out: &mut Draft, cert: &[u8], line: usize) {
     }
 }
 
-/// Whether a byte may not stand in a certificate.
-fn is_strange(byte: u8) -> bool {
-    !matches!(byte, b'\n' | 0x20..=0x7e)
-}
-
 /// Adds the first byte that may not stand in a certificate, with its line and column.
 fn add_stranger(out: &mut Draft, cert: &[u8]) {
     let mut bytes = cert.iter().copied().enumerate();
-    let Some((at, byte)) = bytes.find(|(_, byte)| is_strange(*byte)) else {
+    let stranger = bytes.find(|(_, byte)| !matches!(byte, b'\n' | 0x20..=0x7e));
+    let Some((at, byte)) = stranger else {
         return;
     };
     let (line, column) = position_of(cert, at);
@@ -61,17 +57,10 @@ fn add_stranger(out: &mut Draft, cert: &[u8]) {
     }
 }
 
-/// Whether a line is the header of a unit.
-fn is_header(line: &[u8]) -> bool {
-    match std::str::from_utf8(line) {
-        Ok(line) => header_of(line).is_some(),
-        Err(_) => false,
-    }
-}
-
 /// Whether a text begins a unit.
 fn has_unit(text: &[u8]) -> bool {
-    text.split(|byte| *byte == b'\n').any(is_header)
+    let mut lines = text.split(|byte| *byte == b'\n');
+    lines.any(|line| std::str::from_utf8(line).is_ok_and(|line| header_of(line).is_some()))
 }
 
 /// Tells that a text doesn't begin as a certificate.
@@ -95,23 +84,17 @@ fn tell_version(out: &mut Draft, inputs: &Inputs<'_>) {
 
 /// Adds what a line, from 0, should be, by its fault.
 fn add_wanted(out: &mut Draft, inputs: &Inputs<'_>, line: usize, fault: CertFault) {
-    let cert = match fault {
-        CertFault::BadLine(_) | CertFault::Number(_) | CertFault::Early(_) => CertText::of(inputs),
-        _ => None,
-    };
-    if let Some(cert) = cert {
+    let is_due = !matches!(fault, CertFault::Late(_) | CertFault::TooDeep(_));
+    if let Some(cert) = CertText::of(inputs).filter(|_| is_due) {
         let (form, note) = cert.wanted_at(line);
         out.add(format_args!("Due there: {form}.\n{note}"));
     }
-    match fault {
-        CertFault::Early(_) => {
-            out.add("Was the file cut off? Each line ends with a line feed, also the last.\n");
-        }
-        CertFault::Late(_) => {
-            out.add("The last line is end, behind the tree, and nothing follows it.\n");
-        }
-        _ => {}
-    }
+    out.add(match fault {
+        CertFault::Early(_) =>
+            "Was the file cut off? Each line ends with a line feed, also the last.\n",
+        CertFault::Late(_) => "The last line is end, behind the tree, and nothing follows it.\n",
+        _ => "",
+    });
 }
 
 /// Tells a fault of a certificate's text: of one of a line that, from 1, its text, and what was due.

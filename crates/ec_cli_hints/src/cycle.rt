@@ -18,35 +18,28 @@ const LEAST_FRAME: u64 = 84;
 /// The most bytes of a unit.
 const MOST_OF_UNIT: u32 = 1486;
 
-/// The wire bytes of a frame with one unit alone.
-fn wire_of(unit: &Unit) -> u64 {
-    u64::from(frame_wire(DATAGRAM + u32::from(bytes_of(unit))))
-}
-
-/// The wire bytes of a frame with one slave of a unit alone.
-fn wire_of_slave(slave: &Slave) -> u64 {
-    let bytes = u32::from(slave.out_bytes) + u32::from(slave.in_bytes);
+/// The wire bytes of a frame with one datagram of so many bytes.
+fn wire_of(bytes: u32) -> u64 {
     u64::from(frame_wire(DATAGRAM + bytes.min(MOST_OF_UNIT)))
 }
 
-/// The wire bytes of a frame with nothing but the largest of some units.
-fn largest_of(units: &[Unit]) -> u64 {
-    let mut largest = 0u64;
-    for unit in units {
-        largest = largest.max(wire_of(unit));
-    }
-    largest
+/// The wire bytes of a frame with one unit alone.
+fn wire_of_unit(unit: &Unit) -> u64 {
+    wire_of(u32::from(bytes_of(unit)))
 }
 
-/// Whether a unit has ticks for its slaves to travel apart, and each of them alone goes into one.
+/// Whether a slave alone goes into a tick.
+fn fits_alone(slave: &Slave, tick_ns: u32) -> bool {
+    let bytes = u32::from(slave.out_bytes) + u32::from(slave.in_bytes);
+    fits(wire_of(bytes), tick_ns)
+}
+
+/// Whether a unit goes into a tick alone, or could be two that travel in different ticks: it has ticks for that, and each of its slaves
+/// goes into one.
 fn is_divisible(unit: &Unit, tick_ns: u32) -> bool {
     let mut slaves = unit.slaves.as_slice().iter();
-    unit.period > 1 && slaves.all(|slave| fits(wire_of_slave(slave), tick_ns))
-}
-
-/// Whether each of some units that is too long for a tick alone could be two that travel in different ticks.
-fn are_divisible(units: &[Unit], tick_ns: u32) -> bool {
-    units.iter().all(|unit| fits(wire_of(unit), tick_ns) || is_divisible(unit, tick_ns))
+    fits(wire_of_unit(unit), tick_ns)
+        || (unit.period > 1 && slaves.all(|slave| fits_alone(slave, tick_ns)))
 }
 
 /// What may help where two units meet.
@@ -74,13 +67,14 @@ pub struct Cycle {
 impl Cycle {
     /// That of these units.
     pub fn of(units: &Units) -> Cycle {
+        let (all, tick_ns) = (units.units.as_slice(), units.tick_ns);
         Cycle {
-            tick_ns: units.tick_ns,
+            tick_ns,
             slots: units.slots,
-            largest: largest_of(units.units.as_slice()),
-            is_divisible: are_divisible(units.units.as_slice(), units.tick_ns),
-            meeting: heaviest(units.units.as_slice()),
-            crowd: crowd(units.units.as_slice()),
+            largest: all.iter().map(wire_of_unit).max().unwrap_or(0),
+            is_divisible: all.iter().all(|unit| is_divisible(unit, tick_ns)),
+            meeting: heaviest(all),
+            crowd: crowd(all),
             mean: mean_tick(units),
         }
     }
@@ -128,21 +122,16 @@ impl Cycle {
 
     /// Adds what would help where no plan fits, and each unit alone does.
     fn add_cures(self, out: &mut Draft) {
-        match self.meeting {
-            Some(meeting) if self.is_beyond(meeting.wire()) => {
-                let ns = meeting.wire().saturating_mul(BYTE_NS);
-                out.add(format_args!("{meeting}, and take at least {ns} ns there.\n"));
-                out.add(PARTED);
-                out.add("A longer tick or fewer bytes would.\n");
-            }
-            _ => out.add("A longer tick, longer periods or fewer bytes would help.\n"),
-        }
-    }
-
-    /// Two units that meet in a tick with one slot and don't go into one frame, if there are any.
-    fn overfull_meeting(self) -> Option<Meeting> {
-        self.meeting
-            .filter(|meeting| self.slots == 1 && !meeting.is_one_frame())
+        let meeting = self
+            .meeting
+            .filter(|meeting| self.is_beyond(meeting.wire()));
+        let Some(meeting) = meeting else {
+            return out.add("A longer tick, longer periods or fewer bytes would help.\n");
+        };
+        let ns = meeting.wire().saturating_mul(BYTE_NS);
+        out.add(format_args!(
+            "{meeting}, and take at least {ns} ns there.\n{PARTED}A longer tick or fewer bytes would.\n"
+        ));
     }
 
     /// Adds what some tick of each plan carries at least.
@@ -163,59 +152,47 @@ impl Cycle {
         self.crowd > self.mean.frames.max(2)
     }
 
-    /// The frames that some tick of each plan has at least.
-    fn frames(self) -> u64 {
+    /// The frames that some tick of each plan has at least, and which other periods may give it fewer.
+    fn frames(self) -> (u64, &'static str) {
         if self.is_crowded() {
-            self.crowd
+            (self.crowd, "periods with a common divisor, as 2 and 4")
         } else {
-            self.mean.frames
-        }
-    }
-
-    /// Which other periods may give it fewer frames.
-    fn periods(self) -> &'static str {
-        if self.is_crowded() {
-            "periods with a common divisor, as 2 and 4"
-        } else {
-            "longer periods"
+            (self.mean.frames, "longer periods")
         }
     }
 
     /// Whether some tick of each plan has more frames than there are slots.
     pub(crate) fn is_overfull(self) -> bool {
-        self.frames() > u64::from(self.slots)
-    }
-
-    /// Adds why some tick of each plan has more frames than there are slots.
-    fn add_overfull(self, out: &mut Draft) {
-        let (bytes, frames, slots) = (self.mean.bytes, self.frames(), self.slots);
-        if self.is_crowded() {
-            return out.add(format_args!(
-                "{frames} units meet in some tick wherever they are placed, and no two of them go into one frame, but slots = {slots}. So there is no plan.\n"
-            ));
-        }
-        out.add(format_args!(
-            "Some tick of each plan carries at least {bytes} bytes of units: at least {frames} frames, and slots = {slots}. So there is no plan.\n"
-        ));
+        self.frames().0 > u64::from(self.slots)
     }
 
     /// Adds why there is no plan.
     fn add_why_none(self, out: &mut Draft) {
-        if self.is_overfull() {
-            self.add_overfull(out);
-        } else {
+        let (bytes, frames, slots) = (self.mean.bytes, self.frames().0, self.slots);
+        if !self.is_overfull() {
             out.add("Each plan has a frame that is too full.\n");
-        }
-        if let Some(meeting) = self.overfull_meeting() {
-            out.add(format_args!("{meeting}, and are too much for one frame.\n"));
-            out.add(PARTED);
+        } else if self.is_crowded() {
+            out.add(format_args!(
+                "{frames} units meet in some tick wherever they are placed, and no two of them go into one frame, but slots = {slots}. So there is no plan.\n"
+            ));
+        } else {
+            out.add(format_args!(
+                "Some tick of each plan carries at least {bytes} bytes of units: at least {frames} frames, and slots = {slots}. So there is no plan.\n"
+            ));
         }
     }
 
     /// Adds why there is no plan, and what would help.
     pub(crate) fn add_none(self, out: &mut Draft) {
+        let (frames, periods) = self.frames();
+        let slots = self.slots;
+        let overfull = self
+            .meeting
+            .filter(|meeting| slots == 1 && !meeting.is_one_frame());
         self.add_why_none(out);
-        let (frames, slots, periods) = (self.frames(), self.slots, self.periods());
+        if let Some(meeting) = overfull {
+            out.add(format_args!("{meeting}, and are too much for one frame.\n{PARTED}"));
+        }
         if frames > u64::from(MOST_SLOTS) {
             out.add(format_args!(
                 "No number of slots is enough: fewer bytes would help, or {periods}.\n"
@@ -224,13 +201,14 @@ impl Cycle {
             out.add(format_args!(
                 "Raise slots = {slots}, to {frames} at least, or have fewer bytes or {periods}.\n"
             ));
-        } else if self.overfull_meeting().is_some() {
-            out.add(format_args!(
-                "Raise slots = {slots}, to {MOST_SLOTS} at most, or have fewer bytes.\n"
-            ));
         } else if slots < MOST_SLOTS {
+            let periods = if overfull.is_some() {
+                ""
+            } else {
+                " or longer periods"
+            };
             out.add(format_args!(
-                "Raise slots = {slots}, to {MOST_SLOTS} at most, or have fewer bytes or longer periods.\n"
+                "Raise slots = {slots}, to {MOST_SLOTS} at most, or have fewer bytes{periods}.\n"
             ));
         } else {
             out.add("Fewer bytes or longer periods would help.\n");

@@ -24,10 +24,9 @@ enum Due {
 
 /// How many children a line of a node says that it has.
 fn children(node: &str) -> usize {
-    match node.strip_prefix("S ") {
-        Some(count) => count.parse::<usize>().ok().unwrap_or(0),
-        None => 0,
-    }
+    node.strip_prefix("S ")
+        .and_then(|count| count.parse::<usize>().ok())
+        .unwrap_or(0)
 }
 
 impl<'a> CertText<'a> {

@@ -3,58 +3,39 @@
 use crate::advising::Asked;
 use ec_outcome::{Cut, Ending};
 
-/// How far a search came.
-#[derive(Clone, Copy)]
-enum Stage {
-    /// It found no plan.
-    NoPlan,
-    /// It found a plan that may not be the best.
-    Plan,
-    /// It found a plan that is the best.
-    Best,
-}
-
-/// How far a search came that ended so.
-fn stage_of(ending: Ending) -> Stage {
-    match ending.best {
-        None => Stage::NoPlan,
-        Some(best) if best == ending.level => Stage::Best,
-        Some(_) => Stage::Plan,
-    }
-}
-
-/// What would help a search of a whole tree.
+/// What would help a search of a whole tree, by whether it found a plan, and whether that is shown to be the best.
 fn help_whole(ending: Ending) -> &'static str {
-    match (ending.cut, stage_of(ending)) {
-        (Cut::Budget, Stage::NoPlan) =>
+    let is_best = ending.best.map(|best| best == ending.level);
+    match (ending.cut, is_best) {
+        (Cut::Budget, None) =>
             "No plan was found before all nodes were spent, and there may be one: a greater --nodes searches longer.\n",
-        (Cut::Budget, Stage::Plan) =>
+        (Cut::Budget, Some(false)) =>
             "All nodes were spent before it was shown to be the best: a greater --nodes may show it, or find a better one.\n",
-        (Cut::Budget, Stage::Best) =>
+        (Cut::Budget, Some(true)) =>
             "All nodes were spent before the search was closed: a greater --nodes may close it.\n",
-        (Cut::Time, Stage::NoPlan) =>
+        (Cut::Time, None) =>
             "No plan was found before the time was over, and there may be one: a greater --minutes searches longer.\n",
-        (Cut::Time, Stage::Plan) =>
+        (Cut::Time, Some(false)) =>
             "The time was over before it was shown to be the best: a greater --minutes may show it, or find a better one.\n",
-        (Cut::Time, Stage::Best) =>
+        (Cut::Time, Some(true)) =>
             "The time was over before the search was closed: a greater --minutes may close it.\n",
-        (Cut::Memory, Stage::NoPlan) =>
+        (Cut::Memory, None) =>
             "Memory ran out before a plan was found, and there may be one: run it with more memory.\n",
-        (Cut::Memory, Stage::Plan) =>
+        (Cut::Memory, Some(false)) =>
             "Memory ran out before it was shown to be the best: more memory may show it, or find a better one.\n",
-        (Cut::Memory, Stage::Best) =>
+        (Cut::Memory, Some(true)) =>
             "Memory ran out before the search was closed: more memory may close it.\n",
-        (Cut::Journal, Stage::NoPlan) =>
+        (Cut::Journal, None) =>
             "What the workers noted does not agree, and there may be a plan: run it with --workers 1.\n",
-        (Cut::Journal, Stage::Plan) =>
+        (Cut::Journal, Some(false)) =>
             "What the workers noted does not agree, so it is not shown to be the best: run it with --workers 1.\n",
-        (Cut::Journal, Stage::Best) =>
+        (Cut::Journal, Some(true)) =>
             "What the workers noted does not agree: run it with --workers 1.\n",
-        (Cut::Parts, Stage::NoPlan) =>
+        (Cut::Parts, None) =>
             "No leaf of this part is open, and there may be a plan: merge it with the certificates of the other parts.\n",
-        (Cut::Parts, Stage::Plan) =>
+        (Cut::Parts, Some(false)) =>
             "No leaf of this part is open. What is open is left to others: merge it with the certificates of the other parts.\n",
-        (Cut::Parts, Stage::Best) =>
+        (Cut::Parts, Some(true)) =>
             "No leaf of this part is open: merge it with the certificates of the other parts.\n",
     }
 }

@@ -1,7 +1,7 @@
 //! A certificate of other units: which unit differs, and how.
 
 use crate::due::CertText;
-use crate::inputs::Doc;
+use crate::inputs::{Doc, Fields};
 use crate::label::Named;
 use crate::quoted::{Bytes, Quoted};
 use crate::units::bytes_of;
@@ -39,7 +39,9 @@ fn is_in_cert(cert: CertText<'_>, name: &str) -> bool {
 
 /// Whether the file has a unit of this name.
 fn is_in_file(doc: Doc<'_>, name: &str) -> bool {
-    (0..doc.units().len()).any(|unit| doc.unit(Some(unit)).text(Key::Name) == Some(name))
+    doc.units()
+        .iter()
+        .any(|unit| Fields::of(unit).text(Key::Name) == Some(name))
 }
 
 /// Adds that the certificate has a unit which the file has not.
@@ -48,22 +50,14 @@ fn add_missing(out: &mut Draft, name: &str) {
     out.add(format_args!("The certificate has another unit {name}, which the file has not.\n"));
 }
 
-/// Adds that a unit of the file, of this name if it has one, is another than that of the certificate: one is new or gone, or each is
-/// elsewhere or has another name.
-fn add_other(
-    out: &mut Draft,
-    doc: Doc<'_>,
-    unit: usize,
-    name: Option<&str>,
-    cert: CertText<'_>,
-    theirs: &str,
-) {
+/// Adds that a unit of the file is another than that of the certificate: one is new or gone, or each is elsewhere or has another name.
+fn add_other(out: &mut Draft, doc: Doc<'_>, unit: usize, cert: CertText<'_>, theirs: &str) {
+    let name = doc.unit(Some(unit)).text(Key::Name);
     let is_new = !name.is_some_and(|name| is_in_cert(cert, name));
-    let is_gone = !is_in_file(doc, theirs);
     let ours = Named(doc, unit, None);
-    match (is_new, is_gone) {
-        (true, false) => out.add(format_args!("{ours} is not in the certificate.\n")),
-        (false, true) => add_missing(out, theirs),
+    match (is_new, is_in_file(doc, theirs)) {
+        (true, true) => out.add(format_args!("{ours} is not in the certificate.\n")),
+        (false, false) => add_missing(out, theirs),
         _ => {
             let theirs = Quoted(theirs);
             out.add(format_args!("{ours} stands where the certificate has unit {theirs}.\n"));
@@ -71,21 +65,18 @@ fn add_other(
     }
 }
 
-/// Adds how a unit of the file differs from that of the certificate, and says whether it does.
-fn add_difference(
-    out: &mut Draft,
-    doc: Doc<'_>,
-    unit: usize,
-    cert: CertText<'_>,
-    theirs: CertUnit<'_>,
-) -> bool {
-    let table = doc.unit(Some(unit));
+/// Adds how a unit of the file differs from that of the certificate, if there is one, and says whether it does.
+fn add_difference(out: &mut Draft, doc: Doc<'_>, unit: usize, cert: CertText<'_>) -> bool {
     let ours = Named(doc, unit, None);
+    let Some(theirs) = cert_unit(cert, unit) else {
+        out.add(format_args!("{ours} is not in the certificate.\n"));
+        return true;
+    };
+    let table = doc.unit(Some(unit));
     let bytes = bytes_of(doc.slaves(Some(unit)));
     let period = table.number(Key::Period).unwrap_or(0);
-    let name = table.text(Key::Name);
-    if name != Some(theirs.name) {
-        add_other(out, doc, unit, name, cert, theirs.name);
+    if table.text(Key::Name) != Some(theirs.name) {
+        add_other(out, doc, unit, cert, theirs.name);
     } else if bytes != i128::from(theirs.bytes) {
         let other = theirs.bytes;
         out.add(format_args!("{ours} has {bytes} bytes, in the certificate {other}.\n"));
@@ -102,10 +93,7 @@ fn add_difference(
 fn add_first(out: &mut Draft, doc: Doc<'_>, cert: CertText<'_>) {
     let count = doc.units().len();
     for unit in 0..count {
-        let Some(theirs) = cert_unit(cert, unit) else {
-            return out.add(format_args!("{} is not in the certificate.\n", Named(doc, unit, None)));
-        };
-        if add_difference(out, doc, unit, cert, theirs) {
+        if add_difference(out, doc, unit, cert) {
             return;
         }
     }

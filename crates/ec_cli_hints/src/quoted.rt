@@ -59,10 +59,8 @@ impl fmt::Display for Letter {
             return f.write_char(self.0);
         }
         let mut room = [0u8; 4];
-        for byte in self.0.encode_utf8(&mut room).bytes() {
-            write!(f, "\\x{byte:02x}")?;
-        }
-        Ok(())
+        let text = self.0.encode_utf8(&mut room);
+        write!(f, "{}", Bytes(text.as_bytes(), 4))
     }
 }
 
@@ -76,11 +74,8 @@ impl fmt::Display for Front<'_> {
         for letter in text.chars().take(most) {
             write!(f, "{}", Letter(letter))?;
         }
-        f.write_str(if text.chars().nth(most).is_some() {
-            "..."
-        } else {
-            ""
-        })
+        let is_cut = text.chars().nth(most).is_some();
+        f.write_str(if is_cut { "..." } else { "" })
     }
 }
 
@@ -150,39 +145,27 @@ impl fmt::Display for Word<'_> {
     }
 }
 
-/// A command on a certificate, as a piece that a shell takes as it stands.
+/// A command on a certificate, as a piece that a shell takes as it stands, and whether its units are to come on standard input.
 #[derive(Clone, Copy)]
-pub(crate) enum Command<'a> {
-    /// The search goes on with the certificate, and writes its own to the same path.
-    Resume {
-        cert: &'a str,
-        units: Option<&'a str>,
-        again: Again<'a>,
-    },
-    /// The certificate is merged with others, whose paths are to be added.
-    Merge {
-        cert: &'a str,
-        units: Option<&'a str>,
-    },
+pub(crate) struct Command<'a> {
+    pub cert: &'a str,
+    pub units: Option<&'a str>,
+    /// How the search goes on with the certificate, and writes its own to the same path; none where the certificate is merged with
+    /// others, whose paths are to be added.
+    pub again: Option<Again<'a>>,
 }
 
 impl fmt::Display for Command<'_> {
     fn fmt<W: fmt::Write>(&self, f: &mut fmt::Formatter<W>) -> fmt::Result {
-        let units = match *self {
-            Command::Resume { cert, units, again } => {
-                let cert = Word(cert);
-                write!(f, "{PIECE}ecplan resume --cert {cert} --out {cert}{again}")?;
-                units
-            }
-            Command::Merge { cert, units } => {
-                write!(f, "{PIECE}ecplan merge --cert {}", Word(cert))?;
-                units
-            }
-        };
-        if let Some(units) = units {
-            write!(f, " {}", Word(units))?;
+        let cert = Word(self.cert);
+        match self.again {
+            Some(again) => write!(f, "{PIECE}ecplan resume --cert {cert} --out {cert}{again}")?,
+            None => write!(f, "{PIECE}ecplan merge --cert {cert}")?,
         }
-        f.write_char(PIECE)
+        match self.units {
+            Some(units) => write!(f, " {}{PIECE}", Word(units)),
+            None => write!(f, "{PIECE} with its units on standard input"),
+        }
     }
 }
 

@@ -52,32 +52,6 @@ fn tell_units(out: &mut Draft, inputs: &Inputs<'_>, doc: Doc<'_>, fault: UnitFau
     }
 }
 
-/// What is told where there was no search.
-fn words_of_search(fault: SolveFault) -> &'static str {
-    match fault {
-        SolveFault::OutOfMemory =>
-            "Memory ran out before the search began. Run it with more memory, or with fewer workers.\n",
-        SolveFault::Spawn =>
-            "No thread could be started for a worker. Run it with --workers 1, which needs none.\n",
-    }
-}
-
-/// What is told where a plan isn't played to its end. Modelled slaves leave no faulty frame: of such nothing is told.
-fn words_of_play(fault: PlayFault) -> &'static str {
-    match fault {
-        PlayFault::OutOfMemory =>
-            "Memory ran out over the frames or the slaves. Run it with more memory.\n",
-        PlayFault::Ring =>
-            "No ring of frames could be made between two threads, or one was lost. Run it again, with more memory.\n",
-        PlayFault::Spawn =>
-            "No thread could be started for a slave: a play takes one for each of at most 16 slaves. Run it where that many may be started.\n",
-        PlayFault::Counter { .. }
-        | PlayFault::Frame(_)
-        | PlayFault::StartCounter { .. }
-        | PlayFault::Reply { .. } => "",
-    }
-}
-
 /// Tells that a text, which begins so, is too large for one of units, and what it is where that is seen.
 fn tell_large(out: &mut Draft, text: &str) {
     out.add("The unit text is too large: at most 1048576 bytes are read.");
@@ -97,10 +71,30 @@ fn tell(out: &mut Draft, inputs: &Inputs<'_>, doc: Doc<'_>, refusal: Refusal) {
         Refusal::Read => paths::tell_read(out, inputs),
         Refusal::Cert(fault) => tell_cert(out, inputs, fault),
         Refusal::Check(fault) => tell_check(out, inputs, doc, fault),
-        Refusal::Solve(fault) => out.add(words_of_search(fault)),
+        Refusal::Solve(SolveFault::OutOfMemory) => out.add(
+            "Memory ran out before the search began. Run it with more memory, or with fewer workers.\n",
+        ),
+        Refusal::Solve(SolveFault::Spawn) => out.add(
+            "No thread could be started for a worker. Run it with --workers 1, which needs none.\n",
+        ),
         Refusal::Write => paths::tell_write(out, inputs),
         Refusal::CertHasNoPlan => tell_no_plan(out, inputs),
-        Refusal::Play(fault) => out.add(words_of_play(fault)),
+        Refusal::Play(PlayFault::OutOfMemory) => out.add(
+            "Memory ran out over the frames or the slaves. Run it with more memory.\n",
+        ),
+        Refusal::Play(PlayFault::Ring) => out.add(
+            "No ring of frames could be made between two threads, or one was lost. Run it again, with more memory.\n",
+        ),
+        Refusal::Play(PlayFault::Spawn) => out.add(
+            "No thread could be started for a slave: a play takes one for each of at most 16 slaves. Run it where that many may be started.\n",
+        ),
+        // Modelled slaves leave no faulty frame.
+        Refusal::Play(
+            PlayFault::Counter { .. }
+            | PlayFault::Frame(_)
+            | PlayFault::StartCounter { .. }
+            | PlayFault::Reply { .. },
+        ) => {}
     }
 }
 
