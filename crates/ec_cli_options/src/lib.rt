@@ -2,5 +2,7 @@
 #![tactic(auto)]
 
 mod options;
+mod tips;
 
 pub use options::all_commands;
+pub use tips::{tip_of_command, tip_of_option};

@@ -4,7 +4,7 @@ use clap::{Arg, ArgAction, Command, value_parser};
 use std::alloc::{AllocError, Global};
 
 /// The commands in the order of the help, and what it says of each.
-const COMMANDS: [(&str, &str); 7] = [
+pub(crate) const COMMANDS: [(&str, &str); 7] = [
     ("cost", "Tells what each tick costs"),
     (
         "plan",
@@ -31,7 +31,7 @@ const COMMANDS: [(&str, &str); 7] = [
 
 /// An option, or the path of the units: its name, what the help calls its value, the commands that have it, and what the help
 /// says of it. A flag has no value.
-type Row = (
+pub(crate) type Row = (
     &'static str,
     &'static str,
     &'static [&'static str],
@@ -39,7 +39,7 @@ type Row = (
 );
 
 /// The options in the order of the help.
-const ROWS: [Row; 24] = [
+pub(crate) const ROWS: [Row; 24] = [
     (
         "cert",
         "PATH",

@@ -4,7 +4,8 @@ ghost use Rattle.std.specs.Prelude.{IfOk};
 ghost use Rattle.ec_cli_words.specs.Merges.{AskedFits};
 
 use crate::merges::{Merging, merging_of};
-use crate::words::{LineFault, Words, fault_of, line_words, refused};
+use crate::tips::fault_of;
+use crate::words::{LineFault, Words, line_words, refused};
 use clap::error::ErrorKind;
 use ec_cli_options::all_commands;
 use std::alloc::Global;

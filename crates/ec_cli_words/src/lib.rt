@@ -4,6 +4,7 @@
 mod asked;
 mod merges;
 mod part;
+mod tips;
 mod words;
 
 pub use asked::{Asked, read_words};

@@ -11,8 +11,7 @@ ghost use Rattle.ec_cli_words.specs.Trials.{AreSaidBy, HasCaptureOf, HasLostOf};
 ghost use Rattle.ec_cli_words.specs.declared.words.LineFault.TheVariants.{Memory};
 
 use crate::part::part_of;
-use clap::error::ErrorKind;
-use clap::{ArgMatches, Error};
+use clap::ArgMatches;
 use ec_cert::Part;
 use ec_cli_command::{Effort, Line};
 use std::alloc::{AllocError, Global};
@@ -22,12 +21,6 @@ const OUT_OF_RANGE: &str = "error: a number is out of range\n";
 
 /// What is told of a word that says no part.
 const NO_PART: &str = "error: --part is I/N with 1 <= I <= N <= 10000, as 3/8\n";
-
-/// What is told of a path where the command needs a certificate, since there the certificate's may be meant.
-const CERT_TIP: &str = "\n  tip: the path of each certificate has --cert before it\n";
-
-/// What is told of a value that is no number.
-const NUMBER_TIP: &str = "\n  tip: a whole number is needed, in decimal digits alone\n";
 
 /// Why words are no command line.
 #[derive(Debug, Drop)]
@@ -66,7 +59,7 @@ pub struct Trial {
 }
 
 /// A refusal with a text, unless memory ran out over it.
-fn refusal(text: Result<String, AllocError>) -> LineFault {
+pub(crate) fn refusal(text: Result<String, AllocError>) -> LineFault {
     match text {
         Ok(text) => LineFault::Refused { text },
         Err(AllocError) => LineFault::Memory,
@@ -76,66 +69,6 @@ fn refusal(text: Result<String, AllocError>) -> LineFault {
 /// A refusal with this text, unless memory ran out.
 pub(crate) fn refused(alloc: Global, text: &str) -> LineFault {
     refusal(String::from_str(alloc, text))
-}
-
-/// Whether a line says that a path is one too many.
-fn is_of_path(line: &str) -> bool {
-    match line.strip_prefix("error: unexpected argument '") {
-        Some(rest) => !rest.starts_with('-'),
-        None => false,
-    }
-}
-
-/// What is told beside what `clap` says, if anything is.
-fn tip_for(kind: ErrorKind, text: &str) -> Option<&'static str> {
-    let line = text.lines().next()?;
-    match kind {
-        ErrorKind::UnknownArgument if is_of_path(line) && text.contains(" --cert <PATH>") => {
-            Some(CERT_TIP)
-        }
-        ErrorKind::ValueValidation if line.ends_with(": invalid digit found in string") => {
-            Some(NUMBER_TIP)
-        }
-        _ => None,
-    }
-}
-
-/// The text with a tip behind its first line, and without how to give an option as a path, since it is meant as none. Between two
-/// paragraphs one line stays empty.
-fn with_tip(alloc: Global, text: &str, tip: Option<&str>) -> Result<String, AllocError> {
-    let mut tip = tip;
-    let mut out = String::new(alloc);
-    let mut was_empty = false;
-    for line in text.lines() {
-        let is_left = line.starts_with("  tip: to pass '") || (was_empty && line.is_empty());
-        if !is_left {
-            out.push_str(line)?;
-            out.push('\n')?;
-            was_empty = line.is_empty();
-        }
-        out.push_str(tip.take().unwrap_or(""))?;
-    }
-    Ok(out)
-}
-
-/// The text of an error.
-fn text_of(alloc: Global, error: Error) -> Result<String, AllocError> {
-    let text = error.to_string(alloc)?;
-    match error.kind() {
-        ErrorKind::UnknownArgument | ErrorKind::ValueValidation => {
-            let tip = tip_for(error.kind(), text.as_str());
-            with_tip(alloc, text.as_str(), tip)
-        }
-        _ => Ok(text),
-    }
-}
-
-/// What words that give no matches are answered with: the error's text, unless memory ran out.
-pub(crate) fn fault_of(alloc: Global, error: Error) -> LineFault {
-    if error.kind() == ErrorKind::OutOfMemory {
-        return LineFault::Memory;
-    }
-    refusal(text_of(alloc, error))
 }
 
 /// The path that an option names, if it is there.

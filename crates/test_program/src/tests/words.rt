@@ -350,7 +350,30 @@ const REFUSED: &str = " : requires a subcommand|\
     plan 5 6 : unexpected argument '6'|\
     plan --svg p : unexpected argument '--svg'|\
     plan --workers 17 : <error: invalid value '17' for '--workers <N>': 17 is not in 1..=16\n\nFor more information, try '--help'.\n>|\
-    solve : <error: unrecognized subcommand 'solve'\n\nUsage: ecplan <COMMAND>\n\nFor more information, try '--help'.\n>";
+    plan --time 5 : <error: unexpected argument '--time' found\n\n  tip: --minutes <M> is an option of plan and resume\n\nUsage: ecplan plan [OPTIONS] [FILE]\n\nFor more information, try '--help'.\n>|\
+    plan -j4 : tip: --workers <N> is an option of plan and resume\n|\
+    plan -o p : tip: --out <PATH> is an option of plan, resume and merge\n|\
+    check --cert p --out q : tip: --out <PATH> is an option of plan, resume and merge\n|\
+    plan --cert p : tip: --cert <PATH> is an option of cost, resume, merge, check, frames and play\n|\
+    plan --out p --part 1/2 : tip: --part <I/N> is an option of resume\n|\
+    check --cert p --strong : tip: --strong is an option of plan\n|\
+    frames --csv p : tip: --map <PATH> is an option of frames\n|\
+    play --lost 1001 : <error: unexpected argument '--lost' found\n\n  tip: --lose <STATION> is an option of play\n\nUsage: ecplan play --lose <STATION> [FILE]\n\nFor more information, try '--help'.\n>|\
+    play --lsoe 1001 : tip: a similar argument exists: '--lose'|\
+    play --map p : found\n\n  tip: --map <PATH> is an option of frames\n\nUsage|\
+    frames --threads 2 : found\n\n  tip: --workers <N> is an option of plan and resume\n\nUsage|\
+    continue --cert p : 'continue'\n\n  tip: resume does that here\n\nUsage|\
+    plan.toml : 'plan.toml'\n\n  tip: a command stands before the path, as ecplan plan FILE\n\nUsage|\
+    resume --cert p q 5 : tip: a part is one word, as --part 1/3, and nodes stand behind --nodes\n|\
+    play --verbose : tip: --progress is an option of plan and resume\n|\
+    cost -v : tip: ecplan --version tells the version\n|\
+    plan --sideways : found\n\nUsage: ecplan plan [OPTIONS] [FILE]\n|\
+    resume --part 1 of 3 --cert p : tip: a part is one word, as --part 1/3, and nodes stand behind --nodes\n|\
+    verify --cert p q : tip: check does that here\n|\
+    version : tip: --version does that here\n|\
+    lines/first.toml : tip: a command stands before the path, as ecplan plan FILE\n|\
+    cst : tip: a similar subcommand exists: 'cost'|\
+    walk : <error: unrecognized subcommand 'walk'\n\nUsage: ecplan <COMMAND>\n\nFor more information, try '--help'.\n>";
 
 /// Words that ask for help, with a part of it.
 const HELP: &str = "--help : Usage: ecplan <COMMAND>|\
