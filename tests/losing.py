@@ -443,13 +443,13 @@ def of_longer_searches(outputs):
 
 
 def try_better_places(units, trial):
-    """Places of a plan that costs more don't take the place of better ones for the same units; others do."""
+    """Places of a plan that costs more don't take the place of better ones for the same units, and nothing is missing; others do."""
     trial.put("units.toml", example("assembly-line.toml"))
     trial.holds(trial.run("plan", "--strong", "--places", "placed.toml", "units.toml").code == 0, "no best plan")
     before = trial.seen()
     worse = trial.run("plan", "--nodes", "1", "units.toml")
     done = trial.run("plan", "--nodes", "1", "--places", "placed.toml", units)
-    trial.ends(done, 4, worse.text)
+    trial.ends(done, 2, worse.text)
     trial.tells(done, "placed.toml", "costs less")
     trial.left(before)
     again = trial.run("plan", "--strong", "--places", "placed.toml", units)

@@ -77,7 +77,7 @@ pub fn explain(alloc: Global, refusal: &Refusal, inputs: &Inputs<'_>) -> Result<
 pub fn advice(
     alloc: Global,
     found: Found,
-    cycle: Option<Cycle>,
+    cycle: Option<Cycle<'_>>,
     filed: Filed<'_>,
     asked: Asked,
 ) -> Result<String, AllocError>

@@ -91,6 +91,8 @@ pub enum KeepReason {
     Changed,
     /// It holds units of the same names, periods and bytes with places whose busiest tick costs less.
     Cheaper,
+    /// It holds the units, line by line, with places whose busiest tick costs less. So it holds more than was to be written there.
+    Better,
     /// It holds such units with places whose busiest tick costs as much, which may be those of a certificate that was left.
     AsCheap,
     /// Other runs write to it at the same time.
@@ -129,6 +131,9 @@ impl KeepReason {
             }
             KeepReason::Cheaper => {
                 "Its places make a busiest tick that costs less than that of this plan, as cost tells: give another path"
+            }
+            KeepReason::Better => {
+                "Its places stay: their busiest tick costs less than that of this plan, as cost tells"
             }
             KeepReason::AsCheap => {
                 "Its places cost as much in their busiest tick, and may be those of the certificate that was left as it is: give another path"

@@ -212,7 +212,7 @@ impl Search<'_> {
 
     /// Adds what is known of each plan of a line, with the level that its bytes alone give where that is greater, what would help,
     /// and how one goes on.
-    fn add_known(self, out: &mut Draft, cycle: Cycle) {
+    fn add_known(self, out: &mut Draft, cycle: Cycle<'_>) {
         let level = cycle.mean.cost;
         if level <= self.ending.level {
             return self.add_unproved(out);
@@ -231,7 +231,7 @@ impl Search<'_> {
     }
 
     /// Adds what its end is good for, and what would help; less where the line isn't known.
-    fn add_ending(self, out: &mut Draft, cycle: Option<Cycle>) {
+    fn add_ending(self, out: &mut Draft, cycle: Option<Cycle<'_>>) {
         let Some(cycle) = cycle else {
             if self.ending.best.is_some() {
                 out.add(USE);
@@ -276,7 +276,7 @@ fn add_too_large(out: &mut Draft, filed: Filed<'_>, asked: Asked) {
 pub fn counsel(
     alloc: Global,
     found: Found,
-    cycle: Option<Cycle>,
+    cycle: Option<Cycle<'_>>,
     filed: Filed<'_>,
     asked: Asked,
 ) -> Result<String, AllocError> {

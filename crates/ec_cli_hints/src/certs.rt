@@ -82,17 +82,30 @@ fn tell_version(out: &mut Draft, inputs: &Inputs<'_>) {
     }
 }
 
-/// Adds what a line, from 0, should be, by its fault.
-fn add_wanted(out: &mut Draft, inputs: &Inputs<'_>, line: usize, fault: CertFault) {
+/// What is told of a tree that isn't whole where its text ends.
+const CHANGED: &str =
+    "A line of the tree above it is missing, or was changed, perhaps far above.\n";
+
+/// Whether a line of a certificate, from 0, is the one that ends it.
+fn is_end(cert: &[u8], line: usize) -> bool {
+    line_at(cert, line) == Some(b"end")
+}
+
+/// Adds what a line, from 0, of a certificate should be, by its fault.
+fn add_wanted(out: &mut Draft, inputs: &Inputs<'_>, text: &[u8], line: usize, fault: CertFault) {
     let is_due = !matches!(fault, CertFault::Late(_) | CertFault::TooDeep(_));
     if let Some(cert) = CertText::of(inputs).filter(|_| is_due) {
         let (form, note) = cert.wanted_at(line);
         out.add(format_args!("Due there: {form}.\n{note}"));
     }
     out.add(match fault {
+        CertFault::Early(_) if is_end(text, line) && text.ends_with(b"\n") => CHANGED,
         CertFault::Early(_) =>
             "Was the file cut off? Each line ends with a line feed, also the last.\n",
-        CertFault::Late(_) => "The last line is end, behind the tree, and nothing follows it.\n",
+        CertFault::Late(_) if line.checked_sub(1).is_some_and(|last| is_end(text, last)) =>
+            "The last line is end, behind the tree, and nothing follows it.\n",
+        CertFault::Late(_) =>
+            "Due there: end.\nThis line was added or changed, or one of the tree above it, perhaps far above.\n",
         _ => "",
     });
 }
@@ -121,6 +134,6 @@ pub(crate) fn tell_cert(out: &mut Draft, inputs: &Inputs<'_>, fault: CertFault) 
     out.add(format_args!("{name}: line {number} {words}.\n"));
     if let (Some(cert), Some(line)) = (inputs.cert, (number as usize).checked_sub(1)) {
         add_line(out, cert, line);
-        add_wanted(out, inputs, line, fault);
+        add_wanted(out, inputs, cert, line, fault);
     }
 }

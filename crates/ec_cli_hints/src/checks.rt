@@ -1,6 +1,7 @@
 //! Certificates that are texts, but show nothing of the units.
 
 use crate::certs::{CertName, add_line};
+use crate::cycle::Cycle;
 use crate::due::CertText;
 use crate::inputs::{Doc, Inputs};
 use crate::leaves::add_leaf_fault;
@@ -8,6 +9,8 @@ use crate::others::add_differences;
 use crate::places::add_illegal;
 use ec_checker::CheckFault;
 use ec_text_builder::Draft;
+use ec_unit_text::read_units;
+use std::alloc::Global;
 use std::fmt::Display;
 
 /// Tells that a certificate is of other units, and what differs.
@@ -51,18 +54,28 @@ fn tell_node<D: Display + Drop>(out: &mut Draft, inputs: &Inputs<'_>, node: usiz
     add_line_of(out, inputs, line);
 }
 
+/// Adds whether a search that found no plan so far may find one.
+fn add_outlook(out: &mut Draft, alloc: Global, units: &[u8]) {
+    let units = read_units(alloc, units);
+    match units.as_ref().map(|units| Cycle::of(units)) {
+        Ok(cycle) if cycle.is_overfull() => cycle.add_none(out),
+        _ => out.add("The command resume goes on with that search, and may find one.\n"),
+    }
+}
+
 /// Tells that a certificate holds no plan.
-pub(crate) fn tell_no_plan(out: &mut Draft, inputs: &Inputs<'_>) {
-    out.add(format_args!(
-        "{} is right, and {}",
-        CertName(inputs.cert_path),
-        match CertText::of(inputs).map(CertText::is_partial) {
-            Some(true) =>
-                "is that of a search that has found no plan so far: there is nothing to tell.\nThe command resume goes on with that search, and may find one.\n",
-            Some(false) => "shows that there is no plan: there is nothing to tell.\n",
-            None => "holds no plan: there is nothing to tell.\n",
-        }
-    ));
+pub(crate) fn tell_no_plan(out: &mut Draft, alloc: Global, inputs: &Inputs<'_>) {
+    let is_partial = CertText::of(inputs).map(CertText::is_partial);
+    let why = match is_partial {
+        Some(true) => "is that of a search that has found no plan so far",
+        Some(false) => "shows that there is no plan",
+        None => "holds no plan",
+    };
+    let name = CertName(inputs.cert_path);
+    out.add(format_args!("{name} is right, and {why}: there is nothing to tell.\n"));
+    if is_partial == Some(true) {
+        add_outlook(out, alloc, inputs.units);
+    }
 }
 
 /// Tells that memory ran out over a check, or over what a search without a proof has proved.

@@ -50,7 +50,7 @@ pub(crate) const USE: &str = "The plan is legal and can be used as it stands.\n"
 
 /// The length of a tick in ns, the frames that one may have, and what some tick of each plan has at least.
 #[derive(Clone, Copy)]
-pub struct Cycle {
+pub struct Cycle<'a> {
     pub tick_ns: u32,
     pub slots: u8,
     /// The wire bytes of a frame with its largest unit alone.
@@ -58,15 +58,15 @@ pub struct Cycle {
     /// Whether each unit that is too long for a tick alone could be two.
     pub is_divisible: bool,
     /// The two units with the most bytes that meet in some tick wherever they are placed, if any do.
-    pub meeting: Option<Meeting>,
+    pub meeting: Option<Meeting<'a>>,
     /// How many units of which no two go into one frame meet in some tick wherever they are placed.
     pub crowd: u64,
     pub mean: MeanTick,
 }
 
-impl Cycle {
+impl<'a> Cycle<'a> {
     /// That of these units.
-    pub fn of(units: &Units) -> Cycle {
+    pub fn of(units: &'a Units) -> Cycle<'a> {
         let (all, tick_ns) = (units.units.as_slice(), units.tick_ns);
         Cycle {
             tick_ns,

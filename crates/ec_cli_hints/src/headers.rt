@@ -43,6 +43,12 @@ pub(crate) fn line_named(doc: Doc<'_>, name: &str) -> Option<usize> {
     None
 }
 
+/// The first line, from 1, that begins a unit or a slave.
+pub(crate) fn first_header(doc: Doc<'_>) -> Option<usize> {
+    let at = doc.text.lines().position(|line| header_of(line).is_some())?;
+    Some(at.saturating_add(1))
+}
+
 /// The line, from 1, at which the table of a unit begins, or of a slave of it, both numbered from 0. None where the units aren't
 /// all begun by such lines, or the unit's slaves.
 pub(crate) fn header_line(doc: Doc<'_>, unit: usize, slave: Option<usize>) -> Option<usize> {

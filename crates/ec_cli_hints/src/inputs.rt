@@ -32,7 +32,12 @@ impl<'a> Fields<'a> {
 
     /// The value at a key, if both are there.
     pub(crate) fn value(self, key: Key) -> Option<&'a Value> {
-        self.0?.get(key.as_str())
+        self.named(key.as_str())
+    }
+
+    /// The value at a word, which may be no key, if both are there.
+    pub(crate) fn named(self, word: &str) -> Option<&'a Value> {
+        self.0?.get(word)
     }
 
     /// Whether there is a value at a key.
@@ -48,12 +53,6 @@ impl<'a> Fields<'a> {
     /// The text at a key, if there is one.
     pub(crate) fn text(self, key: Key) -> Option<&'a str> {
         self.value(key)?.as_str()
-    }
-
-    /// Whether there is an array at a word, which may be no key.
-    pub(crate) fn has_array(self, word: &str) -> bool {
-        let value = self.0.and_then(|table| table.get(word));
-        matches!(value, Some(Value::Array(_)))
     }
 
     /// The values of the array at a key; none where there is no array.

@@ -1,10 +1,11 @@
 //! Keys that are of another type, or not known.
 
-use crate::headers::line_named;
+use crate::headers::{first_header, header_line, line_named, name_of};
 use crate::inputs::{Doc, Fields};
 use crate::label::{AtLine, In};
 use crate::nearest::nearest;
 use crate::quoted::{Quoted, Shown};
+use crate::slips::{before_comment, is_other_base};
 use ec_text_builder::Draft;
 use ec_unit_text::{Key, Spot};
 use std::alloc::AllocError;
@@ -92,16 +93,29 @@ fn are_slaves(word: &str, kind: Kind) -> bool {
         || (kind.has("unit") && front.eq_ignore_ascii_case("slave"))
 }
 
-/// What is told of a key that isn't known in a table, and belongs to one of another kind.
-fn place_of(word: &str, at: Kind) -> Option<&'static str> {
-    if are_slaves(word, at) {
+/// What is told of a key that isn't known at a spot, and belongs to a table of another kind. Where one that begins a unit stands in a
+/// slave, and the unit has it already, a further unit isn't begun.
+fn place_of(doc: Doc<'_>, word: &str, spot: Spot) -> Option<&'static str> {
+    if are_slaves(word, Kind::at(spot)) {
         return Some("A slave begins with [[unit.slave]], below the [[unit]] that it belongs to.\n");
     }
     let kinds = [SLAVE, UNIT, TOP];
-    kinds
-        .iter()
-        .find(|kind| kind.has(word))
-        .map(|kind| kind.astray)
+    let kind = kinds.iter().find(|kind| kind.has(word))?;
+    Some(match spot {
+        Spot { unit: Some(_), .. } if word == "unit" =>
+            "Each unit begins with a line [[unit]], and each slave with a line [[unit.slave]].\n",
+        Spot {
+            slave: Some(_),
+            unit,
+        } if matches!(word, "name" | "period") && doc.unit(unit).named(word).is_some() =>
+            "Where a further unit begins, the line [[unit]] before it is missing; else take it out: it is a key of a unit.\n",
+        _ => kind.astray,
+    })
+}
+
+/// Whether a unit has a text at `unit`, where its name was meant.
+fn is_name(unit: Fields<'_>, word: &str) -> bool {
+    word == "unit" && !unit.has(Key::Name) && matches!(unit.named(word), Some(Value::String(_)))
 }
 
 /// Whether a word that was meant for a key counts bits, where the key counts bytes.
@@ -128,7 +142,10 @@ pub(crate) fn add_unknown(out: &mut Draft, doc: Doc<'_>, word: &str, spot: Spot)
     let kind = Kind::at(spot);
     let line = AtLine(line_named(doc, word).filter(|_| spot.unit.is_none()));
     out.add(format_args!("the key {}{line} is not known there.\n", Quoted(word)));
-    if let Some(place) = place_of(word, kind) {
+    if spot.slave.is_none() && is_name(doc.unit(spot.unit), word) {
+        return add_meant(out, word, Key::Name);
+    }
+    if let Some(place) = place_of(doc, word, spot) {
         return out.add(place);
     }
     match nearest(doc.alloc, word, kind.keys) {
@@ -167,9 +184,27 @@ pub(crate) fn tell_unknown(out: &mut Draft, doc: Doc<'_>, spot: Spot) {
     }
 }
 
+/// Whether the address at a spot stands there in base 16 without 0x, as 3E9, which is read as a number with an exponent.
+fn is_hex(doc: Doc<'_>, spot: Spot, key: Key) -> bool {
+    let header = spot
+        .unit
+        .and_then(|unit| header_line(doc, unit, spot.slave));
+    let Some(header) = header else {
+        return false;
+    };
+    let mut behind = doc.text.lines().skip(header);
+    let line = behind.find(|line| name_of(line) == key.as_str());
+    let value = line.and_then(|line| line.split_once('='));
+    matches!(key, Key::Station | Key::Area(_))
+        && value.is_some_and(|(_, value)| is_other_base(before_comment(value)))
+}
+
 /// Which type a key takes, where it has a value of another one.
-fn type_of(key: Key, value: &Value) -> &'static str {
+fn type_of(doc: Doc<'_>, spot: Spot, key: Key, value: &Value) -> &'static str {
     match (key, value.is_table()) {
+        _ if matches!(value, Value::Float(_)) && is_hex(doc, spot, key) => {
+            "A whole number is needed, without a point or an exponent; one of base 16 is written 0x3E9.\n"
+        }
         (Key::Unit, true) => "Write [[unit]] in double brackets, once for each.\n",
         (Key::Unit, false) => "It has to be tables, each begun by a line [[unit]].\n",
         (Key::Slave, true) if Fields::of(value).has(Key::Slave) => {
@@ -185,18 +220,27 @@ fn type_of(key: Key, value: &Value) -> &'static str {
     }
 }
 
-/// Tells that no unit is begun, but by its slaves alone, where another key of an array was meant for `unit`; says whether one was.
+/// Tells that no unit is begun, but by its slaves alone, where another key of an array was meant for `unit`, or no line begins one; says
+/// whether it is so.
 fn tell_unbegun(out: &mut Draft, doc: Doc<'_>, spot: Spot) -> bool {
     let Some(Value::Table(begun)) = doc.top().value(Key::Unit) else {
         return false;
     };
     let is_of_slaves = begun.keys().all(|key| key.as_str() == Key::Slave.as_str());
+    let slave = first_header(doc);
     match meant_for(doc, spot, Key::Unit) {
         Err(_) => out.give_up(),
-        Ok(Some(word)) if is_of_slaves && doc.top().has_array(word) => out.add(format_args!(
-            "No unit is begun: at the top of the file stands {} in place of unit.\nEach unit begins with a line [[unit]].\n",
-            Quoted(word)
-        )),
+        Ok(Some(word)) if is_of_slaves && matches!(doc.top().named(word), Some(Value::Array(_))) =>
+            out.add(format_args!(
+                "No unit is begun: at the top of the file stands {} in place of unit.\nEach unit begins with a line [[unit]].\n",
+                Quoted(word)
+            )),
+        Ok(_) if is_of_slaves && line_named(doc, "unit").is_none() && slave.is_some() => out.add(
+            format_args!(
+                "No unit is begun: before the first [[unit.slave]]{} a line [[unit]] is missing.\n",
+                AtLine(slave)
+            ),
+        ),
         Ok(_) => return false,
     }
     true
@@ -209,7 +253,11 @@ pub(crate) fn tell_type(out: &mut Draft, doc: Doc<'_>, spot: Spot, key: Key) {
     }
     out.add(In(doc, spot));
     match doc.table(spot).value(key) {
-        Some(value) => out.add(format_args!("{key} is {}.\n{}", Shown(value), type_of(key, value))),
+        Some(value) => out.add(format_args!(
+            "{key} is {}.\n{}",
+            Shown(value),
+            type_of(doc, spot, key, value)
+        )),
         None => out.add("a value has the wrong type.\n"),
     }
 }

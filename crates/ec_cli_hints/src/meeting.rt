@@ -16,13 +16,14 @@ const MOST_BYTES: u32 = 1474;
 
 /// Two units of different periods that have no common divisor but 1: in some tick both travel, whatever their phases are.
 #[derive(Clone, Copy)]
-pub struct Meeting {
+pub struct Meeting<'a> {
+    pub names: (&'a str, &'a str),
     pub periods: (u16, u16),
     /// The bytes of both.
     pub bytes: u32,
 }
 
-impl Meeting {
+impl Meeting<'_> {
     /// The least that both take on the wire in one tick, in bytes.
     pub(crate) fn wire(self) -> u64 {
         u64::from(frame_wire(self.bytes.min(MOST_OF_TWO) + DATAGRAMS))
@@ -34,22 +35,28 @@ impl Meeting {
     }
 }
 
-impl fmt::Display for Meeting {
+impl fmt::Display for Meeting<'_> {
     fn fmt<W: fmt::Write>(&self, f: &mut fmt::Formatter<W>) -> fmt::Result {
-        let (one, other) = self.periods;
+        let ((one, other), (period, its)) = (self.names, self.periods);
         write!(
             f,
-            "Two units with periods {one} and {other} meet in some tick wherever they are placed"
+            "The units \"{one}\" and \"{other}\", with periods {period} and {its}, meet in some tick wherever they are placed"
         )
     }
 }
 
 /// The meeting of two units, if their periods are different and have no common divisor but 1.
-fn meeting_of(one: &Unit, other: &Unit) -> Option<Meeting> {
+fn meeting_of<'a>(one: &'a Unit, other: &'a Unit) -> Option<Meeting<'a>> {
+    let names = (one.name.as_str(), other.name.as_str());
     let periods = (one.period, other.period);
     let bytes = u32::from(bytes_of(one)) + u32::from(bytes_of(other));
     let is_met = periods.0 != periods.1 && are_coprime(u64::from(periods.0), u64::from(periods.1));
-    Some(Meeting { periods, bytes }).filter(|_| is_met)
+    Some(Meeting {
+        names,
+        periods,
+        bytes,
+    })
+    .filter(|_| is_met)
 }
 
 /// The least bytes of a unit of which no two go into one frame, also in one datagram.
@@ -70,20 +77,33 @@ pub(crate) fn crowd(units: &[Unit]) -> u64 {
 }
 
 /// The one of two meetings that has more bytes, the first where both have as many.
-fn heavier(one: Option<Meeting>, other: Meeting) -> Option<Meeting> {
+fn heavier<'a>(one: Option<Meeting<'a>>, other: Meeting<'a>) -> Option<Meeting<'a>> {
     match one {
         Some(one) if one.bytes >= other.bytes => Some(one),
         _ => Some(other),
     }
 }
 
+/// The heaviest meeting of a unit with one of some others, if it has one, or a heavier one that was found before.
+fn heaviest_with<'a>(
+    found: Option<Meeting<'a>>,
+    unit: &'a Unit,
+    others: &'a [Unit],
+) -> Option<Meeting<'a>> {
+    let mut most = found;
+    for other in others {
+        if let Some(meeting) = meeting_of(unit, other) {
+            most = heavier(most, meeting);
+        }
+    }
+    most
+}
+
 /// The two of some units that have the most bytes of those that meet in some tick wherever they are placed.
-pub(crate) fn heaviest(units: &[Unit]) -> Option<Meeting> {
+pub(crate) fn heaviest<'a>(units: &'a [Unit]) -> Option<Meeting<'a>> {
     let mut most = None;
-    for (at, unit) in units.iter().enumerate() {
-        let others = units.get(at..).unwrap_or(&[]).iter();
-        let meetings = others.filter_map(|other| meeting_of(unit, other));
-        most = meetings.fold(most, heavier);
+    for at in 0..units.len() {
+        most = heaviest_with(most, &units[at], &units[at..]);
     }
     most
 }

@@ -94,18 +94,20 @@ impl Area {
 
     /// Adds that it lies where registers are. One of four digits may be meant in base 16, unless it stands so in the text.
     fn add_registers(self, out: &mut Draft, text: &str) {
-        let Area { key, at, .. } = self;
+        let Area { key, at, bytes } = self;
         if is_hex_in(text, at) {
             out.add(format_args!(
                 "{key} is {at}, below 4096 (0x1000), where a slave has registers.\n"
             ));
         } else {
             out.add(format_args!("{key} = {at} is below 4096, where a slave has registers.\n"));
-            if (1000..DIGITAL_OUTPUTS).contains(&at) {
+            if (1000..DIGITAL_OUTPUTS).contains(&at) && bytes > 0 {
                 out.add(format_args!("Is {at} of base 16? Then write {key} = 0x{at}.\n"));
             }
         }
-        out.add(REGISTERS);
+        if bytes > 0 {
+            out.add(REGISTERS);
+        }
     }
 
     /// Adds what is wrong with it, and says whether something is.
@@ -121,6 +123,14 @@ impl Area {
             ));
         } else {
             return false;
+        }
+        if bytes == 0 {
+            let name = if key == Key::Area(false) {
+                "outputs"
+            } else {
+                "inputs"
+            };
+            out.add(format_args!("The slave has no {name}: take {key} out.\n"));
         }
         true
     }

@@ -59,7 +59,7 @@ fn has_slashes(line: &str) -> bool {
 }
 
 /// What stands in a line before its first #.
-fn before_comment(line: &str) -> &str {
+pub(crate) fn before_comment(line: &str) -> &str {
     line.split('#').next().unwrap_or("").trim()
 }
 
@@ -111,7 +111,7 @@ fn without_marks(value: &str) -> &str {
 }
 
 /// Whether a value is a number of base 16 as TOML doesn't write it, as `1A00`, `0X3E9` and `3E9h` are.
-fn is_other_base(value: &str) -> bool {
+pub(crate) fn is_other_base(value: &str) -> bool {
     let digits = without_marks(value);
     let is_marked = digits.len() < value.len();
     digits.contains(is_digit)
@@ -152,6 +152,12 @@ fn is_strange_blank(letter: char) -> bool {
         letter,
         '\u{a0}' | '\u{2000}'..='\u{200d}' | '\u{202f}' | '\u{2060}' | '\u{3000}' | '\u{feff}'
     )
+}
+
+/// Whether a character, no blank, isn't one of a keyboard's: a dash or an equals sign that only looks plain, say, or one of control.
+fn is_strange(letter: char) -> bool {
+    let is_plain = letter.is_ascii() && !letter.is_control();
+    !is_plain && letter != '\r' && !letter.is_alphabetic()
 }
 
 /// Whether braces are open behind a text.
@@ -203,6 +209,8 @@ fn hint_of_line(stop: Stop<'_>, word: &str) -> Option<&'static str> {
         Some("Take the plain quote \".\n")
     } else if lacks_quote(stop.line) {
         Some(QUOTES)
+    } else if stop.rest.starts_with(is_strange) {
+        Some("The character there is none of the plain ones: type it again.\n")
     } else {
         None
     }

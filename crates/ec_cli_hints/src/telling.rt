@@ -78,7 +78,7 @@ fn tell(out: &mut Draft, inputs: &Inputs<'_>, doc: Doc<'_>, refusal: Refusal) {
             "No thread could be started for a worker. Run it with --workers 1, which needs none.\n",
         ),
         Refusal::Write => paths::tell_write(out, inputs),
-        Refusal::CertHasNoPlan => tell_no_plan(out, inputs),
+        Refusal::CertHasNoPlan => tell_no_plan(out, doc.alloc, inputs),
         Refusal::Play(PlayFault::OutOfMemory) => out.add(
             "Memory ran out over the frames or the slaves. Run it with more memory.\n",
         ),

@@ -37,7 +37,7 @@ fn is_unit_header(line: &str) -> bool {
         return false;
     };
     match rest.split_once("]]") {
-        Some((name, _)) => name.trim() == "unit",
+        Some((name, _)) => matches!(name.trim(), "unit" | "\"unit\"" | "'unit'"),
         None => false,
     }
 }

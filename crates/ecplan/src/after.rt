@@ -38,6 +38,8 @@ enum AfterFault {
     File(FileFault),
     /// The places aren't written, for this reason.
     Unplaced(&'static str),
+    /// The same units stand there with better places, so nothing is missing.
+    Better,
     /// No plan was found, so nothing is missing.
     NoPlan,
 }
@@ -124,7 +126,7 @@ fn holds_still<R: Files + AllocGlobal>(rt: &R, path: &str, units: &[u8]) -> bool
 
 /// Why places of a plan with such a cost aren't written over a unit text that stands. It lacks places, so that no plan made it, and
 /// differs from the units' text in more than places. Or its units have the same names, periods and bytes, and places that cost less, or as
-/// much where the certificate was left as it is, since they may be its plan's.
+/// much where the certificate was left as it is, since they may be its plan's. Where it differs in places alone, cheaper ones are better.
 fn reason_by(
     alloc: Global,
     standing: &Standing,
@@ -133,8 +135,8 @@ fn reason_by(
     done: Done<'_>,
 ) -> Option<KeepReason> {
     let Standing { text, units: held } = standing;
+    let is_same = differ_in_places(text.as_slice(), done.left.units);
     if lacks_place(held) {
-        let is_same = differ_in_places(text.as_slice(), done.left.units);
         return Some(KeepReason::HoldsElse).filter(|_| !is_same);
     }
     if !are_alike(held, units) {
@@ -142,7 +144,11 @@ fn reason_by(
     }
     let standing = placed_cost(alloc, held)?;
     if standing < cost {
-        return Some(KeepReason::Cheaper);
+        return Some(if is_same {
+            KeepReason::Better
+        } else {
+            KeepReason::Cheaper
+        });
     }
     Some(KeepReason::AsCheap).filter(|_| standing == cost && done.is_kept)
 }
@@ -179,13 +185,21 @@ fn reason_to_leave<R: Files + AllocGlobal>(
     standing_reason(rt, target, done, told)
 }
 
-/// Why what is written after the job isn't at its path. Places for another text than the one that stands there are nowhere.
+/// Why places aren't written where what stands there is kept for this reason.
+fn unplaced(why: KeepReason) -> AfterFault {
+    match why {
+        KeepReason::Better => AfterFault::Better,
+        why => AfterFault::Unplaced(why.as_str()),
+    }
+}
+
+/// Why what is written after the job isn't at its path. Places for another text than the one that stands there, and worse ones, are
+/// nowhere.
 fn after_fault(fault: FileFault) -> AfterFault {
     match fault {
-        FileFault::Kept {
-            why: KeepReason::Changed,
-            ..
-        } => AfterFault::Unplaced(KeepReason::Changed.as_str()),
+        FileFault::Kept { why, .. } if matches!(why, KeepReason::Changed | KeepReason::Better) => {
+            unplaced(why)
+        }
         fault => AfterFault::File(fault),
     }
 }
@@ -201,7 +215,7 @@ fn write_to<R: Files + AllocGlobal>(
     let Target { path, content, .. } = target;
     let text = text_of(rt.alloc(), content, done.left.units, told)?;
     if let Some(why) = reason_to_leave(rt, target, done, told) {
-        return Err(AfterFault::Unplaced(why.as_str()));
+        return Err(unplaced(why));
     }
     match make_whole(rt, rt.alloc(), path, content, text.as_bytes())? {
         Some(whole) => match whole.settle(|_| reason_to_leave(rt, target, done, told)) {
@@ -221,9 +235,10 @@ fn tell_after<R: Files + AllocGlobal + Eprint>(
     match fault {
         AfterFault::File(fault) => tell_fault(rt, target, fault),
         AfterFault::Unplaced(why) => tell_path(rt, UNPLACED, target.path, *why),
+        AfterFault::Better => tell_path(rt, UNPLACED, target.path, KeepReason::Better.as_str()),
         AfterFault::NoPlan => tell_path(rt, UNPLACED, target.path, NO_PLAN),
     }
-    matches!(fault, AfterFault::NoPlan)
+    matches!(fault, AfterFault::Better | AfterFault::NoPlan)
 }
 
 /// Writes what is to be at some paths after the text of a job, each whole before the next one. Whether nothing is missing; tells

@@ -14,6 +14,8 @@ use ec_cli_explain::{Again, Asked, Cycle, Filed, Found, Written, advice, misread
 use ec_cli_files::{FileFault, are_one};
 use ec_cli_refusals::Refusal;
 use ec_cli_run::Report;
+use ec_cli_text::placed_plan;
+use ec_loads::Plan;
 use ec_outcome::Cut;
 use ec_unit_text::read_units;
 use ec_units::Units;
@@ -26,6 +28,10 @@ const MOST_NODES: u32 = 10_000_000;
 
 /// From so many nodes on a certificate shows how many bytes a node takes.
 const MANY_NODES: u64 = 100_000;
+
+/// What is told where the places of the units are another plan than that of the certificate.
+const OTHER_PLAN: &str =
+    "The places in the unit text are another plan: this is the one of the certificate.\n";
 
 /// The most minutes that a search may be asked to take.
 const MOST_MINUTES: u32 = 10_000;
@@ -113,11 +119,6 @@ fn found_of(told: &Told) -> Found {
     }
 }
 
-/// What is known of the line of the units that were read.
-fn cycle_of(alloc: Global, units: &[u8]) -> Option<Cycle> {
-    read_units(alloc, units).ok().map(|units| Cycle::of(&units))
-}
-
 /// What the busiest tick of the units' own places costs, in wire bytes, where a search without a proof found no plan as good, and no
 /// plan costs less: by its level, or by the bytes of the units alone.
 fn least_placed(alloc: Global, told: &Told, units: &[u8]) -> Option<u64> {
@@ -130,20 +131,40 @@ fn least_placed(alloc: Global, told: &Told, units: &[u8]) -> Option<u64> {
 }
 
 /// Tells that a plan whose busiest tick costs so many wire bytes doesn't fit into its ticks, if it doesn't.
-pub(crate) fn tell_unfit<R: AllocGlobal + Eprint>(rt: &R, cycle: Cycle, cost: u64) {
+fn tell_unfit<R: AllocGlobal + Eprint>(rt: &R, cycle: Cycle<'_>, cost: u64) {
     let given = Found::Given(cost);
     if let Ok(text) = advice(rt.alloc(), given, Some(cycle), Filed::Unasked, Asked::Whole) {
         let _ = rt.eprint(text.as_str());
     }
 }
 
-/// Tells that the plan of which a job tells that doesn't search doesn't fit into its ticks, if it doesn't.
-fn tell_given<R: AllocGlobal + Eprint>(rt: &R, told: &Told, units: &[u8]) {
+/// Tells that the places of the units are another plan than that of a certificate, which costs so many wire bytes, if they are a legal
+/// one.
+fn tell_other<R: AllocGlobal + Eprint>(rt: &R, units: &Units, plan: &Plan, cost: u64) {
+    let Ok(own) = placed_plan(rt.alloc(), units) else {
+        return;
+    };
+    match legal_cost(units, &own) {
+        Some(own) if own < cost => tell(rt, cheaper_text(rt.alloc(), own, Some(cost))),
+        Some(_) if own.places.as_slice() != plan.places.as_slice() => {
+            let _ = rt.eprint(OTHER_PLAN);
+        }
+        _ => {}
+    }
+}
+
+/// Tells of the plan of a job that doesn't search: that it doesn't fit into its ticks, if it doesn't, and, where it is that of a
+/// certificate, that the places of the units are another one, if they are.
+pub(crate) fn tell_given<R: AllocGlobal + Eprint>(rt: &R, line: &Line, plan: &Plan, units: &[u8]) {
     let Ok(units) = read_units(rt.alloc(), units) else {
         return;
     };
-    if let Some(cost) = told.plan().and_then(|plan| legal_cost(&units, plan)) {
-        tell_unfit(rt, Cycle::of(&units), cost);
+    let Some(cost) = legal_cost(&units, plan) else {
+        return;
+    };
+    tell_unfit(rt, Cycle::of(&units), cost);
+    if line.cert().is_some() {
+        tell_other(rt, &units, plan, cost);
     }
 }
 
@@ -185,7 +206,7 @@ fn tell_cheaper<R: AllocGlobal + Eprint>(rt: &R, told: &Told, units: &[u8]) {
 }
 
 /// The bytes of the file at a path; none where there is no file, or what is none, as a pipe.
-fn file_bytes<R: Files>(files: &R, path: &str) -> Option<u64> {
+pub(crate) fn file_bytes<R: Files>(files: &R, path: &str) -> Option<u64> {
     let found = fs::metadata(files, path).ok()?;
     Some(found.len()).filter(|_| found.is_file())
 }
@@ -292,8 +313,9 @@ pub(crate) fn tell_end<R: Files + AllocGlobal + Eprint, E>(
         report.fault.as_ref(),
         again,
     );
-    let (alloc, units) = (rt.alloc(), done.left.units);
-    if let Ok(text) = advice(alloc, found_of(told), cycle_of(alloc, units), filed, asked) {
+    let units = read_units(rt.alloc(), done.left.units).ok();
+    let cycle = units.as_ref().map(|units| Cycle::of(units));
+    if let Ok(text) = advice(rt.alloc(), found_of(told), cycle, filed, asked) {
         let _ = rt.eprint(text.as_str());
     }
 }
@@ -319,7 +341,9 @@ pub(crate) fn tell_line<R: Files + AllocGlobal + Eprint>(
             );
             match line {
                 Line::Cost { .. } | Line::Frames { .. } | Line::Play { .. } => {
-                    tell_given(rt, told, done.left.units);
+                    if let Some(plan) = told.plan() {
+                        tell_given(rt, line, plan, done.left.units);
+                    }
                 }
                 Line::Plan { .. } | Line::Resume { .. } => {
                     tell_cheaper(rt, told, done.left.units);

@@ -3,7 +3,7 @@
 ghost use Rattle.std.specs.Prelude.{◌≡◌};
 ghost use Rattle.ec_cli_command.specs.Words.{JobFits, job_of};
 
-use crate::ending::tell_unfit;
+use crate::ending::tell_given;
 use crate::output::{Output, refuse_line, refuse_text, tell_untold};
 use crate::progress::{Progress, Telling};
 use crate::refusal::tell_refusal;
@@ -11,14 +11,14 @@ use crate::targets::Target;
 use crate::telling::{tell, tell_fault, tell_whole};
 use crate::units::Kept;
 use ec_cli_answers::Told;
-use ec_cli_explain::{Cycle, misread};
+use ec_cli_explain::misread;
 use ec_cli_files::{FileFault, write_whole};
 use ec_cli_refusals::Refusal;
 use ec_cli_run::do_line;
 use ec_cli_words::Words;
 use ec_fmmu::layout;
 use ec_frame_text::stations_of;
-use ec_loads::{Plan, busiest, is_legal};
+use ec_loads::{Plan, is_legal};
 use ec_outcome::PlayFault;
 use ec_play_trial::{trial_capture, trial_text, try_plan};
 use ec_unit_text::{UnitFault, read_units};
@@ -54,9 +54,7 @@ struct Played {
     text: String,
     /// The capture file, if one is to be written.
     capture: Option<Vec<u8>>,
-    /// What is known of its line, and what the busiest tick of its plan costs, in wire bytes.
-    cycle: Cycle,
-    cost: u64,
+    plan: Plan,
 }
 
 /// Whether a play is told or written otherwise than by its job.
@@ -93,15 +91,15 @@ fn try_words(
     alloc: Global,
     words: &Words,
     units: &Units,
-    plan: &Plan,
+    plan: Plan,
     lines: String,
 ) -> Result<Played, TrialFault> {
     let lost = words.trial.lost.as_slice();
     know_stations(alloc, units, lost)?;
-    let Ok(()) = is_legal(units, plan) else {
+    let Ok(()) = is_legal(units, &plan) else {
         return Err(TrialFault::from(AllocError));
     };
-    let mapping = layout(alloc, units, plan)?;
+    let mapping = layout(alloc, units, &plan)?;
     let trial = try_plan(alloc, units, &mapping, lost)?;
     let text = if lost.is_empty() {
         lines
@@ -115,8 +113,7 @@ fn try_words(
     Ok(Played {
         text,
         capture,
-        cycle: Cycle::of(units),
-        cost: busiest(units, plan).0,
+        plan,
     })
 }
 
@@ -132,7 +129,7 @@ fn try_told(
     let (Ok(units), Some(plan)) = (read_units(alloc, units), plan) else {
         return Err(TrialFault::from(AllocError));
     };
-    try_words(alloc, words, &units, &plan, answer.text)
+    try_words(alloc, words, &units, plan, answer.text)
 }
 
 /// The refusal of a capture file that isn't at its path.
@@ -210,7 +207,7 @@ pub(crate) fn do_trial<
         Ok(played) => {
             let code = write_played(rt, target, &played);
             tell(rt, misread(rt.alloc(), units.left().units));
-            tell_unfit(rt, played.cycle, played.cost);
+            tell_given(rt, line, &played.plan, units.left().units);
             code
         }
         Err(TrialFault::Station(text)) => {

@@ -94,14 +94,6 @@ fn found_of(head: &str) -> Found {
     }
 }
 
-/// What is known of the line of these units.
-fn cycle_of(alloc: Global, units: &[u8]) -> Option<Cycle> {
-    match read_units(alloc, units) {
-        Ok(units) => Some(Cycle::of(&units)),
-        Err(_) => None,
-    }
-}
-
 /// What a search was asked for.
 fn asked_of(head: &str) -> Asked {
     if part(head, "most").is_some() {
@@ -124,13 +116,9 @@ pub(crate) fn answer_to<'x>(
     cert: Option<&'x [u8]>,
 ) -> Result<String, AllocError> {
     if !head.starts_with("refused ") {
-        return advice(
-            alloc,
-            found_of(head),
-            cycle_of(alloc, units),
-            filed_of(head),
-            asked_of(head),
-        );
+        let units = read_units(alloc, units).ok();
+        let cycle = units.as_ref().map(|units| Cycle::of(units));
+        return advice(alloc, found_of(head), cycle, filed_of(head), asked_of(head));
     }
     let Some(refusal) = refusal_of(head.lines().next().unwrap_or("")) else {
         return String::from_str(alloc, "no line of a refusal\n");

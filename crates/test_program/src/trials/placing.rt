@@ -135,7 +135,15 @@ slots = 1
 name = \"a\"
 period = 3
 slave = [{station = 1, out_bytes = 4, in_bytes = 0}]
-^Form~0 0^tick_ns^NotUnits~0 0^^NotUnits";
+^tick_ns = 1000
+slots = 1
+[[\"unit\"]]
+name = \"a\"
+period = 3
+phase = 0
+slot = 0
+slave = [{station = 1, out_bytes = 4, in_bytes = 0}]
+~0 0^tick_ns^NotUnits~0 0^^NotUnits";
 
 /// The places of a row.
 fn places_of(alloc: Global, text: &str) -> Result<Vec<Place>, AllocError> {
