@@ -1,5 +1,5 @@
 -- What ties the value of a guide: the value that it began with, one that was published, and the costs of legal plans.
-use Rattle.std.proofs.Common.{◌≡◌, ℕ, ◌⊎◌, inl, inr, ◌≤◌, List, Option, Some, None, sym, subst, arith, ◌∙◌}
+use Rattle.std.proofs.Common.{◌≡◌, refl, ℕ, ◌⊎◌, inl, inr, ◌≤◌, List, Option, Some, None, sym, subst, arith, ◌∙◌}
 use Rattle.ec_units.specs.declared.slave.Place.{Place}
 use Rattle.ec_units.specs.declared.unit.Load.{Load}
 use Rattle.ec_loads.specs.Cost.{plan_items, IsBusiest}
@@ -10,9 +10,10 @@ use Rattle.ec_loads.specs.Shape.{Shape}
 use Rattle.ec_cert.specs.declared.cert.Best.{Best}
 use Rattle.ec_cert.specs.declared.part.Part.{Part}
 use Rattle.ec_cert.specs.IsBestPlan.{value_of, IsBestPlan}
-use Rattle.ec_book_shared.specs.Seats.{HasBook}
+use Rattle.ec_book.specs.declared.step.Step.TheVariants.{Better}
+use Rattle.ec_book_shared.specs.Seats.{SeatView, HasBook, noted}
 use Rattle.ec_search_queues.specs.Lowest.{IsAtMost as IsNotAbove}
-use Rattle.ec_search_threads.specs.Turns.{IsTied}
+use Rattle.ec_search_threads.specs.Turns.{IsSeatValue, IsTied}
 
 -- a bound of all legal plans is at most what each of them costs
 pub least-at : (loads : List Load) (n x : ℕ) (plan : List Place) (c : ℕ) → BoundsAll loads n (Some x) → IsLegal loads n plan → IsBusiest (plan_items loads plan) n c → x ≤ c
@@ -50,14 +51,15 @@ tied_read loads n first old new value read next tied known falls (inl same) x v 
 tied_read loads n first old new value read next tied known falls (inr same) x v h k bounds is =
     at x v read (sym same ∙ is) (subst (IsAtMost (Some x)) known k)
 
--- the cost of a legal plan
-pub tied_plan : (loads : List Load) (n : ℕ) (first published value : Option ℕ) (plan : List Place) (c : ℕ) → IsLegal loads n plan → IsBusiest (plan_items loads plan) n c → value ≡ Some c → IsTied loads n first published value
-tied_plan loads n first published value plan c legal busiest same x v h k bounds is =
-    at x v value is (subst (IsAtMost (Some x)) (sym same) (least-at loads n x plan c bounds legal busiest))
-
 -- the value of a book
-pub tied_book : (loads : List Load) (n : ℕ) (order : List ℕ) (rules : Rules) (given : Shape) (value : Option ℕ) (nodes : ℕ) (part : Part) (first published now : Option ℕ) →
-    HasBook loads n order rules given value nodes part (λ b. value_of b.best ≡ now) → IsTied loads n first published now
-tied_book loads n order rules given value nodes part first published now found x v h k bounds is =
-    at x v now is (subst (IsAtMost (Some x)) found.has
-    (at_most-best found.book.loads found.book.slots x found.book.best (subst (λ l. BoundsAll l found.book.slots (Some x)) (sym found.for.loads_is) (subst (λ s. BoundsAll loads s (Some x)) (sym found.for.slots_is) bounds)) found.best))
+pub book_least : (loads : List Load) (n : ℕ) (order : List ℕ) (rules : Rules) (given : Shape) (value : Option ℕ) (nodes : ℕ) (part : Part) (v : ℕ) →
+    HasBook loads n order rules given value nodes part (λ b. value_of b.best ≡ Some v) → (x : ℕ) → BoundsAll loads n (Some x) → x ≤ v
+book_least loads n order rules given value nodes part v found x bounds =
+    at x v (value_of found.book.best) found.has
+    (at_most-best found.book.loads found.book.slots x found.book.best (subst (λ l. BoundsAll l found.book.slots (Some x)) (sym found.for.loads_is) (subst (λ s. BoundsAll loads s (Some x)) (sym found.for.slots_is) bounds)) found.best)
+
+-- the value of a better plan that was the last step
+pub noted_value : (loads : List Load) (n : ℕ) (order : List ℕ) (rules : Rules) (given : Shape) (value : Option ℕ) (nodes : ℕ) (part : Part) (seat new : SeatView) (x : ℕ) →
+    new ≡ noted seat (Better seat.worker x) → IsSeatValue loads n order rules given value nodes part new (Some x)
+noted_value loads n order rules given value nodes part seat new x is =
+    subst (λ s. IsSeatValue loads n order rules given value nodes part s (Some x)) (sym is) (inr (seat.receipts, x, refl, refl))

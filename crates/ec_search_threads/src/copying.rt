@@ -18,7 +18,7 @@ pub fn copy_of(alloc: Global, plan: &Plan) -> Result<Plan, AllocError>
 }
 
 /// Whether a tree splits or closes a node.
-pub fn has_nodes(tree: &Tree) -> bool
+pub(crate) fn has_nodes(tree: &Tree) -> bool
     ensures { IsTrue result ↔ (0 < node_count (shape_of tree.now)) }
 {
     match tree {

@@ -1,8 +1,11 @@
-//! Several workers on one book under a lock, each in a thread of its own.
+//! Workers on a book: one alone, or several on a book under a lock, each in a thread of its own.
 #![tactic(auto)]
 
+mod alone;
 mod copying;
 mod crew;
+mod crew_desk;
+mod desk;
 mod ended;
 mod first;
 mod gate;
@@ -16,9 +19,9 @@ mod turn;
 mod watch;
 mod work;
 
-pub use copying::{copy_of, has_nodes};
+pub use alone::work_alone;
+pub use copying::copy_of;
 pub use crew::{CrewFault, Crewed, search_by_crew};
 pub use ended::Ended;
 pub use first::opening_plan;
 pub use gate::{Gate, Quiet};
-pub use turn::Turn;

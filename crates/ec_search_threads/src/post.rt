@@ -1,13 +1,9 @@
 //! A seat of the search that a shared book is for.
 
-ghost use Rattle.std.specs.Prelude.{◌≡◌, ◌≢◌, ◌⊎◌, ℕ, ◌≤◌, false, true, Some, IfOk, IfErr, IfSome, length};
+ghost use Rattle.std.specs.Prelude.{◌≡◌, ◌≢◌, ◌≤◌, IfOk, IfErr, IfSome, length};
 ghost use Rattle.ec_units.specs.Load.{loads_of};
 ghost use Rattle.ec_symmetry.specs.Orders.{IsOrder};
-ghost use Rattle.ec_cert.specs.IsBestPlan.{value_of};
-ghost use Rattle.ec_book.specs.Faults.{IsPlanOf};
-ghost use Rattle.ec_book.specs.declared.step.Step.TheVariants.{Better};
-ghost use Rattle.ec_book_shared.specs.Receipts.{holds};
-ghost use Rattle.ec_book_shared.specs.Seats.{IsOf, HasSeatBook, noted};
+ghost use Rattle.ec_book_shared.specs.Seats.{IsOf};
 ghost use Rattle.ec_search_queues.specs.Lowest.{IsAtMost, IsLowered};
 ghost use Rattle.ec_search_threads.specs.Turns.{IsStart};
 ghost use Rattle.ec_search_threads.specs.declared.ended.Ended.TheVariants.{Done};
@@ -17,7 +13,7 @@ use crate::pieces::{opened, published};
 use crossbeam_utils::sync::EventCount;
 use ec_book::{BookFault, Taken};
 use ec_book_shared::{Search, Seat, Shared};
-use ec_cert::{Best, MOST_BUSIEST};
+use ec_cert::MOST_BUSIEST;
 use ec_loads::Plan;
 use ec_search_queues::{Bound, Reader, Tickets};
 use ec_units::Units;
@@ -158,7 +154,7 @@ impl<'u, 'o, 'b, S: Search> Post<'u, 'o, 'b, S> {
     }
 
     /// Publishes the value of the worker's last step, if it is a better plan.
-    fn publish(&mut self)
+    pub(crate) fn publish(&mut self)
         ensures same { self.new.seat ≡ self.old.seat }
         ensures falls { IsAtMost self.new.reader.known self.old.reader.known }
     {
@@ -183,40 +179,5 @@ impl<'u, 'o, 'b, S: Search> Post<'u, 'o, 'b, S> {
             Err((BookFault::OutOfMemory, _)) => Some(Ended::Memory),
             Err(_) => Some(Ended::Refused),
         }
-    }
-
-    /// Offers a legal plan with what its busiest tick costs, which is published where the plan is better; gives the value from then on,
-    /// which is that cost where the book took the plan, else the book's.
-    pub(crate) fn improve<R: Wait>(
-        &mut self,
-        rt: &R,
-        shared: &Shared<S>,
-        best: Best,
-    ) -> Result<u64, Ended>
-        requires plan { IsPlanOf S.loads S.slots best.plan.places best.busiest }
-        ensures value { IfOk result (λ v. v ≤ best.busiest) }
-        ensures falls { IsAtMost self.new.reader.known self.old.reader.known }
-        ensures known { IfOk result (λ v. ((v ≡ best.busiest) × (self.new.seat ≡ noted self.old.seat (Better self.old.seat.worker v)))
-            ⊎ (HasSeatBook self.old.seat S.rules S.given S.given_value S.nodes S.part (λ b. value_of b.best ≡ Some v) × (self.new.seat ≡ self.old.seat))) }
-        ensures ended { IfErr result (λ e. e ≢ Done) }
-    {
-        let busiest = best.busiest;
-        match shared.improve(rt, &mut self.seat, best) {
-            Ok(()) => {
-                self.publish();
-                Ok(busiest)
-            }
-            Err((BookFault::NotBetter(value), _)) => Ok(value),
-            Err((BookFault::OutOfMemory, _)) => Err(Ended::Memory),
-            Err(_) => Err(Ended::Refused),
-        }
-    }
-
-    /// Gives a piece back; false where the book or the receipts don't have it as the worker's.
-    #[tactic(auto, using(crate::proofs::Leaving::back_leaves))]
-    pub(crate) fn give_back<R: Wait>(&mut self, rt: &R, shared: &Shared<S>, piece: u64) -> bool
-        ensures { result ≡ true → holds self.new.seat.receipts piece ≡ false }
-    {
-        shared.back(rt, &mut self.seat, piece).is_ok()
     }
 }

@@ -9,7 +9,7 @@ use crate::gate::Quiet;
 use crate::ground::{OwnGround, ground_of};
 use crate::pieces::{opened, shared_out};
 use crate::post::Post;
-use crate::work::worked_off;
+use crate::work::crew_worked_off;
 use ec_book::Taken;
 use ec_book_shared::{Search, Shared};
 use ec_cert::Part;
@@ -52,7 +52,7 @@ fn split_up<S: Search, R: Wait>(
     alloc: Global,
     shared: &Shared<S>,
     post: &mut Post<'_, '_, '_, S>,
-    ground: &mut OwnGround<S>,
+    ground: &mut OwnGround<'_, S>,
     pieces: usize,
     workers: usize,
 ) -> Option<Ended> {
@@ -66,7 +66,7 @@ fn split_up<S: Search, R: Wait>(
             Ok(_) => return None,
             Err(ended) => return Some(ended),
         };
-        if let Some(ended) = worked_off(rt, alloc, shared, post, ground, &took, &Quiet) {
+        if let Some(ended) = crew_worked_off(rt, alloc, shared, post, ground, &took, &Quiet) {
             return Some(ended);
         }
         let (first, end) = opened(post.seat.receipts());
@@ -97,7 +97,7 @@ pub(crate) fn seed<S: Search, R: Wait>(
             return Some(ended);
         }
     }
-    let Ok(mut ground) = ground_of(alloc, post) else {
+    let Ok(mut ground) = ground_of::<S>(alloc, post.units(), post.order()) else {
         return Some(Ended::Memory);
     };
     let free = shared_out(opening.part, opening.pieces as u64);

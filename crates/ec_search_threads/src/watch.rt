@@ -1,38 +1,37 @@
-//! The guide of a worker beside others.
+//! The guide of a worker.
 
 ghost use Rattle.std.specs.Option.{is_some};
 ghost use Rattle.ec_search_threads.specs.Turns.{IsTied};
 
 use crate::copying::copy_of;
+use crate::desk::Desk;
 use crate::ended::Ended;
 use crate::gate::Gate;
-use crate::post::Post;
-use ec_book_shared::{Search, Shared};
+use ec_book_shared::Search;
 use ec_branch::{Guide, lesser};
 use ec_cert::Best;
 use ec_loads::Plan;
 use std::alloc::Global;
-use std::sync::Wait;
+use std::marker::PhantomData;
 
 /// What a worker watches while it explores a piece: the value that it began with, in wire bytes; the value, at first that one and
 /// then that of the last plan that it was told, or that of the book or the published one where these were lower; whether it looks
 /// at the published one; and why it is to stop, if it is.
 #[derive(Drop)]
-pub(crate) struct CrewWatch<'a, 'u, 'o, 'b, S: Search, R: Wait, G: Gate> {
+pub(crate) struct Watch<'a, S: Search, D: Desk<S>, G: Gate> {
     pub alloc: Global,
-    pub rt: &'a R,
-    pub shared: &'a Shared<S>,
-    pub post: &'a mut Post<'u, 'o, 'b, S>,
+    pub desk: &'a mut D,
     pub gate: &'a G,
+    pub search: PhantomData<S>,
     pub piece: u64,
     pub first: Option<u64>,
     pub value: Option<u64>,
     pub reads: bool,
     pub stop: Option<Ended>,
-    pub ghost tied: { IsTied S.loads S.slots first post.now.reader.known value },
+    pub ghost tied: { IsTied S.loads S.slots first (D.known desk.now) value },
 }
 
-impl<'a, 'u, 'o, 'b, S: Search, R: Wait, G: Gate> Guide for CrewWatch<'a, 'u, 'o, 'b, S, R, G> {
+impl<'a, S: Search, D: Desk<S>, G: Gate> Guide for Watch<'a, S, D, G> {
     ghost frame = { λ _. record { loads = S.loads; slots = S.slots; floor = 0 } };
 
     ghost halted = { λ s. is_some s.stop };
@@ -40,9 +39,9 @@ impl<'a, 'u, 'o, 'b, S: Search, R: Wait, G: Gate> Guide for CrewWatch<'a, 'u, 'o
     ghost known = { λ s. s.value };
 
     fn bound(&mut self) -> Option<u64> {
-        self.gate.before(self.post.worker(), self.piece, self.value);
+        self.gate.before(self.desk.worker(), self.piece, self.value);
         if self.reads {
-            self.value = lesser(self.value, self.post.read());
+            self.value = lesser(self.value, self.desk.read());
         }
         self.value
     }
@@ -56,7 +55,7 @@ impl<'a, 'u, 'o, 'b, S: Search, R: Wait, G: Gate> Guide for CrewWatch<'a, 'u, 'o
             busiest: cost,
             plan,
         };
-        match self.post.improve(self.rt, self.shared, best) {
+        match self.desk.improve(best) {
             Ok(value) => {
                 self.value = Some(value);
                 self.stop = None;

@@ -4,13 +4,14 @@ ghost use Rattle.std.specs.Prelude.{◌≡◌, ◌≤◌};
 ghost use Rattle.ec_loads.specs.Line.{line_by};
 ghost use Rattle.ec_symmetry.specs.Orders.{IsReachedPrefix};
 
+use crate::crew_desk::CrewDesk;
 use crate::ended::Ended;
 use crate::gate::Gate;
 use crate::ground::{OwnGround, ground_of};
 use crate::pace::Pace;
 use crate::pieces::spent;
 use crate::post::Post;
-use crate::turn::{Turn, take_turn};
+use crate::turn::worked_off;
 use ec_book::{Taken, Took};
 use ec_book_shared::{Search, Shared};
 use std::alloc::Global;
@@ -26,33 +27,21 @@ fn room_for_trees(alloc: Global) -> Option<Vec<u8>> {
     Vec::with_capacity(alloc, TREE_BYTES).ok()
 }
 
-/// Explores a piece until its subtree is reported; else why the worker ends. Once a subtree was refused as ahead of the
-/// book, the piece is explored at the book's value, whatever is published.
-pub(crate) fn worked_off<S: Search, R: Wait, G: Gate>(
-    rt: &R,
+/// Explores a piece from a seat at the shared book until its subtree is reported; else why the worker ends.
+pub(crate) fn crew_worked_off<'a, S: Search, R: Wait, G: Gate>(
+    rt: &'a R,
     alloc: Global,
-    shared: &Shared<S>,
-    post: &mut Post<'_, '_, '_, S>,
-    ground: &mut OwnGround<S>,
+    shared: &'a Shared<S>,
+    post: &'a mut Post<'_, '_, '_, S>,
+    ground: &mut OwnGround<'_, S>,
     took: &Took,
     gate: &G,
 ) -> Option<Ended>
     requires reached { IsReachedPrefix (line_by S.rules S.loads S.slots) S.order took.now.prefix }
     requires some { 1 ≤ took.now.grant }
 {
-    let mut value = took.value;
-    let mut reads = true;
-    for _ in rt.forever() {
-        match take_turn(rt, alloc, shared, post, ground, took, value, reads, gate) {
-            Turn::Reported => return None,
-            Turn::Again(now) => {
-                value = now;
-                reads = false;
-            }
-            Turn::Stopped(ended) => return Some(ended),
-        }
-    }
-    unreachable!()
+    let mut desk = CrewDesk { rt, shared, post };
+    worked_off(rt, alloc, &mut desk, ground, took, gate)
 }
 
 /// Takes a piece and explores it, by the tickets before the lowest free one, makes tickets of the pieces of the reports on it,
@@ -64,7 +53,7 @@ fn worked<S: Search, R: Wait, G: Gate>(
     alloc: Global,
     shared: &Shared<S>,
     post: &mut Post<'_, '_, '_, S>,
-    ground: &mut OwnGround<S>,
+    ground: &mut OwnGround<'_, S>,
     pace: &mut Pace,
     gate: &G,
 ) -> Option<Ended> {
@@ -77,7 +66,7 @@ fn worked<S: Search, R: Wait, G: Gate>(
             drop(announced);
             pace.go_on();
             drop(room_for_trees(alloc));
-            let ended = worked_off(rt, alloc, shared, post, ground, &took, gate);
+            let ended = crew_worked_off(rt, alloc, shared, post, ground, &took, gate);
             drop(took);
             pace.grow(spent(post.seat.receipts()));
             post.push_opened();
@@ -104,7 +93,7 @@ pub(crate) fn work<S: Search, R: Wait, G: Gate>(
     post: &mut Post<'_, '_, '_, S>,
     gate: &G,
 ) -> Ended {
-    let Ok(mut ground) = ground_of(alloc, post) else {
+    let Ok(mut ground) = ground_of::<S>(alloc, post.units(), post.order()) else {
         return Ended::Memory;
     };
     let mut pace = Pace::new();

@@ -1,7 +1,6 @@
 //! The planner: a plan whose busiest tick is least, with a certificate.
 #![tactic(auto)]
 
-mod alone;
 mod begin;
 mod certify;
 mod crewed;
@@ -9,9 +8,7 @@ mod planning;
 mod resuming;
 mod room;
 mod solving;
-mod turn;
 mod unfinished;
-mod watch;
 
 pub use begin::rules_by;
 pub use certify::lines_of;

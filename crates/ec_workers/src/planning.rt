@@ -18,48 +18,55 @@ ghost use Rattle.ec_outcome.specs.declared.search.Cut.{Cut};
 ghost use Rattle.ec_outcome.specs.declared.search.Cut.TheVariants.{Budget, Journal, Memory, Parts, Time};
 ghost use Rattle.ec_outcome.specs.declared.search.SolveFault.TheVariants.{OutOfMemory};
 
-use crate::alone::work;
 use crate::begin::{is_strong, order_by, rules_by};
 use crate::certify::certificate;
 use crate::room::{Room, copied};
-use crate::turn::offer;
-use ec_book::{Book, Finished};
+use ec_book::{Book, BookFault, Finished};
 use ec_cert::{Best, Cert, Order, Part, Tree};
 use ec_checker::law_faults_refute;
 use ec_outcome::{Cut, Outcome, SolveFault};
-use ec_search_threads::{Ended, Gate, opening_plan};
+use ec_search_threads::{Ended, Gate, opening_plan, work_alone};
 use ec_tree::law_trees_bound;
 use ec_units::Units;
 use std::alloc::Global;
 use std::sync::Wait;
 
+/// The number of the only worker.
+const ALONE: usize = 0;
+
 /// Offers the first plan, if there is one; false where memory was refused.
 fn offered_first(alloc: Global, units: &Units, book: &mut Book) -> bool
     ensures { IsSameSearch book.old book.new }
 {
-    match opening_plan(alloc, units, book.rules()) {
-        Ok(plan) => offer(book, plan),
-        Err(_) => false,
+    let plan = match opening_plan(alloc, units, book.rules()) {
+        Ok(Some(plan)) => plan,
+        Ok(None) => return true,
+        Err(_) => return false,
+    };
+    match book.better(ALONE, plan) {
+        Ok(()) => true,
+        Err((fault, _)) => fault != BookFault::OutOfMemory,
     }
 }
 
-/// Offers the first plan, and then works on the pieces of the book; says why that ended.
+/// Offers the first plan, and then works on the pieces of the book; also says why that ended.
 fn searched<R: Wait, G: Gate>(
     rt: &R,
     alloc: Global,
     units: &Units,
     order: &[u8],
-    book: &mut Book,
+    book: Book,
     gate: &G,
-) -> Ended
+) -> (Book, Ended)
     requires order { IsOrder (length units.now.units) order.now }
-    requires book { IsBookOf units.now.units units.now.slots order.now book.old.rules book.old }
-    ensures same { IsSameSearch book.old book.new }
+    requires book { IsBookOf units.now.units units.now.slots order.now book.rules book }
+    ensures same { IsSameSearch book result.0 }
 {
-    if !offered_first(alloc, units, book) {
-        return Ended::Memory;
+    let mut book = book;
+    if !offered_first(alloc, units, &mut book) {
+        return (book, Ended::Memory);
     }
-    work(rt, alloc, units, order, book, gate)
+    work_alone(rt, alloc, units, order, book, gate)
 }
 
 /// Why a search that left a leaf open ended: all nodes are spent, else its part of several is done, else the time was over,
@@ -180,8 +187,8 @@ pub(crate) fn solve_alone<R: Wait, G: Gate>(
     let room = Room::new(alloc, units)?;
     let order = order_by(alloc, units, strong)?;
     let rules = rules_by(strong);
-    let mut book = Book::new(alloc, units, order.as_slice(), rules, u64::from(nodes))?;
-    let why = searched(rt, alloc, units, order.as_slice(), &mut book, gate);
+    let book = Book::new(alloc, units, order.as_slice(), rules, u64::from(nodes))?;
+    let (book, why) = searched(rt, alloc, units, order.as_slice(), book, gate);
     let order = Order::new(order);
     Ok(ended(units, room, order, book, nodes, strong, why))
 }
@@ -209,8 +216,8 @@ pub(crate) fn resume_alone<R: Wait, G: Gate>(
     let room = Room::new(alloc, units)?;
     let order = Vec::from_slice(alloc, cert.order.as_slice())?;
     let strong = is_strong(&cert);
-    let mut book = Book::resume(alloc, units, cert, rules_by(strong), part, u64::from(nodes))?;
-    let why = work(rt, alloc, units, order.as_slice(), &mut book, gate);
+    let book = Book::resume(alloc, units, cert, rules_by(strong), part, u64::from(nodes))?;
+    let (book, why) = work_alone(rt, alloc, units, order.as_slice(), book, gate);
     let order = Order::new(order);
     Ok(ended(units, room, order, book, nodes, strong, why))
 }

@@ -1,4 +1,4 @@
-use Rattle.ec_search_threads.proofs.work.worked_off.Given as goal
+use Rattle.ec_search_threads.proofs.alone.work.Given as goal
 
 abbrev pub invariant-loop : goal.invariant-loop
 invariant-loop g l = (goal.iterator-loop g).can_next l.iterator' × (goal.iterator-loop g).is_finite l.iterator'
