@@ -128,9 +128,12 @@ fn work<S: Search, R: Wait, G: Gate>(
             Ok(took) => took,
             Err(ended) => return ended,
         };
+        let before = desk.book.spent();
         if let Some(ended) = worked_off(rt, alloc, desk, &mut ground, &took, gate) {
             return ended;
         }
+        let nodes = desk.book.spent().saturating_sub(before);
+        gate.after(ALONE, nodes, desk.book.value());
     }
     unreachable!()
 }

@@ -68,9 +68,11 @@ fn worked<S: Search, R: Wait, G: Gate>(
             drop(room_for_trees(alloc));
             let ended = crew_worked_off(rt, alloc, shared, post, ground, &took, gate);
             drop(took);
-            pace.grow(spent(post.seat.receipts()));
+            let nodes = spent(post.seat.receipts());
+            pace.grow(nodes);
             post.push_opened();
             post.bell.notify_all();
+            gate.after(post.worker(), nodes, post.read());
             ended
         }
         Ok(Some(Taken::Later)) => {

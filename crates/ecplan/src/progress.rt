@@ -8,9 +8,6 @@ use std::rt::Clock;
 use std::sync::atomic::{AtomicU64, Ordering};
 use std::time::Instant;
 
-/// How many nodes a worker visits between two looks at the clock.
-const EVERY: u64 = 4096;
-
 /// The most workers of a search.
 const MOST_WORKERS: usize = 16;
 
@@ -75,7 +72,7 @@ pub(crate) struct Progress<'a, H> {
     began: Option<Instant>,
     /// The milliseconds at which the search asked for the time first: what it reads may take long to come.
     asked_at: AtomicU64,
-    /// How many nodes each worker has visited.
+    /// How many nodes of its pieces each worker has visited.
     counts: Vec<CachePadded<AtomicU64>>,
     /// The milliseconds at which the last line was told.
     told_at: AtomicU64,
@@ -179,12 +176,12 @@ impl<'a, H: AllocGlobal + Eprint + Clock> Progress<'a, H> {
 }
 
 impl<'a, H: AllocGlobal + Eprint + Clock> Gate for Progress<'a, H> {
-    fn before(&self, worker: usize, _piece: u64, value: Option<u64>) {
-        let Some(count) = self.counts.as_slice().get(worker) else {
-            return;
-        };
-        let before = count.fetch_add(1, Ordering::SeqCst);
-        if before % EVERY == EVERY - 1 {
+    fn before(&self, _worker: usize, _piece: u64, _value: Option<u64>) {}
+
+    /// A piece has few thousand nodes, so a line comes in time.
+    fn after(&self, worker: usize, nodes: u64, value: Option<u64>) {
+        if let Some(count) = self.counts.as_slice().get(worker) {
+            count.fetch_add(nodes, Ordering::SeqCst);
             self.look(value);
         }
     }

@@ -15,11 +15,13 @@ use std::sync::Wait;
 use std::sync::atomic::{AtomicBool, AtomicU64, Ordering};
 use std::thread::Threads;
 
-/// A gate that counts the calls of all workers, and apart those that aren't of worker 0 and piece 0.
+/// A gate that counts the calls of all workers before a node, apart those that aren't of worker 0 and piece 0, and the nodes that are told
+/// after the pieces.
 #[derive(Drop)]
 pub(crate) struct Told {
     pub calls: AtomicU64,
     pub others: AtomicU64,
+    pub nodes: AtomicU64,
 }
 
 impl Told {
@@ -27,6 +29,17 @@ impl Told {
         Told {
             calls: AtomicU64::new(0),
             others: AtomicU64::new(0),
+            nodes: AtomicU64::new(0),
+        }
+    }
+}
+
+impl Told {
+    /// Adds how many nodes were told after the pieces, where these aren't those before which it was told.
+    pub(crate) fn add_nodes(&self, out: &mut Draft) {
+        let nodes = self.nodes.load(Ordering::SeqCst);
+        if nodes != self.calls.load(Ordering::SeqCst) {
+            out.add(format_args!(" after {nodes}"));
         }
     }
 }
@@ -37,6 +50,10 @@ impl Gate for Told {
         if worker != 0 || piece != 0 {
             self.others.fetch_add(1, Ordering::SeqCst);
         }
+    }
+
+    fn after(&self, _worker: usize, nodes: u64, _value: Option<u64>) {
+        self.nodes.fetch_add(nodes, Ordering::SeqCst);
     }
 
     fn is_over(&self) -> bool {
@@ -190,6 +207,7 @@ pub(crate) fn crewed(
     search(rt, alloc, units, crew_of(call, 1), &gate, Shown::End, out);
     if call.word(3) == "told" {
         out.add(format_args!(" told {}", gate.calls.load(Ordering::SeqCst)));
+        gate.add_nodes(out);
     }
 }
 

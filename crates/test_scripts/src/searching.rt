@@ -43,6 +43,7 @@ fn solved(
     let calls = gate.calls.load(Ordering::SeqCst);
     let others = gate.others.load(Ordering::SeqCst);
     out.add(format_args!(" told {calls} {others}"));
+    gate.add_nodes(out);
 }
 
 /// Adds the certificate that a search writes, or what the checker answers of it.
