@@ -1,8 +1,9 @@
 /* A master for a plan of ecplan: it names the slaves, sends the frames of each tick in time, and checks what comes back.
  *
  *     master --print               writes the FMMU records and the frames, as `ecplan frames` does
- *     master INTERFACE TICKS [MS]  sends so many ticks; waits for the frames of a tick until the next one, or so many ms
- *     master --no-start ..         the same without the start frames, where something else wrote stations and FMMU records
+ *     master INTERFACE TICKS [MS]  sends the start frames, and so many ticks; waits for the frames of a tick until the next one, or
+ *                                  so many ms; with 0 ticks it sends the start frames alone
+ *     master --no-start ..         the same without the start frames, which were sent, or of which something else does the work
  *
  * SIGINT and SIGTERM end it. plan.h is what `ecplan frames --header plan.h` writes. The status is 0 where all came back right, 1 where
  * something did not, and 2 where it can't begin or can't write what it tells. */
@@ -20,6 +21,10 @@
 #include <sys/socket.h>
 #include <time.h>
 #include <unistd.h>
+
+#if ECPLAN_TICK_NS < ECPLAN_BUSIEST_NS
+#error "the plan does not fit: the frames of its busiest tick take longer than a tick"
+#endif
 
 enum { ETHERCAT = 0x88A4, FPWR = 5, LRW = 12, AHEAD = 16, HEAD = 10, TAIL = 2, LEAST = 60, MOST = 1514, START_MS = 1000, STOP_MS = 100 };
 static const uint8_t ETHERNET[14] = { 0xff, 0xff, 0xff, 0xff, 0xff, 0xff, 2, 0, 0, 0, 0, 1, 0x88, 0xa4 };
@@ -47,15 +52,15 @@ static size_t add_group(uint8_t *frame, size_t at, const struct ecplan_group *gr
     return at + HEAD + group->bytes + TAIL;
 }
 
-/* Makes a frame of the plan. The index of a datagram is its place in the frame, or the number of the frame. Its length. */
-static size_t make(uint8_t *frame, const struct ecplan_frame *plan, int number)
+/* Makes a frame as it is planned. The index of its datagrams is this one and, by steps, those behind it. Its length. */
+static size_t make(uint8_t *frame, const struct ecplan_frame *planned, unsigned index, unsigned step)
 {
     size_t at = AHEAD;
     memset(frame, 0, MOST);
     memcpy(frame, ETHERNET, sizeof ETHERNET);
-    for (unsigned k = 0; k < plan->groups; k++) {
-        const struct ecplan_group *group = &ecplan_groups[ecplan_sent[plan->first + k]];
-        at = add_group(frame, at, group, number < 0 ? k : (unsigned)number, k + 1u == plan->groups);
+    for (unsigned k = 0; k < planned->groups; k++) {
+        const struct ecplan_group *group = &ecplan_groups[ecplan_sent[planned->first + k]];
+        at = add_group(frame, at, group, index + k * step, k + 1u == planned->groups);
     }
     put16(frame + 14, 0x1000u | (unsigned)(at - AHEAD));
     return at < LEAST ? LEAST : at;
@@ -86,9 +91,9 @@ static int print_plan(void)
         }
     for (unsigned tick = 0; tick < ECPLAN_TICKS; tick++)
         for (unsigned k = 0; k < ecplan_ticks[tick].frames; k++) {
-            const struct ecplan_frame *plan = &ecplan_frames[ecplan_ticks[tick].first + k];
-            printf("frame %u %u %u ", tick, plan->slot, plan->wire_bytes);
-            print_hex(frame, make(frame, plan, -1));
+            const struct ecplan_frame *planned = &ecplan_frames[ecplan_ticks[tick].first + k];
+            printf("frame %u %u %u ", tick, planned->slot, planned->wire_bytes);
+            print_hex(frame, make(frame, planned, 0, 1));
         }
     return ended(0);
 }
@@ -110,18 +115,19 @@ static void sleep_until(int64_t ns)
 
 /* Waits for a frame, at most until a time, or a signal that ends the run, where it doesn't end already. Its length; 0 where none came.
    One that is too short or too long for a datagram is no frame of a plan. */
-static size_t receive(int line, uint8_t *frame, int64_t until, int is_ending)
+static size_t receive(int sock, uint8_t *frame, int64_t until, int is_ending)
 {
-    struct pollfd ready = { line, POLLIN, 0 };
+    struct pollfd ready = { sock, POLLIN, 0 };
     for (;;) {
         int64_t left = until - now();
-        struct timespec t = { (time_t)(left / 1000000000), (long)(left % 1000000000) };
-        int found = ppoll(&ready, 1, left < 0 ? &(struct timespec){ 0, 0 } : &t, NULL);
+        int64_t wait = left < 0 ? 0 : left;
+        struct timespec t = { (time_t)(wait / 1000000000), (long)(wait % 1000000000) };
+        int found = ppoll(&ready, 1, &t, NULL);
         if (found < 0 && errno == EINTR && (is_ending || !is_stopped))
             continue;
         if (found < 1)
             return 0;
-        ssize_t got = recv(line, frame, MOST, MSG_TRUNC);
+        ssize_t got = recv(sock, frame, MOST, MSG_TRUNC);
         if (AHEAD + HEAD + TAIL <= got && got <= MOST) /* an error of the socket is no frame either */
             return (size_t)got;
         if (left < 0)
@@ -138,25 +144,25 @@ static int is_answer(const uint8_t *back, const uint8_t *frame)
 }
 
 /* Sends a start frame, and says what is wrong with its answer: 0 nothing, 1 something, 2 where it can't be sent. */
-static int start(int line, unsigned i)
+static int start(int sock, unsigned i)
 {
-    const struct ecplan_start *plan = &ecplan_starts[i];
+    const struct ecplan_start *planned = &ecplan_starts[i];
     uint8_t frame[MOST], back[MOST];
-    memcpy(frame, ecplan_start_bytes + plan->first, plan->bytes);
+    memcpy(frame, ecplan_start_bytes + planned->first, planned->bytes);
     frame[AHEAD + 1] = (uint8_t)i;
     size_t at = AHEAD + HEAD + (get16(frame + AHEAD + 6) & 0x7ff);
     int64_t until = now() + (int64_t)START_MS * 1000000;
-    if (send(line, frame, plan->bytes, 0) < 0)
+    if (send(sock, frame, planned->bytes, 0) < 0)
         return perror("send"), 2;
     for (;;) {
-        size_t got = receive(line, back, until, 0);
+        size_t got = receive(sock, back, until, 0);
         if (got == 0)
             return printf("start %u lost\n", i), 1;
-        if (got != plan->bytes || !is_answer(back, frame))
+        if (got != planned->bytes || !is_answer(back, frame))
             continue;
-        if (get16(back + at) == plan->counter)
+        if (get16(back + at) == planned->counter)
             return 0;
-        return printf("start %u want %u got %u\n", i, plan->counter, get16(back + at)), 1;
+        return printf("start %u want %u got %u\n", i, planned->counter, get16(back + at)), 1;
     }
 }
 
@@ -187,21 +193,21 @@ static void take_inputs(unsigned group, const uint8_t *data)
 static int is_own(const uint8_t *back) { return memcmp(back + 6, ETHERNET + 6, 6) == 0 && back[AHEAD] == LRW; }
 
 /* Checks a frame that came back beside the one that was sent: its lengths and headers, and each counter. */
-static void check(const struct ecplan_frame *plan, const uint8_t *frame, const uint8_t *back, size_t got)
+static void check(const struct ecplan_frame *planned, const uint8_t *frame, const uint8_t *back, size_t got)
 {
     size_t at = AHEAD;
-    int is_same = got == plan->bytes && memcmp(back + 12, frame + 12, 4) == 0;
-    for (unsigned k = 0; is_same && k < plan->groups; k++) {
+    int is_same = got == planned->bytes && memcmp(back + 12, frame + 12, 4) == 0;
+    for (unsigned k = 0; is_same && k < planned->groups; k++) {
         is_same = memcmp(back + at, frame + at, 8) == 0;
-        at += (size_t)HEAD + ecplan_groups[ecplan_sent[plan->first + k]].bytes + TAIL;
+        at += (size_t)HEAD + ecplan_groups[ecplan_sent[planned->first + k]].bytes + TAIL;
     }
     if (!is_same) {
         changed++;
         return;
     }
     at = AHEAD;
-    for (unsigned k = 0; k < plan->groups; k++) {
-        unsigned group = ecplan_sent[plan->first + k];
+    for (unsigned k = 0; k < planned->groups; k++) {
+        unsigned group = ecplan_sent[planned->first + k];
         unsigned counter = get16(back + at + HEAD + ecplan_groups[group].bytes);
         if (counter == ecplan_groups[group].counter)
             take_inputs(group, back + at + HEAD);
@@ -212,10 +218,10 @@ static void check(const struct ecplan_frame *plan, const uint8_t *frame, const u
 }
 
 /* Waits for a frame of the plan, as `receive` does for any. */
-static size_t receive_own(int line, uint8_t *frame, int64_t until, int is_ending)
+static size_t receive_own(int sock, uint8_t *frame, int64_t until, int is_ending)
 {
     for (;;) {
-        size_t got = receive(line, frame, until, is_ending);
+        size_t got = receive(sock, frame, until, is_ending);
         if (got == 0 || is_own(frame))
             return got;
         if (until < now())
@@ -224,14 +230,14 @@ static size_t receive_own(int line, uint8_t *frame, int64_t until, int is_ending
 }
 
 /* Sets the outputs of a frame and sends it. Where it can't be sent, other than for a full queue, the run ends behind this tick. */
-static void send_frame(int line, uint8_t *frame, const struct ecplan_frame *plan, unsigned index, unsigned long tick)
+static void send_frame(int sock, uint8_t *frame, const struct ecplan_frame *planned, unsigned index, unsigned long tick)
 {
-    for (unsigned i = 0; i < plan->groups; i++) {
-        unsigned group = ecplan_sent[plan->first + i];
+    for (unsigned i = 0; i < planned->groups; i++) {
+        unsigned group = ecplan_sent[planned->first + i];
         set_outputs(group, tick);
         is_fresh[group] = 0;
     }
-    if (0 <= send(line, frame, make(frame, plan, (int)index), 0)) {
+    if (0 <= send(sock, frame, make(frame, planned, index, 0), 0)) {
         sent++;
         return;
     }
@@ -240,36 +246,54 @@ static void send_frame(int line, uint8_t *frame, const struct ecplan_frame *plan
         is_stopped = 1;
 }
 
-/* Sends the frames of a tick, and takes what comes back until a time. */
-static void do_tick(int line, unsigned long number, int64_t until)
+/* The frames of a tick as they were sent, the index of the first one, and what has come back of them. */
+struct under_way {
+    const struct ecplan_tick *tick;
+    uint8_t frames[ECPLAN_SLOTS][MOST], has_come[ECPLAN_SLOTS];
+    unsigned first, next;
+    unsigned long due;
+};
+
+/* Sends the frames of a tick. */
+static void send_tick(int sock, unsigned long number, struct under_way *way)
 {
-    static uint8_t frames[ECPLAN_SLOTS][MOST], back[MOST];
-    const struct ecplan_tick *tick = &ecplan_ticks[number % ECPLAN_TICKS];
-    unsigned first = (unsigned)(number * ECPLAN_SLOTS), next = 0;
-    unsigned long due = sent;
-    uint8_t has_come[ECPLAN_SLOTS] = { 0 };
-    for (unsigned k = 0; k < tick->frames; k++)
-        send_frame(line, frames[k], &ecplan_frames[tick->first + k], (first + k) & 0xff, number);
-    due = sent - due;
-    for (int is_last = 0; 0 < due;) {
-        if (is_stopped && !is_last) { /* what is under way comes soon, or not at all */
+    unsigned long before = sent;
+    way->tick = &ecplan_ticks[number % ECPLAN_TICKS];
+    way->first = (unsigned)(number * ECPLAN_SLOTS), way->next = 0;
+    memset(way->has_come, 0, sizeof way->has_come);
+    for (unsigned k = 0; k < way->tick->frames; k++)
+        send_frame(sock, way->frames[k], &ecplan_frames[way->tick->first + k], (way->first + k) & 0xff, number);
+    way->due = sent - before;
+}
+
+/* Takes a frame that came back: one of this tick, which its index tells, or one that is disordered. */
+static void take_frame(struct under_way *way, const uint8_t *back, size_t got)
+{
+    unsigned k = (back[AHEAD + 1] - way->first) & 0xff;
+    int is_of_tick = k < way->tick->frames && !way->has_come[k];
+    disordered += !is_of_tick || k < way->next;
+    if (!is_of_tick)
+        return;
+    check(&ecplan_frames[way->tick->first + k], way->frames[k], back, got);
+    way->has_come[k] = 1, way->next = way->next < k + 1 ? k + 1 : way->next, way->due--;
+}
+
+/* Takes the frames that come back until a time; once the run is to end, what is under way comes soon, or not at all. */
+static void take_tick(int sock, struct under_way *way, int64_t until)
+{
+    static uint8_t back[MOST];
+    for (int is_last = 0; 0 < way->due;) {
+        if (is_stopped && !is_last) {
             int64_t soon = now() + (int64_t)STOP_MS * 1000000;
             is_last = 1, until = soon < until ? soon : until;
         }
-        size_t got = receive_own(line, back, until, is_last);
-        if (got == 0 && is_stopped && !is_last)
-            continue;
-        if (got == 0)
+        size_t got = receive_own(sock, back, until, is_last);
+        if (0 < got)
+            take_frame(way, back, got);
+        else if (!is_stopped || is_last)
             break;
-        unsigned k = (back[AHEAD + 1] - first) & 0xff; /* which frame of this tick it is, by its number */
-        int is_of_tick = k < tick->frames && !has_come[k];
-        disordered += !is_of_tick || k < next;
-        if (!is_of_tick)
-            continue;
-        check(&ecplan_frames[tick->first + k], frames[k], back, got);
-        has_come[k] = 1, next = next < k + 1 ? k + 1 : next, due--;
     }
-    lost += due;
+    lost += way->due;
 }
 
 static int tell(unsigned long ticks)
@@ -292,21 +316,21 @@ static int tell(unsigned long ticks)
     return ended(sent == 0 && 0 < unsent ? 2 : is_right ? 0 : 1);
 }
 
-/* The number that a word is, from 1 on; -1 where it is none, or a greater one than `most`. */
-static int64_t number_in(const char *word, int64_t most)
+/* The number that a word is; -1 where it is none, or one that is below `least` or above `most`. */
+static int64_t number_in(const char *word, int64_t least, int64_t most)
 {
     char *end;
     errno = 0;
     long long number = strtoll(word, &end, 10);
-    return *word < '0' || '9' < *word || *end != 0 || errno != 0 || number < 1 || most < number ? -1 : number;
+    return *word < '0' || '9' < *word || *end != 0 || errno != 0 || number < least || most < number ? -1 : number;
 }
 
 /* Sends the start frames one by one, and says what is wrong with an answer, as `start` does. */
-static int start_all(int line)
+static int start_all(int sock)
 {
     int status = 0;
     for (unsigned i = 0; status == 0 && i < ECPLAN_STARTS; i++)
-        status = start(line, i);
+        status = start(sock, i);
     return status;
 }
 
@@ -322,24 +346,25 @@ int main(int count, char **words)
         return print_plan();
     int is_started = 1 < count && strcmp(words[1], "--no-start") == 0;
     count -= is_started, words += is_started;
-    int64_t ticks = count == 3 || count == 4 ? number_in(words[2], 1000000000) : -1;
-    int64_t ms = count == 4 ? number_in(words[3], 3600000) : 0;
+    int64_t ticks = count == 3 || count == 4 ? number_in(words[2], 0, 1000000000) : -1;
+    int64_t ms = count == 4 ? number_in(words[3], 1, 3600000) : 0;
     if (ticks < 0 || ms < 0)
         return fprintf(stderr, "usage: master --print | master [--no-start] INTERFACE TICKS [MS]\n"), 2;
     int64_t wait = count == 4 ? ms * 1000000 : ECPLAN_TICK_NS / 8 * 7;
-    struct sockaddr_ll place = { .sll_family = AF_PACKET, .sll_protocol = htons(ETHERCAT) };
-    place.sll_ifindex = (int)if_nametoindex(words[1]);
-    if (place.sll_ifindex == 0)
+    struct sockaddr_ll address = { .sll_family = AF_PACKET, .sll_protocol = htons(ETHERCAT) };
+    address.sll_ifindex = (int)if_nametoindex(words[1]);
+    if (address.sll_ifindex == 0)
         return perror(words[1]), 2;
-    int line = socket(AF_PACKET, SOCK_RAW, 0); /* of no protocol, so that it takes nothing before `bind` */
-    if (line < 0 || bind(line, (struct sockaddr *)&place, sizeof place) != 0)
+    int sock = socket(AF_PACKET, SOCK_RAW, 0); /* of no protocol, so that it takes nothing before `bind` */
+    if (sock < 0 || bind(sock, (struct sockaddr *)&address, sizeof address) != 0)
         return perror(words[1]), 2;
     printf("plan %s tick_ns %d\n", ECPLAN_ID, ECPLAN_TICK_NS);
     fflush(stdout);
-    int status = is_started ? 0 : start_all(line);
+    int status = is_started ? 0 : start_all(sock);
     if (status != 0)
         return ended(status);
     signal(SIGINT, stop), signal(SIGTERM, stop);
+    static struct under_way way;
     int64_t begin = now();
     unsigned long number = 0;
     for (; number < (unsigned long)ticks && !is_stopped; number++) {
@@ -351,7 +376,8 @@ int main(int count, char **words)
             late++;
             begin = woke;
         }
-        do_tick(line, number, woke + wait);
+        send_tick(sock, number, &way);
+        take_tick(sock, &way, woke + wait);
         begin += ECPLAN_TICK_NS;
     }
     return tell(number);

@@ -33,6 +33,14 @@ pub(crate) fn add_slaves(text: &mut Draft, seats: &[Seat<'_>]) {
     }
 }
 
+/// Adds a name for the place of each slave, by its station.
+pub(crate) fn add_names(text: &mut Draft, seats: &[Seat<'_>]) {
+    for (place, seat) in seats.iter().enumerate() {
+        let station = seat.station;
+        text.add(format_args!("#define ECPLAN_SLAVE_{station} {place}\n"));
+    }
+}
+
 /// Adds the row of a group.
 fn add_group(text: &mut Draft, group: &Group) {
     let (slot, period, phase) = (group.slot, group.period, group.phase);

@@ -8,16 +8,26 @@ use crate::cells::time_of;
 use crate::identity::identity_of;
 use crate::laid::{Laid, laid_of};
 use crate::tables::{
-    add_frames, add_groups, add_numbers, add_slaves, add_start_bytes, add_starts, add_ticks,
-    start_bytes,
+    add_frames, add_groups, add_names, add_numbers, add_slaves, add_start_bytes, add_starts,
+    add_ticks, start_bytes,
 };
-use crate::types::{END, FRAME, GROUP, HEAD, SENT, SLAVE, START, START_BYTES, TICK};
+use crate::types::{END, FRAME, GROUP, HEAD, NAMES, SENT, SLAVE, START, START_BYTES, TICK, TYPES};
 use ec_fmmu::{FIRST_ADDRESS, Mapping, layout};
 use ec_loads::Plan;
 use ec_player::{Trip, start_trips};
 use ec_text_builder::Draft;
 use ec_units::Units;
 use std::alloc::{AllocError, Global};
+
+/// Adds the guard against a second header: the same one is passed over, one of another plan, tick or count of slots is an error.
+fn add_guard(text: &mut Draft, identity: u64, units: &Units) {
+    let (tick_ns, slots) = (units.tick_ns, units.slots);
+    let own = format_args!("ECPLAN_IS_{identity:016x}_{tick_ns}_{slots}");
+    text.add(format_args!(
+        "#if defined(ECPLAN_PLAN_H) && !defined({own})\n#error \"the header of another plan is included already\"\n#endif\n"
+    ));
+    text.add(format_args!("#ifndef ECPLAN_PLAN_H\n#define ECPLAN_PLAN_H\n#define {own}\n"));
+}
 
 /// Adds the identity of the plan.
 fn add_identity(text: &mut Draft, identity: u64) {
@@ -62,6 +72,8 @@ fn add_lengths(text: &mut Draft, mapping: &Mapping, laid: &Laid<'_>, trips: &[Tr
 
 /// Adds the tables of slaves, groups and ticks.
 fn add_cyclic(text: &mut Draft, mapping: &Mapping, laid: &Laid<'_>) {
+    text.add(NAMES);
+    add_names(text, laid.seats.as_slice());
     text.add(SLAVE);
     add_slaves(text, laid.seats.as_slice());
     text.add(GROUP);
@@ -88,6 +100,8 @@ fn header_in(
     let identity = identity_of(alloc, units, plan, mapping)?;
     let mut text = Draft::new(alloc);
     text.add(HEAD);
+    add_guard(&mut text, identity, units);
+    text.add(TYPES);
     add_identity(&mut text, identity);
     add_line_numbers(&mut text, units, mapping, &laid);
     add_lengths(&mut text, mapping, &laid, trips.as_slice());

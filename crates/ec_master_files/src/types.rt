@@ -4,11 +4,14 @@
 pub(crate) const HEAD: &str = "/* A plan of ecplan: tables for an EtherCAT master, in C99.
  *
  * Version 1 of these tables. Lengths and offsets are bytes, times are ns or ticks.
- * Places in a table are counted from 0. The docs of ecplan say how to use them.
+ * Places in a table are counted from 0. Numbers are the host's; on the wire they have
+ * their lowest byte first. INTEGRATING.md of ecplan says how to use the tables, and
+ * FORMATS.md, \"Frames\", how a frame is made.
  */
-#ifndef ECPLAN_PLAN_H
-#define ECPLAN_PLAN_H
+";
 
+/// What stands behind the guard of the header.
+pub(crate) const TYPES: &str = "
 #ifdef __KERNEL__
 #include <linux/types.h>
 #else
@@ -16,6 +19,11 @@ pub(crate) const HEAD: &str = "/* A plan of ecplan: tables for an EtherCAT maste
 #endif
 
 #define ECPLAN_VERSION 1
+";
+
+/// What stands before the names of the slaves.
+pub(crate) const NAMES: &str = "
+/* The places of the slaves in ecplan_slaves, by their stations. */
 ";
 
 /// What stands before the table of the slaves.
@@ -29,8 +37,8 @@ struct ecplan_slave {
     uint32_t in_offset;  /* bytes from the begin of the image to its inputs */
     uint16_t out_bytes;  /* bytes of its outputs */
     uint16_t in_bytes;   /* bytes of its inputs */
-    uint16_t out_at;     /* address of its outputs in its memory */
-    uint16_t in_at;      /* address of its inputs in its memory */
+    uint16_t out_at;     /* physical start address of its outputs, as of its sync manager */
+    uint16_t in_at;      /* physical start address of its inputs, as of its sync manager */
     uint8_t fmmu[32];    /* its two FMMU records, as they are written to 0x0600 */
 };
 
@@ -49,7 +57,7 @@ struct ecplan_group {
     uint32_t address; /* logical address */
     uint32_t offset;  /* bytes from the begin of the image to its data */
     uint16_t bytes;   /* bytes of its data */
-    uint16_t counter; /* working counter with which it has to come back */
+    uint16_t counter; /* expected working counter (WKC) of its datagram */
 };
 
 static const struct ecplan_group ecplan_groups[ECPLAN_GROUPS] = {
@@ -80,7 +88,7 @@ static const struct ecplan_frame ecplan_frames[ECPLAN_FRAMES] = {
 /// What stands before the table of the ticks.
 pub(crate) const TICK: &str = "};
 
-/* A tick: its frames, by slot. */
+/* A tick: its frames, by slot. Of one without frames first names none. */
 struct ecplan_tick {
     uint16_t first;      /* its first frame: a place in ecplan_frames */
     uint16_t frames;     /* how many frames it has */
@@ -97,7 +105,7 @@ pub(crate) const START: &str = "};
 struct ecplan_start {
     uint32_t first;   /* its first byte: a place in ecplan_start_bytes */
     uint16_t bytes;   /* bytes without preamble and frame check sequence */
-    uint16_t counter; /* working counter with which it has to come back */
+    uint16_t counter; /* expected working counter (WKC) of its datagram */
 };
 
 static const struct ecplan_start ecplan_starts[ECPLAN_STARTS] = {
