@@ -467,7 +467,12 @@ def try_places_of_a_proof(trial):
     trial.tells(done, "c.part", "placed.toml", "may be those of the certificate")
     trial.left(before, free=("c.part",))
     again = trial.run("plan", "--nodes", "200000", "--places", "placed.toml", "units.toml")
-    trial.holds(again.code == 2 and trial.get("placed.toml") != before["placed.toml"].holds, f"places without a certificate: {again.said}")
+    trial.tells(again, "placed.toml", "costs as much as that of this plan")
+    trial.holds(again.code == 2 and trial.get("placed.toml") == before["placed.toml"].holds, f"places without a certificate: {again.said}")
+    trial.put("placed.toml", b"# A line.\n" + before["placed.toml"].holds)
+    other = trial.run("plan", "--nodes", "200000", "--places", "placed.toml", "units.toml")
+    trial.tells(other, "placed.toml", "line 1", "# A line.")
+    trial.holds(other.code == 2 and trial.get("placed.toml") != before["placed.toml"].holds, f"places over another text: {other.said}")
 
 
 def try_alike_places(change, trial):

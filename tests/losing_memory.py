@@ -11,6 +11,7 @@ import tempfile
 from concurrent.futures import ThreadPoolExecutor
 from functools import lru_cache
 
+import finding
 import refusing
 from lines import FIXED, SMALL, text_of
 
@@ -158,3 +159,35 @@ def each_job(program, folder, most):
         return
     for judge, job in jobs_of(program, folder):
         yield (job.name, *counted(Runs(program, library, job, folder), judge, most))
+
+
+def texts_that_stay(program, folder):
+    """A unit text, and with its name each text over which no places of a worse plan are written."""
+    units, placed = (os.path.join(folder, name) for name in ("stays.toml", "placed.toml"))
+    text = read(os.path.join(finding.EXAMPLES, "assembly-line.toml"))
+    write(units, text)
+    ended(program, ["plan", "--strong", "--places", placed, units])
+    yield units, "a text without places, with a line of its own", b"# A line of its own.\n" + text
+    yield units, "better places", read(placed)
+
+
+def is_left(program, library, folder, units, text, number):
+    """Whether a text stays over which places are to be written where the allocation of a number is refused; how many were made."""
+    with tempfile.TemporaryDirectory(dir=folder) as own:
+        path = os.path.join(own, "P")
+        write(path, text)
+        refuser = refusing.Refuser(own, library)
+        ended(program, ["plan", "--nodes", "1", "--places", path, units], refuser.env(number))
+        return read(path) == text, refuser.made()
+
+
+def each_text(program, folder, most):
+    """The name of each such text, how often it stays, and which runs replaced it."""
+    library = refusing.library_in(folder)
+    for units, name, text in texts_that_stay(program, folder):
+        made = is_left(program, library, folder, units, text, 0)[1]
+        numbers = sorted({*refusing.some_of(made, most), *range(max(1, made - 4 * LAST), made + 1)})
+        with ThreadPoolExecutor(len(os.sched_getaffinity(0))) as pool:
+            found = list(pool.map(lambda number: is_left(program, library, folder, units, text, number)[0], numbers))
+        wrong = [f"allocation {number}: {name} was replaced" for number, stays in zip(numbers, found) if not stays]
+        yield name, collections.Counter({"as before": sum(found), "replaced": len(wrong)}), wrong

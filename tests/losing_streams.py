@@ -65,7 +65,8 @@ def ends_unread(trial, writing, before, done, why=None):
     if why:
         trial.tells(done, f"The text cannot be written to standard output: {why}.\n", *(f' at "{name}".\n' for name in writing.files))
     else:
-        trial.holds("standard output" not in done.said and ' at "' not in done.said, f"standard error says {done.said[:300]!r}")
+        is_told = any(it in done.said for it in ("standard output", ' lies at "', ' lie at "'))
+        trial.holds(not is_told, f"standard error says {done.said[:300]!r}")
     trial.left(before, writing.files)
 
 

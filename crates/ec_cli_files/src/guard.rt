@@ -75,6 +75,8 @@ pub enum KeepReason {
     IsTold,
     /// It holds something else than what would be written there.
     HoldsElse,
+    /// It holds a unit text without places, of which other lines would be lost.
+    HasLines,
     /// It is a link, a folder or what else is no file, and came there since the path was looked at.
     IsNoFile,
     /// What it holds can't be read.
@@ -95,6 +97,8 @@ pub enum KeepReason {
     Better,
     /// It holds such units with places whose busiest tick costs as much, which may be those of a certificate that was left.
     AsCheap,
+    /// It holds the units, line by line, with places whose busiest tick costs as much.
+    AsGood,
     /// Other runs write to it at the same time.
     Changing,
 }
@@ -107,6 +111,9 @@ impl KeepReason {
             KeepReason::IsTold => "Standard error goes to it: give another path",
             KeepReason::HoldsElse => {
                 "It holds something else: give another path, or take the file away first"
+            }
+            KeepReason::HasLines => {
+                "It holds units without places, and other lines of it would be lost: give another path"
             }
             KeepReason::IsNoFile => {
                 "A link, a folder or a pipe came there during the run: take it away, and move the new one there"
@@ -134,6 +141,9 @@ impl KeepReason {
             }
             KeepReason::Better => {
                 "Its places stay: their busiest tick costs less than that of this plan, as cost tells"
+            }
+            KeepReason::AsGood => {
+                "Its places stay: their busiest tick costs as much as that of this plan"
             }
             KeepReason::AsCheap => {
                 "Its places cost as much in their busiest tick, and may be those of the certificate that was left as it is: give another path"

@@ -15,6 +15,6 @@ mod whole;
 pub use fault::FileFault;
 pub use guard::{Content, KeepReason, reason_to_keep};
 pub use late::{Late, make_whole, write_whole};
-pub use place::{are_one, are_same_file};
+pub use place::{are_one, are_same_file, is_no_file};
 pub use reading::read_file;
 pub use whole::{Seen, Whole};

@@ -78,8 +78,9 @@ pub(crate) fn folder_of(path: &str) -> &str {
     }
 }
 
-/// Whether what stands at a path is there and is no file, as a pipe or a device.
-fn is_no_file<F: Files>(files: &F, path: &str) -> bool {
+/// Whether what stands at a path is there and is no file, as a pipe or a device: what it had can't be read there once more (own
+/// profile).
+pub fn is_no_file<F: Files>(files: &F, path: &str) -> bool {
     fs::metadata(files, path).is_ok_and(|found| !found.is_file())
 }
 

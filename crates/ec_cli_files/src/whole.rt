@@ -147,9 +147,12 @@ impl<'a, F: Files> Whole<'a, F> {
     }
 
     /// Leaves the file beside its path, where what stands there is kept for this reason. What was made of a text that stands there no
-    /// more is taken away, and what says less of the same units.
+    /// more is taken away, and what says no more of the same units.
     fn leave(self, why: KeepReason) -> FileFault {
-        if matches!(why, KeepReason::Changed | KeepReason::Better) {
+        if matches!(
+            why,
+            KeepReason::Changed | KeepReason::Better | KeepReason::AsGood
+        ) {
             let _ = take_away(self.files, self.name.as_str(), self.made);
         }
         FileFault::Kept { at: self.name, why }

@@ -18,7 +18,7 @@ const MOST_READ: u64 = MOST_BYTES as u64;
 pub struct Written<'a> {
     /// Where it was written.
     pub path: &'a str,
-    /// The path of its units; none where they came on standard input.
+    /// The path of its units; none where they came on standard input, or from a pipe at a path.
     pub units: Option<&'a str>,
     /// How many bytes it has.
     pub bytes: u64,
@@ -46,6 +46,11 @@ impl Written<'_> {
     /// bytes of this one than is usual, as many as they leave room for.
     fn room(self, strong: bool) -> u64 {
         room_for(self.bytes, self.each, strong)
+    }
+
+    /// Whether it has no room for as many nodes as before, or as are usual, so that a certificate of so many may be one that can't be read.
+    fn is_short(self, strong: bool) -> bool {
+        self.room(strong) < u64::from(self.again.within(u64::MAX).nodes)
     }
 }
 
@@ -123,14 +128,12 @@ impl Search<'_> {
         }
     }
 
-    /// Adds how many nodes one may go on with, where as many as before, or as are usual, may make a certificate that can't be read.
+    /// Adds how many nodes one may go on with from a certificate that has too little room for as many as before.
     fn add_room(self, out: &mut Draft, written: Written<'_>) {
-        let Written { bytes, again, .. } = written;
-        let room = written.room(self.ending.strong);
-        if room >= u64::from(again.within(u64::MAX).nodes) || self.asked == Asked::Part {
-            return;
-        }
-        out.add(format_args!("It has {bytes} bytes, and at most {MOST_READ} are read: "));
+        let (bytes, room) = (written.bytes, written.room(self.ending.strong));
+        out.add(format_args!(
+            "The certificate has {bytes} bytes, and at most {MOST_READ} are read: "
+        ));
         if room == 0 {
             out.add("what goes on with it may have more, and is then refused.\n");
         } else if self.asked == Asked::Merged {
@@ -191,10 +194,13 @@ impl Search<'_> {
             asked,
         } = self;
         let is_too_large = filed.is_too_large();
-        let is_full = asked != Asked::Part
-            && matches!(filed, Filed::There(cert) if cert.room(ending.strong) == 0);
+        let is_short = asked != Asked::Part
+            && matches!(filed, Filed::There(cert) if cert.is_short(ending.strong));
         self.add_level(out);
-        if !(is_too_large || is_full) || asked == Asked::Merged || ending.cut == Cut::Journal {
+        let is_full = is_short
+            && matches!(filed, Filed::There(cert) if cert.room(ending.strong) == 0);
+        let leaves_room = !(is_too_large || is_full || (is_short && ending.cut == Cut::Budget));
+        if leaves_room || asked == Asked::Merged || ending.cut == Cut::Journal {
             out.add(help(ending, asked));
         }
         out.add(other_rules(ending, asked));
@@ -203,7 +209,9 @@ impl Search<'_> {
                 if !is_full {
                     self.add_onward(out, cert);
                 }
-                self.add_room(out, cert);
+                if is_short {
+                    self.add_room(out, cert);
+                }
             }
             Filed::Unasked => self.add_unasked(out),
             Filed::There(_) | Filed::Missing | Filed::TooLarge => {}

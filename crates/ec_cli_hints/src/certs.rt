@@ -53,8 +53,21 @@ fn add_stranger(out: &mut Draft, cert: &[u8]) {
         0xef if at == 0 => out.add(
             "It may be a byte order mark, which editors put before a text: no certificate has one.\n",
         ),
+        0xfe | 0xff if cert.starts_with(b"\xff\xfe") || cert.starts_with(b"\xfe\xff") => out.add(
+            "It is UTF-16, as some editors save a text: take the file as plan --out wrote it.\n",
+        ),
         _ => {}
     }
+}
+
+/// Whether a text begins as a certificate of a version that isn't known yet.
+fn is_newer(cert: &[u8]) -> bool {
+    let line = line_at(cert, 0).unwrap_or(&[]).trim_ascii_end();
+    let version = line.strip_prefix(b"ecplan ").unwrap_or(&[]);
+    !version.is_empty()
+        && version.iter().all(u8::is_ascii_digit)
+        && !version.starts_with(b"0")
+        && !matches!(version, b"1" | b"2" | b"3" | b"4")
 }
 
 /// Whether a text begins a unit.
@@ -77,6 +90,8 @@ fn tell_version(out: &mut Draft, inputs: &Inputs<'_>) {
             add_line(out, cert, 0);
             if has_unit(cert) {
                 out.add("It is a unit text: a certificate is what plan --out writes.\n");
+            } else if is_newer(cert) {
+                out.add("A newer ecplan may have written it: check it with that one.\n");
             }
         }
     }

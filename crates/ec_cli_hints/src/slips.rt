@@ -150,14 +150,22 @@ fn hint_of_value(rest: &str) -> &'static str {
 fn is_strange_blank(letter: char) -> bool {
     matches!(
         letter,
-        '\u{a0}' | '\u{2000}'..='\u{200d}' | '\u{202f}' | '\u{2060}' | '\u{3000}' | '\u{feff}'
+        '\u{a0}' | '\u{2000}'..='\u{200a}' | '\u{202f}' | '\u{3000}'
     )
 }
 
-/// Whether a character, no blank, isn't one of a keyboard's: a dash or an equals sign that only looks plain, say, or one of control.
+/// Whether a character shows nothing, and has no width.
+fn is_unseen(letter: char) -> bool {
+    let has_no_width = matches!(
+        letter,
+        '\u{ad}' | '\u{200b}'..='\u{200f}' | '\u{2060}' | '\u{feff}'
+    );
+    has_no_width || (letter.is_control() && letter != '\r')
+}
+
+/// Whether a character, no blank, isn't one of a keyboard's: a dash or an equals sign that only looks plain, say.
 fn is_strange(letter: char) -> bool {
-    let is_plain = letter.is_ascii() && !letter.is_control();
-    !is_plain && letter != '\r' && !letter.is_alphabetic()
+    !letter.is_ascii() && !letter.is_alphabetic()
 }
 
 /// Whether braces are open behind a text.
@@ -203,6 +211,8 @@ fn hint_of_line(stop: Stop<'_>, word: &str) -> Option<&'static str> {
         Some("This line is no part of the text: take it out.\n")
     } else if stop.rest.starts_with(is_strange_blank) {
         Some("A blank stands there that looks like a space and is none: type it again.\n")
+    } else if stop.rest.starts_with(is_unseen) {
+        Some("A character stands there that is not shown: delete it.\n")
     } else if has_slashes(stop.line) || word.starts_with("/*") || word.starts_with(';') {
         Some("A comment begins with #.\n")
     } else if has_curly(stop) {

@@ -23,6 +23,15 @@ pub(crate) fn line_at(text: &[u8], line: usize) -> Option<&[u8]> {
     text.split(|byte| *byte == b'\n').nth(line)
 }
 
+/// Whether a text has one NUL in each of its first four pairs of bytes, as one in UTF-16 has whose letters are plain.
+fn is_wide(text: &str) -> bool {
+    let front = text.as_bytes().get(..8).unwrap_or(&[]);
+    !front.is_empty()
+        && front
+            .chunks_exact(2)
+            .all(|pair| (pair[0] == 0) != (pair[1] == 0))
+}
+
 /// What a text is that isn't one of units, as far as that is seen.
 pub(crate) fn kind_of(text: &str) -> Option<&'static str> {
     let version = text.strip_prefix("ecplan ").unwrap_or("");
@@ -35,6 +44,8 @@ pub(crate) fn kind_of(text: &str) -> Option<&'static str> {
         "It is XML. Of the network description (ENI) of an engineering tool tools/units-from-eni of the sources makes a unit text.\n"
     } else if front.starts_with("{\\rtf") {
         "It is a text with formats: save it as plain text.\n"
+    } else if is_wide(text) {
+        "The file is UTF-16: save it as plain text in UTF-8.\n"
     } else if text.contains('\r') && !text.contains('\n') {
         "Its lines end with a carriage return alone: save it with line feeds.\n"
     } else {

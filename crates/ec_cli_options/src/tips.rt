@@ -1,6 +1,6 @@
 //! What was likely meant by a word that a command doesn't have.
 
-use crate::options::{COMMANDS, ROWS, Row};
+use crate::options::{COMMANDS, ROWS};
 use std::alloc::{AllocError, Global};
 use std::fmt::Write as _;
 

@@ -13,6 +13,9 @@ const CERT_TIP: &str = "the path of each certificate has --cert before it";
 /// What is told of a number that stands where a path may, of a command that takes a part and nodes.
 const PART_TIP: &str = "a part is one word, as --part 1/3, and nodes stand behind --nodes";
 
+/// What is told of a word that stands behind the path of the units.
+const PATH_TIP: &str = "one file of units is read; a path with spaces stands in quotes";
+
 /// What is told of a value that is no number.
 const NUMBER_TIP: &str = "a whole number is needed, in decimal digits alone";
 
@@ -31,7 +34,7 @@ fn tip_of_path(word: &str, text: &str) -> Option<&'static str> {
     } else if text.contains(" --cert <PATH>") {
         Some(CERT_TIP)
     } else {
-        None
+        Some(PATH_TIP)
     }
 }
 

@@ -1,33 +1,27 @@
 //! What is written after the text of a job: the picture of costs, the units with the places of a plan, and what is handed over
 //! with frames.
 
-use crate::costs::{Standing, are_alike, lacks_place, legal_cost, placed_cost, standing_at};
+use crate::costs::{Standing, are_alike, lacks_place, legal_cost, standing_at};
 use crate::ending::Done;
-use crate::lines::differ_in_places;
+use crate::lines::{Others, differ_in_places, others_in};
+use crate::placed::{PlacedFault, placed_text};
 use crate::targets::Target;
-use crate::telling::{tell_fault, tell_path, tell_whole};
-use crate::units::MOST_TEXT;
+use crate::telling::{tell, tell_fault, tell_path, tell_whole};
 use ec_checker::Verdict;
 use ec_cli_answers::Told;
+use ec_cli_explain::quoted_path;
 use ec_cli_files::{Content, FileFault, KeepReason, make_whole, read_file};
+use ec_cli_refusals::Refusal;
+use ec_cli_text::placed_plan;
 use ec_cost_picture::picture;
-use ec_loads::is_legal;
+use ec_loads::{Plan, is_legal};
 use ec_master_files::{Claim, header_of, map_of, report_of};
-use ec_unit_rewrite::{PlacingFault, place_text};
-use ec_unit_text::read_units;
 use ec_units::Units;
 use std::alloc::{AllocError, Global};
 use std::rt::Files;
 
 /// What is told before a path to which the places are not written.
 const UNPLACED: &str = "The places are not written to";
-
-/// What is told of a text into which no places can be filled.
-const NO_FORM: &str =
-    "Each unit of the text has to begin with a line [[unit]], and each key to have a line of its own";
-
-/// What is told of a text that would be too long to be read.
-const TOO_LONG: &str = "With them the text has more than the 1048576 bytes that are read";
 
 /// What is told where no plan gives places to fill in.
 const NO_PLAN: &str = "No plan was found";
@@ -38,8 +32,8 @@ enum AfterFault {
     File(FileFault),
     /// The places aren't written, for this reason.
     Unplaced(&'static str),
-    /// The same units stand there with better places, so nothing is missing.
-    Better,
+    /// The units stand there with places that are as good, or better, so nothing is missing.
+    Stays(KeepReason),
     /// No plan was found, so nothing is missing.
     NoPlan,
 }
@@ -53,6 +47,15 @@ impl From<FileFault> for AfterFault {
 impl From<AllocError> for AfterFault {
     fn from(error: AllocError) -> AfterFault {
         AfterFault::File(FileFault::from(error))
+    }
+}
+
+impl From<PlacedFault> for AfterFault {
+    fn from(fault: PlacedFault) -> AfterFault {
+        match fault {
+            PlacedFault::OutOfMemory => AfterFault::from(AllocError),
+            PlacedFault::Unfit(why) => AfterFault::Unplaced(why),
+        }
     }
 }
 
@@ -87,32 +90,22 @@ fn handed_of(
 /// A unit text with the places of the plan that was found.
 fn placed_of(alloc: Global, units: &[u8], told: &Told) -> Result<String, AfterFault> {
     let plan = told.plan().ok_or(AfterFault::NoPlan)?;
-    if units.is_empty() {
-        return Err(AfterFault::from(AllocError));
-    }
-    match place_text(alloc, units, plan.places.as_slice()) {
-        Ok(placed) if placed.len() >= MOST_TEXT => Err(AfterFault::Unplaced(TOO_LONG)),
-        Ok(placed) => Ok(placed),
-        Err(PlacingFault::OutOfMemory) => Err(AfterFault::from(AllocError)),
-        Err(_) => Err(AfterFault::Unplaced(NO_FORM)),
-    }
+    Ok(placed_text(alloc, units, plan.places.as_slice())?)
 }
 
-/// What is written of a unit text that was found right and of what was told of it. Of both only memory may be wanting: then no
-/// text is left.
+/// What is written of units that were found right and of what was told of them. Only memory may be wanting: then the units are
+/// left out.
 fn text_of(
     alloc: Global,
     content: Content,
-    units: &[u8],
+    done: Done<'_>,
     told: &Told,
 ) -> Result<String, AfterFault> {
     if content == Content::Units {
-        return placed_of(alloc, units, told);
+        return placed_of(alloc, done.left.text, told);
     }
-    let Ok(units) = read_units(alloc, units) else {
-        return Err(AfterFault::from(AllocError));
-    };
-    Ok(handed_of(alloc, content, &units, told)?)
+    let units = done.units.ok_or(AllocError)?;
+    Ok(handed_of(alloc, content, units, told)?)
 }
 
 /// Whether the file at a path still holds these units.
@@ -124,33 +117,42 @@ fn holds_still<R: Files + AllocGlobal>(rt: &R, path: &str, units: &[u8]) -> bool
     }
 }
 
-/// Why places of a plan with such a cost aren't written over a unit text that stands. It lacks places, so that no plan made it, and
-/// differs from the units' text in more than places. Or its units have the same names, periods and bytes, and places that cost less, or as
-/// much where the certificate was left as it is, since they may be its plan's. Where it differs in places alone, cheaper ones are better.
+/// Why the places of a plan aren't written over a unit text that stands. It lacks places, so that no plan made it, and differs from
+/// the units' text in more than places. Or its units have the same names, periods and bytes, and places that cost less, or as much where
+/// the certificate was left as it is, since they may be its plan's. Where it differs in places alone, cheaper ones are better, and ones that
+/// cost as much are as good, unless a certificate is to have the same plan.
 fn reason_by(
     alloc: Global,
     standing: &Standing,
     units: &Units,
-    cost: u64,
+    plan: &Plan,
     done: Done<'_>,
 ) -> Option<KeepReason> {
     let Standing { text, units: held } = standing;
-    let is_same = differ_in_places(text.as_slice(), done.left.units);
+    let is_same = differ_in_places(text.as_slice(), done.left.text);
     if lacks_place(held) {
-        return Some(KeepReason::HoldsElse).filter(|_| !is_same);
+        return Some(KeepReason::HasLines).filter(|_| !is_same);
     }
     if !are_alike(held, units) {
         return None;
     }
-    let standing = placed_cost(alloc, held)?;
-    if standing < cost {
-        return Some(if is_same {
-            KeepReason::Better
-        } else {
-            KeepReason::Cheaper
-        });
+    let own = match placed_plan(alloc, held) {
+        Ok(own) => own,
+        Err(Refusal::Illegal(_)) => return None,
+        Err(_) => return Some(KeepReason::TooLittleMemory),
+    };
+    let (standing, cost) = (legal_cost(held, &own)?, legal_cost(units, plan)?);
+    if standing < cost && is_same {
+        Some(KeepReason::Better)
+    } else if standing < cost {
+        Some(KeepReason::Cheaper)
+    } else if standing > cost || own.places.as_slice() == plan.places.as_slice() {
+        None
+    } else if done.is_kept {
+        Some(KeepReason::AsCheap)
+    } else {
+        Some(KeepReason::AsGood).filter(|_| is_same && done.target.is_none())
     }
-    Some(KeepReason::AsCheap).filter(|_| standing == cost && done.is_kept)
 }
 
 /// Why places aren't written over the unit text that stands at a path.
@@ -163,11 +165,14 @@ fn standing_reason<R: Files + AllocGlobal>(
     if target.content != Content::Units {
         return None;
     }
-    let units = read_units(rt.alloc(), done.left.units).ok()?;
-    let cost = legal_cost(&units, told.plan()?)?;
-    match standing_at(rt, rt.alloc(), target.path) {
-        Ok(standing) => reason_by(rt.alloc(), &standing?, &units, cost, done),
-        Err(AllocError) => Some(KeepReason::TooLittleMemory),
+    let plan = told.plan()?;
+    let Ok(standing) = standing_at(rt, rt.alloc(), target.path) else {
+        return Some(KeepReason::TooLittleMemory);
+    };
+    let standing = standing?;
+    match done.units {
+        Some(units) => reason_by(rt.alloc(), &standing, units, plan, done),
+        None => Some(KeepReason::TooLittleMemory),
     }
 }
 
@@ -179,7 +184,7 @@ fn reason_to_leave<R: Files + AllocGlobal>(
     done: Done<'_>,
     told: &Told,
 ) -> Option<KeepReason> {
-    if target.is_own && !holds_still(rt, target.path, done.left.units) {
+    if target.is_own && !holds_still(rt, target.path, done.left.text) {
         return Some(KeepReason::Changed);
     }
     standing_reason(rt, target, done, told)
@@ -188,7 +193,7 @@ fn reason_to_leave<R: Files + AllocGlobal>(
 /// Why places aren't written where what stands there is kept for this reason.
 fn unplaced(why: KeepReason) -> AfterFault {
     match why {
-        KeepReason::Better => AfterFault::Better,
+        KeepReason::Better | KeepReason::AsGood => AfterFault::Stays(why),
         why => AfterFault::Unplaced(why.as_str()),
     }
 }
@@ -197,33 +202,66 @@ fn unplaced(why: KeepReason) -> AfterFault {
 /// nowhere.
 fn after_fault(fault: FileFault) -> AfterFault {
     match fault {
-        FileFault::Kept { why, .. } if matches!(why, KeepReason::Changed | KeepReason::Better) => {
-            unplaced(why)
-        }
+        FileFault::Kept {
+            why: why @ (KeepReason::Changed | KeepReason::Better | KeepReason::AsGood),
+            ..
+        } => unplaced(why),
         fault => AfterFault::File(fault),
     }
 }
 
+/// That some lines of the unit text that stood at a path are gone.
+fn gone_text(alloc: Global, path: &str, others: Others<'_>) -> Result<String, AllocError> {
+    let path = quoted_path(alloc, path)?;
+    let Others {
+        count,
+        number,
+        first,
+    } = others;
+    let line = std::str::from_utf8(first).unwrap_or("");
+    let lines = match count {
+        1 => "a line",
+        _ => "lines",
+    };
+    format!(in alloc;
+        "What stood at {path} had {lines} that the text of the units has not, as line {number}:\n    {line}\nWhat of them is still needed has to be written into that text.\n"
+    )
+}
+
+/// What is told once places were written over the unit text that stands at a path, where it has lines that the units' text hasn't. Nothing
+/// where that can't be read, or memory runs out over it.
+fn gone_at<R: Files + AllocGlobal>(rt: &R, target: Target<'_>, done: Done<'_>) -> Option<String> {
+    if target.content != Content::Units || target.is_own {
+        return None;
+    }
+    let Standing { text, .. } = standing_at(rt, rt.alloc(), target.path).ok()??;
+    let others = others_in(rt.alloc(), text.as_slice(), done.left.text).ok()??;
+    gone_text(rt.alloc(), target.path, others).ok()
+}
+
 /// Writes to a path what is to be there, unless what stands there is kept. That is judged once more when the new file, which is whole by
 /// then, takes its place.
-fn write_to<R: Files + AllocGlobal>(
+fn write_to<R: Files + AllocGlobal + Eprint>(
     rt: &R,
     target: Target<'_>,
     done: Done<'_>,
     told: &Told,
 ) -> Result<(), AfterFault> {
     let Target { path, content, .. } = target;
-    let text = text_of(rt.alloc(), content, done.left.units, told)?;
+    let text = text_of(rt.alloc(), content, done, told)?;
     if let Some(why) = reason_to_leave(rt, target, done, told) {
         return Err(unplaced(why));
     }
-    match make_whole(rt, rt.alloc(), path, content, text.as_bytes())? {
-        Some(whole) => match whole.settle(|_| reason_to_leave(rt, target, done, told)) {
-            Ok(()) => Ok(()),
-            Err(fault) => Err(after_fault(fault)),
-        },
-        None => Ok(()),
+    let gone = gone_at(rt, target, done);
+    if let Some(whole) = make_whole(rt, rt.alloc(), path, content, text.as_bytes())? {
+        whole
+            .settle(|_| reason_to_leave(rt, target, done, told))
+            .map_err(after_fault)?;
     }
+    if let Some(gone) = gone {
+        tell(rt, Ok(gone));
+    }
+    Ok(())
 }
 
 /// Tells why what is written after the job isn't at its path. Whether nothing is missing.
@@ -235,10 +273,10 @@ fn tell_after<R: Files + AllocGlobal + Eprint>(
     match fault {
         AfterFault::File(fault) => tell_fault(rt, target, fault),
         AfterFault::Unplaced(why) => tell_path(rt, UNPLACED, target.path, *why),
-        AfterFault::Better => tell_path(rt, UNPLACED, target.path, KeepReason::Better.as_str()),
+        AfterFault::Stays(why) => tell_path(rt, UNPLACED, target.path, why.as_str()),
         AfterFault::NoPlan => tell_path(rt, UNPLACED, target.path, NO_PLAN),
     }
-    matches!(fault, AfterFault::Better | AfterFault::NoPlan)
+    matches!(fault, AfterFault::Stays(_) | AfterFault::NoPlan)
 }
 
 /// Writes what is to be at some paths after the text of a job, each whole before the next one. Whether nothing is missing; tells

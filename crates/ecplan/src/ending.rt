@@ -11,13 +11,12 @@ use ec_cert::{Cert, node_count};
 use ec_cli_answers::{File, Told};
 use ec_cli_command::{Effort, Line};
 use ec_cli_explain::{Again, Asked, Cycle, Filed, Found, Written, advice, misread};
-use ec_cli_files::{FileFault, are_one};
+use ec_cli_files::{FileFault, are_one, is_no_file};
 use ec_cli_refusals::Refusal;
 use ec_cli_run::Report;
 use ec_cli_text::placed_plan;
 use ec_loads::Plan;
 use ec_outcome::Cut;
-use ec_unit_text::read_units;
 use ec_units::Units;
 use std::alloc::{AllocError, Global};
 use std::rt::Files;
@@ -55,7 +54,7 @@ pub(crate) struct Wanted<'a> {
 }
 
 /// The path to which a search writes the units with the places of its plan, if it writes them.
-fn places_of(line: &Line) -> Option<&str> {
+pub(crate) fn places_of(line: &Line) -> Option<&str> {
     match line {
         Line::Plan { places, .. } | Line::Resume { places, .. } => places.as_deref(),
         _ => None,
@@ -81,7 +80,7 @@ fn wanted_of<'a, R: Files + AllocGlobal>(
     rt: &R,
     line: &'a Line,
     told: &Told,
-    units: &[u8],
+    units: Option<&Units>,
 ) -> Option<Wanted<'a>> {
     let effort = effort_of(line)?;
     let asked = match told.ending {
@@ -121,11 +120,10 @@ fn found_of(told: &Told) -> Found {
 
 /// What the busiest tick of the units' own places costs, in wire bytes, where a search without a proof found no plan as good, and no
 /// plan costs less: by its level, or by the bytes of the units alone.
-fn least_placed(alloc: Global, told: &Told, units: &[u8]) -> Option<u64> {
-    let ending = told.ending?;
-    let units = read_units(alloc, units).ok()?;
-    let own = placed_cost(alloc, &units)?;
-    let least = ending.level.max(Cycle::of(&units).mean.cost);
+fn least_placed(alloc: Global, told: &Told, units: Option<&Units>) -> Option<u64> {
+    let (ending, units) = (told.ending?, units?);
+    let own = placed_cost(alloc, units)?;
+    let least = ending.level.max(Cycle::of(units).mean.cost);
     let is_better = ending.best.is_none_or(|best| own < best);
     Some(own).filter(|own| *own <= least && is_better)
 }
@@ -155,16 +153,13 @@ fn tell_other<R: AllocGlobal + Eprint>(rt: &R, units: &Units, plan: &Plan, cost:
 
 /// Tells of the plan of a job that doesn't search: that it doesn't fit into its ticks, if it doesn't, and, where it is that of a
 /// certificate, that the places of the units are another one, if they are.
-pub(crate) fn tell_given<R: AllocGlobal + Eprint>(rt: &R, line: &Line, plan: &Plan, units: &[u8]) {
-    let Ok(units) = read_units(rt.alloc(), units) else {
+pub(crate) fn tell_given<R: AllocGlobal + Eprint>(rt: &R, line: &Line, plan: &Plan, units: &Units) {
+    let Some(cost) = legal_cost(units, plan) else {
         return;
     };
-    let Some(cost) = legal_cost(&units, plan) else {
-        return;
-    };
-    tell_unfit(rt, Cycle::of(&units), cost);
+    tell_unfit(rt, Cycle::of(units), cost);
     if line.cert().is_some() {
-        tell_other(rt, &units, plan, cost);
+        tell_other(rt, units, plan, cost);
     }
 }
 
@@ -189,17 +184,14 @@ fn cheaper_text(alloc: Global, own: u64, found: Option<u64>) -> Result<String, A
 
 /// Tells that the places of the units are better than the plan that a search found, if they are: it doesn't begin at them. Also where
 /// they are known to be the best.
-fn tell_cheaper<R: AllocGlobal + Eprint>(rt: &R, told: &Told, units: &[u8]) {
-    if let Some(own) = least_placed(rt.alloc(), told, units) {
+fn tell_cheaper<R: AllocGlobal + Eprint>(rt: &R, told: &Told, units: &Units) {
+    if let Some(own) = least_placed(rt.alloc(), told, Some(units)) {
         return tell(rt, least_text(rt.alloc(), own));
     }
-    let Ok(units) = read_units(rt.alloc(), units) else {
+    let Some(own) = placed_cost(rt.alloc(), units) else {
         return;
     };
-    let Some(own) = placed_cost(rt.alloc(), &units) else {
-        return;
-    };
-    let found = told.plan().and_then(|plan| legal_cost(&units, plan));
+    let found = told.plan().and_then(|plan| legal_cost(units, plan));
     if found.is_none_or(|found| own < found) {
         tell(rt, cheaper_text(rt.alloc(), own, found));
     }
@@ -209,11 +201,6 @@ fn tell_cheaper<R: AllocGlobal + Eprint>(rt: &R, told: &Told, units: &[u8]) {
 pub(crate) fn file_bytes<R: Files>(files: &R, path: &str) -> Option<u64> {
     let found = fs::metadata(files, path).ok()?;
     Some(found.len()).filter(|_| found.is_file())
-}
-
-/// Whether what stands at a path is there and is no file, as a pipe: its units can't be read there once more.
-fn is_no_file<R: Files>(files: &R, path: &str) -> bool {
-    fs::metadata(files, path).is_ok_and(|found| !found.is_file())
 }
 
 /// How many bytes a node takes of the certificate of a search without a proof, which has so many; 0 where it has so few nodes that its
@@ -262,6 +249,8 @@ fn filed_at<'x, R: Files>(
 #[derive(Clone, Copy)]
 pub(crate) struct Done<'a> {
     pub left: Left<'a>,
+    /// The units, where the job found them right.
+    pub units: Option<&'a Units>,
     /// The file that the job writes, if it writes one.
     pub target: Option<Target<'a>>,
     /// Why standard output hasn't got the text.
@@ -282,7 +271,7 @@ pub(crate) fn tell_end<R: Files + AllocGlobal + Eprint, E>(
     done: Done<'_>,
     wanted: Option<Wanted<'_>>,
 ) {
-    tell(rt, misread(rt.alloc(), done.left.units));
+    tell(rt, misread(rt.alloc(), done.left.text));
     match (done.target, &report.fault, done.untold) {
         (Some(target), Some(fault), _) => tell_fault(rt, target, fault),
         (Some(target), None, Some(_)) => tell_whole(rt, target),
@@ -313,10 +302,22 @@ pub(crate) fn tell_end<R: Files + AllocGlobal + Eprint, E>(
         report.fault.as_ref(),
         again,
     );
-    let units = read_units(rt.alloc(), done.left.units).ok();
-    let cycle = units.as_ref().map(|units| Cycle::of(units));
+    let cycle = done.units.map(|units| Cycle::of(units));
     if let Ok(text) = advice(rt.alloc(), found_of(told), cycle, filed, asked) {
         let _ = rt.eprint(text.as_str());
+    }
+}
+
+/// Tells what is to be known of the plan of a line, and of the units' own places beside it.
+fn tell_plan<R: AllocGlobal + Eprint>(rt: &R, line: &Line, told: &Told, units: &Units) {
+    match line {
+        Line::Cost { .. } | Line::Frames { .. } | Line::Play { .. } => {
+            if let Some(plan) = told.plan() {
+                tell_given(rt, line, plan, units);
+            }
+        }
+        Line::Plan { .. } | Line::Resume { .. } => tell_cheaper(rt, told, units),
+        Line::Check { .. } => {}
     }
 }
 
@@ -332,23 +333,10 @@ pub(crate) fn tell_line<R: Files + AllocGlobal + Eprint>(
     tell_untold(rt, done.untold);
     match &report.told {
         Ok(told) => {
-            tell_end(
-                rt,
-                told,
-                report,
-                done,
-                wanted_of(rt, line, told, done.left.units),
-            );
-            match line {
-                Line::Cost { .. } | Line::Frames { .. } | Line::Play { .. } => {
-                    if let Some(plan) = told.plan() {
-                        tell_given(rt, line, plan, done.left.units);
-                    }
-                }
-                Line::Plan { .. } | Line::Resume { .. } => {
-                    tell_cheaper(rt, told, done.left.units);
-                }
-                Line::Check { .. } => {}
+            let wanted = wanted_of(rt, line, told, done.units);
+            tell_end(rt, told, report, done, wanted);
+            if let Some(units) = done.units {
+                tell_plan(rt, line, told, units);
             }
         }
         Err(refusal) => tell_refusal(rt, refusal, line.cert(), line.out(), done.left),

@@ -4,7 +4,9 @@ ghost use Rattle.std.specs.Prelude.{◌≡◌};
 ghost use Rattle.ec_cli_words.specs.Merges.{MergingFits};
 
 use crate::ending::{Done, Wanted, tell_end};
-use crate::job::Streams;
+use crate::inputs::takes_text;
+use crate::job::{FAILED, Streams};
+use crate::onward::is_proof;
 use crate::output::{Output, refuse_line, tell_untold};
 use crate::refusal::tell_refusal;
 use crate::targets::{Target, may_write, target_at};
@@ -46,18 +48,35 @@ fn words_of(misfit: Misfit) -> &'static str {
     }
 }
 
-/// What is told of the certificate of this number, which doesn't fit with the first.
-fn misfit_text(
-    alloc: Global,
+/// What to do where two certificates don't fit together: one of them may be a proof by itself.
+fn instead_of<H: Files + AllocGlobal>(
+    rt: &H,
+    merging: &Merging,
+    number: usize,
+) -> Result<String, AllocError> {
+    for at in [1, number] {
+        if path_of(merging, at).is_some_and(|path| is_proof(rt, path.as_str())) {
+            let path = quoted(rt.alloc(), merging, at)?;
+            return format!(in rt.alloc(); "{path} is a proof by itself: take it alone.\n");
+        }
+    }
+    String::from_str(rt.alloc(), ONE_LINE_OF_DESCENT)
+}
+
+/// What is told of the certificate of this number, which doesn't fit with the first. Both were judged right.
+fn misfit_text<H: Files + AllocGlobal>(
+    rt: &H,
     merging: &Merging,
     number: usize,
     why: Misfit,
 ) -> Result<String, AllocError> {
+    let alloc = rt.alloc();
     let first = quoted(alloc, merging, 1)?;
     let other = quoted(alloc, merging, number)?;
     let words = words_of(why);
+    let instead = instead_of(rt, merging, number)?;
     format!(in alloc;
-        "The certificate {other} cannot be merged\nwith the first one, {first}.\n{words}{ONE_LINE_OF_DESCENT}"
+        "The certificate {other} cannot be merged\nwith the first one, {first}.\n{words}{instead}"
     )
 }
 
@@ -83,7 +102,7 @@ fn tell_merge<H: Files + AllocGlobal + Eprint>(
             tell_refusal(rt, why, path_of(merging, *number), None, done.left);
         }
         Err(MergeFault::Misfit { number, why }) => {
-            tell(rt, misfit_text(rt.alloc(), merging, *number, *why));
+            tell(rt, misfit_text(rt, merging, *number, *why));
         }
     }
 }
@@ -97,18 +116,21 @@ fn merge_units<H: Files + AllocGlobal + Eprint + Print, R: Read + Drop>(
 ) -> u8
     requires { MergingFits merging.now }
 {
-    let mut units = Kept::new(rt.alloc(), &merging.units, reader);
+    let mut kept = Kept::new(rt.alloc(), &merging.units, reader);
     let mut output = Output::new(rt, false);
     let report = do_merge(
         rt,
         rt.alloc(),
         merging.certs.as_slice(),
         merging.out.as_ref(),
-        &mut Io::new(&mut units),
+        &mut Io::new(&mut kept),
         &mut Io::new(&mut output),
     );
+    let left = kept.left();
+    let units = left.units(rt.alloc());
     let done = Done {
-        left: units.left(),
+        left,
+        units: units.as_ref(),
         target,
         untold: output.fault(),
         is_kept: false,
@@ -116,6 +138,15 @@ fn merge_units<H: Files + AllocGlobal + Eprint + Print, R: Read + Drop>(
     };
     tell_merge(rt, merging, &report, done);
     report.status.code
+}
+
+/// Whether standard output goes to a file that is merged, or to that of the units; tells that.
+fn writes_to_input<H: Files + AllocGlobal + Eprint>(rt: &H, merging: &Merging) -> bool {
+    takes_text(rt, merging.units.as_deref())
+        || merging
+            .certs
+            .iter()
+            .any(|path| takes_text(rt, Some(path.as_str())))
 }
 
 /// Merges the certificates that the words name, unless the file that they name as one to write is to be left as it is. The
@@ -127,6 +158,9 @@ pub(crate) fn do_merging<H: Files + AllocGlobal + Eprint + Print + Input>(
 ) -> u8
     requires { MergingFits merging.now }
 {
+    if writes_to_input(rt, merging) {
+        return FAILED;
+    }
     let target = target_at(&merging.out, Content::Certificate);
     if !may_write(rt, &[target]) {
         return refuse_line(rt, Refusal::Write);

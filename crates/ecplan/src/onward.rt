@@ -33,10 +33,20 @@ fn has_level(head: &[u8]) -> bool {
         && words.last().is_some_and(|byte| byte.is_ascii_digit()))
 }
 
+/// The lines of the certificate at a path before its tree, if they can be read.
+fn head_at<H: Files + AllocGlobal>(rt: &H, path: &str) -> Option<Vec<u8>> {
+    read_file(rt, rt.alloc(), path, MOST_HEAD).ok()?
+}
+
+/// Whether the certificate at a path, which was found right, is a proof: it has no level.
+pub(crate) fn is_proof<H: Files + AllocGlobal>(rt: &H, path: &str) -> bool {
+    head_at(rt, path).is_some_and(|head| !has_level(head.as_slice()))
+}
+
 /// The room beside the certificate at a path, unless it isn't a file, or is a proof, with which no search goes on.
 fn room_at<'a, H: Files + AllocGlobal>(rt: &H, path: &'a str) -> Option<Room<'a>> {
     let bytes = fs::metadata(rt, path).ok()?.len();
-    let head = read_file(rt, rt.alloc(), path, MOST_HEAD).ok()??;
+    let head = head_at(rt, path)?;
     let head = head.as_slice();
     let nodes = room_beside(bytes, head.starts_with(STRONG));
     Some(Room { path, bytes, nodes }).filter(|_| has_level(head))

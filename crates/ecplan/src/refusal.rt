@@ -79,7 +79,7 @@ fn refusal_text<'x, R: Files + AllocGlobal>(
     };
     let cert = cert_path.and_then(|path| cert_for(rt, refusal, path.as_str()));
     let inputs = Inputs {
-        units: left.units,
+        units: left.text,
         cert: match &cert {
             Some(bytes) => Some(bytes.as_slice()),
             None => None,

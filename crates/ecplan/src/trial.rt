@@ -21,7 +21,7 @@ use ec_frame_text::stations_of;
 use ec_loads::{Plan, is_legal};
 use ec_outcome::PlayFault;
 use ec_play_trial::{trial_capture, trial_text, try_plan};
-use ec_unit_text::{UnitFault, read_units};
+use ec_unit_text::UnitFault;
 use ec_units::Units;
 use ec_wire::Io;
 use std::alloc::{AllocError, Global};
@@ -122,14 +122,14 @@ fn try_words(
 fn try_told(
     alloc: Global,
     words: &Words,
-    units: &[u8],
+    units: Option<&Units>,
     told: Result<Told, Refusal>,
 ) -> Result<Played, TrialFault> {
     let Told { answer, plan, .. } = told.map_err(|refusal| TrialFault::Refused(refusal))?;
-    let (Ok(units), Some(plan)) = (read_units(alloc, units), plan) else {
+    let (Some(units), Some(plan)) = (units, plan) else {
         return Err(TrialFault::from(AllocError));
     };
-    try_words(alloc, words, &units, plan, answer.text)
+    try_words(alloc, words, units, plan, answer.text)
 }
 
 /// The refusal of a capture file that isn't at its path.
@@ -189,7 +189,7 @@ fn write_played<H: Files + AllocGlobal + Eprint + Print>(
 pub(crate) fn do_trial<
     H: Files + AllocGlobal + Eprint + Print + Clock + Threads + Wait + Sync,
     R: Read,
->(rt: &H, words: &Words, target: Option<Target<'_>>, units: &mut Kept<'_, R>) -> u8
+>(rt: &H, words: &Words, target: Option<Target<'_>>, kept: &mut Kept<'_, R>) -> u8
     requires { JobFits (job_of words.now.line) }
 {
     let line = &words.line;
@@ -199,25 +199,29 @@ pub(crate) fn do_trial<
         rt,
         rt.alloc(),
         line,
-        &mut Io::new(&mut *units),
+        &mut Io::new(&mut *kept),
         &mut Io::new(io::sink()),
         &progress,
     );
-    match try_told(rt.alloc(), words, units.left().units, report.told) {
+    let left = kept.left();
+    let units = left.units(rt.alloc());
+    match try_told(rt.alloc(), words, units.as_ref(), report.told) {
         Ok(played) => {
             let code = write_played(rt, target, &played);
-            tell(rt, misread(rt.alloc(), units.left().units));
-            tell_given(rt, line, &played.plan, units.left().units);
+            tell(rt, misread(rt.alloc(), left.text));
+            if let Some(units) = &units {
+                tell_given(rt, line, &played.plan, units);
+            }
             code
         }
         Err(TrialFault::Station(text)) => {
             let code = refuse_text(rt, text.as_str());
-            tell(rt, misread(rt.alloc(), units.left().units));
+            tell(rt, misread(rt.alloc(), left.text));
             code
         }
         Err(TrialFault::Refused(refusal)) => {
             let code = refuse_line(rt, refusal);
-            tell_refusal(rt, &refusal, line.cert(), None, units.left());
+            tell_refusal(rt, &refusal, line.cert(), None, left);
             code
         }
     }

@@ -3,7 +3,8 @@
 use crate::output::refuse_line;
 use crate::telling::tell_unread;
 use ec_cli_refusals::Refusal;
-use ec_unit_text::MOST_BYTES;
+use ec_unit_text::{MOST_BYTES, read_units};
+use ec_units::Units;
 use std::alloc::Global;
 use std::io::Read;
 use std::rt::Files;
@@ -20,10 +21,17 @@ const CLOSED: &str = "The units cannot be read: standard input is closed.\n";
 #[derive(Clone, Copy)]
 pub(crate) struct Left<'a> {
     pub path: Option<&'a str>,
-    pub units: &'a [u8],
+    pub text: &'a [u8],
     /// Whether anything was read.
     pub came: bool,
     pub fault: Option<io::Error>,
+}
+
+impl Left<'_> {
+    /// The units that the text says; none where it is refused, or memory is wanting.
+    pub(crate) fn units(self, alloc: Global) -> Option<Units> {
+        read_units(alloc, self.text).ok()
+    }
 }
 
 /// The front of some bytes, up to a limit. Where memory runs out it keeps nothing any more.
@@ -78,7 +86,7 @@ impl<'a, R> Kept<'a, R> {
     pub(crate) fn left(&self) -> Left<'_> {
         Left {
             path: self.path,
-            units: self.front.bytes.as_slice(),
+            text: self.front.bytes.as_slice(),
             came: self.came,
             fault: self.fault,
         }
