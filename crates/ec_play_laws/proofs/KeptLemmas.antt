@@ -17,6 +17,7 @@ use Rattle.ec_slave.specs.Journey.{outs, line_outs, journey}
 use Rattle.ec_slave.specs.Step.{effect_of, is_raised, raised, replied, counted, after_effect, asked, datagram_step, datagrams_step, extent}
 use Rattle.ec_slave.proofs.StepLemmas.{extent-more, extent_fits, step_read}
 use Rattle.ec_slave.proofs.JourneyLemmas.{frames_alike}
+use Rattle.ec_slave.proofs.WriteLemmas.{put-before, put-behind}
 use Rattle.ec_player.specs.Faults.{is_open, may_change}
 use Rattle.ec_slave_laws.specs.Datagrams.{framed, AreWhole, out_by, entry_out, entry_next}
 use Rattle.ec_slave_laws.proofs.StepLemmas.{out-length, effect-even, framed-step, length-framed, extent-outs}
@@ -37,26 +38,6 @@ length-put at y l h =
       length-drop (length y) (drop at l),
       length-drop at l,
     )
-
-put-before : (at : ℕ) (y l : List ℕ) (k : ℕ) → at + length y ≤ length l → k < at → get_or (put at y l) k 0 ≡ get_or l k 0
-put-before at y l k h less =
-    let n = length-take-le at l (omega (arith, h)) in
-    get_or-append (take at l) (y ++ drop (length y) (drop at l)) 0 k (omega (arith, n, less)) ∙ get_or-take at l k 0 less
-
-put-behind : (at : ℕ) (y l : List ℕ) (k : ℕ) → at + length y ≤ length l → at + length y ≤ k → get_or (put at y l) k 0 ≡ get_or l k 0
-put-behind at y l k h less =
-    let n = length-take-le at l (omega (arith, h)) in
-    let j = k - (at + length y) in
-    let front = take at l in
-    let rest = drop (length y) (drop at l) in
-    let place : k ≡ length front + (length y + j) = omega (arith, n, less) in
-    let back : at + (length y + j) ≡ k = omega (arith, less) in
-    ap (λ i. get_or (front ++ (y ++ rest)) i 0) place
-    ∙ get_or-append-add front (y ++ rest) (length y + j) 0
-    ∙ get_or-append-add y rest j 0
-    ∙ get_or-drop (length y) (drop at l) j 0
-    ∙ get_or-drop at l (length y + j) 0
-    ∙ ap (λ i. get_or l i 0) back
 
 -- a byte apart from those that are put
 pub put-apart : (at : ℕ) (y l : List ℕ) (k : ℕ) → at + length y ≤ length l → (k < at) ⊎ (at + length y ≤ k) → get_or (put at y l) k 0 ≡ get_or l k 0

@@ -1,3 +1,4 @@
+pub mod CopyLemmas
 pub mod FrameReading
 pub mod ReplyLemmas
 pub mod TripLemmas

@@ -14,15 +14,8 @@ use ec_fmmu::{FIRST_ADDRESS, Fmmu};
 use ec_frames::{Frame, Parsed, View, datagrams};
 use std::alloc::{AllocError, Global};
 
-/// Puts a byte at its logical address, where that is in the image.
-fn bring_byte(came: &mut [u8], address: usize, byte: u8)
-    ensures len { length came.new ≡ length came.old }
-    ensures bytes { (k : ℕ) → k < length came.old → get_or came.new k 0 ≡ (if 65536 + k == address then byte else get_or came.old k 0) }
-{
-    if address >= 65536 && address - 65536 < came.len() {
-        came[address - 65536] = byte;
-    }
-}
+/// The logical address of the image's first byte.
+const FIRST: usize = FIRST_ADDRESS as usize;
 
 /// Puts the bytes of a datagram at their logical addresses.
 fn bring_datagram(came: &mut [u8], view: &View<'_>)
@@ -30,8 +23,10 @@ fn bring_datagram(came: &mut [u8], view: &View<'_>)
     ensures bytes { (k : ℕ) → k < length came.old → get_or came.new k 0 ≡ unwrap_or (byte_in (65536 + k) (entry view.now)) (get_or came.old k 0) }
 {
     let address = view.address as usize;
-    for i in 0..view.bytes.len() {
-        bring_byte(came, address + i, view.bytes[i]);
+    let from = address.max(FIRST);
+    let to = (address + view.bytes.len()).min(FIRST + came.len());
+    if from < to {
+        came[from - FIRST..to - FIRST].copy_from_slice(&view.bytes[from - address..to - address]);
     }
 }
 
@@ -68,15 +63,14 @@ pub fn bring(came: &mut [u8], frames: &[Frame])
     }
 }
 
-/// Copies the bytes from one place to another.
-fn copy_range(image: &mut [u8], came: &[u8], from: usize, to: usize)
-    requires order { from ≤ to }
-    requires within { to ≤ length image.old }
-    requires same { length came.now ≡ length image.old }
+/// Copies the bytes from one place up to another, where there are some.
+pub(crate) fn copy_range(image: &mut [u8], came: &[u8], from: usize, to: usize)
+    requires { length came.now ≡ length image.old }
     ensures { (k : ℕ) → get_or image.new k 0 ≡ (if nat_le from k && nat_lt k to then get_or came.now k 0 else get_or image.old k 0) }
 {
-    for i in from..to {
-        image[i] = came[i];
+    let end = to.min(image.len());
+    if from < end {
+        image[from..end].copy_from_slice(&came[from..end]);
     }
 }
 

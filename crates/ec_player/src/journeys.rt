@@ -32,7 +32,7 @@ pub fn judge_trip(trip: &Trip, number: u32, back: &Frame) -> Option<PlayFault>
     judge(
         trip.stage,
         number,
-        trip.frame.as_slice(),
+        &trip.frame,
         trip.wants.as_slice(),
         back.as_slice(),
     )

@@ -1,17 +1,20 @@
 //! A frame that came back is judged by the frame that was sent.
 
-ghost use Rattle.std.specs.Prelude.{◌≡◌, ℕ, ◌+◌, ◌≤◌, ◌<◌, ◌==◌, ◌||◌, List, [], length, map, drop, get_or, Option};
-ghost use Rattle.std.specs.List.{list_all, range_with_len};
-ghost use Rattle.ec_frames.specs.Reading.{Entry};
+ghost use Rattle.std.specs.Prelude.{◌≡◌, ℕ, ◌+◌, ◌≤◌, if◌then◌else◌, [], length, map, get_or};
 ghost use Rattle.ec_frames.specs.Parsing.{frame_read};
 ghost use Rattle.ec_frames.specs.EntryViews.{entry};
-ghost use Rattle.ec_slave.specs.Step.{extent};
+ghost use Rattle.ec_slave.specs.Requests.{row_of};
+ghost use Rattle.ec_slave.specs.Step.{extent, is_raised};
 ghost use Rattle.ec_player.specs.Sent.{Sent};
-ghost use Rattle.ec_player.specs.Faults.{is_open as is_open_in, may_change as may_change_in, is_reply_of, is_reply as is_reply_in, first_wrong as first_wrong_in, wrong_fault as wrong_fault_of, fault_of};
+ghost use Rattle.ec_player.specs.Faults.{is_open, may_change, is_reply_of, is_reply as is_reply_in, first_wrong as first_wrong_in, wrong_fault as wrong_fault_of, fault_of};
 
 use crate::faults::{Stage, Wrong};
-use ec_frames::{AddressKind, FrameFault, Parsed, View, address_kind, datagrams, parse};
+use crate::images::copy_range;
+use ec_frames::{
+    AddressKind, Command, Frame, FrameFault, Parsed, View, address_kind, datagrams, parse,
+};
 use ec_outcome::PlayFault;
+use ec_slave::copy_of;
 
 /// What a frame is read as.
 pub(crate) fn read(frame: &[u8]) -> Result<Parsed<'_>, FrameFault>
@@ -20,49 +23,56 @@ pub(crate) fn read(frame: &[u8]) -> Result<Parsed<'_>, FrameFault>
     parse(frame)
 }
 
-/// Whether a slave may change byte `k` of a frame in a datagram that begins at `at`.
-fn is_open(at: usize, view: &View<'_>, k: usize) -> bool
-    requires { at + length (entry view.now).bytes + 12 ≤ 65535 }
-    ensures { result ≡ is_open_in at (entry view.now) k }
+/// Whether a slave may change the position in datagrams of this command.
+fn has_position(command: Command) -> bool
+    ensures { result ≡ is_raised (row_of command).kind }
 {
-    let has_position = match address_kind(view.command) {
+    match address_kind(command) {
         AddressKind::Position | AddressKind::Broadcast => true,
         _ => false,
-    };
-    has_position && (at + 2 <= k && k < at + 4) || (at + 10 <= k && k < at + 12 + view.bytes.len())
+    }
 }
 
-/// Whether a slave may change byte `k` of a frame with these datagrams.
-fn may_change(parsed: &Parsed<'_>, k: usize) -> bool
-    requires { extent parsed.now ≤ 2047 }
-    ensures { result ≡ may_change_in 16 parsed.now k }
+/// Copies what a slave may change in a datagram that begins at `at`.
+fn copy_open(frame: &mut [u8], back: &[u8], at: usize, view: &View<'_>)
+    requires same { length back.now ≡ length frame.old }
+    requires room { at + length (entry view.now).bytes + 12 ≤ 65535 }
+    ensures len { length frame.new ≡ length frame.old }
+    ensures bytes { (k : ℕ) → get_or frame.new k 0 ≡ (if is_open at (entry view.now) k then get_or back.now k 0 else get_or frame.old k 0) }
 {
+    if has_position(view.command) {
+        copy_range(frame, back, at + 2, at + 4);
+    }
+    copy_range(frame, back, at + 10, at + 12 + view.bytes.len());
+}
+
+/// A frame as it was sent, but for what a slave may change in its datagrams, which is as it came back.
+fn replied(parsed: &Parsed<'_>, sent: &Frame, back: &[u8]) -> Frame
+    requires short { extent parsed.now ≤ 2047 }
+    requires same { length back.now ≡ length sent.now.items }
+    ensures len { length result.items ≡ length sent.now.items }
+    ensures bytes { (k : ℕ) → get_or result.items k 0 ≡ (if may_change 16 parsed.now k then get_or back.now k 0 else get_or sent.now.items k 0) }
+{
+    let mut frame = copy_of(sent);
     let mut views = datagrams(parsed);
     let mut at = 16;
     'datagrams: while let Some(view) = views.next() {
-        if is_open(at, &view, k) {
-            return true;
-        }
+        copy_open(frame.as_mut_slice(), back, at, &view);
         at += view.bytes.len() + 12;
     }
-    false
+    frame
 }
 
 /// Whether what came back is a reply to a frame with these datagrams.
 #[tactic(auto, unfolding(crate::specs::Faults::is_reply_of))]
-fn is_reply_to(parsed: &Parsed<'_>, sent: &[u8], back: &[u8]) -> bool
+fn is_reply_to(parsed: &Parsed<'_>, sent: &Frame, back: &[u8]) -> bool
     requires { extent parsed.now ≤ 2047 }
-    ensures { result ≡ is_reply_of parsed.now sent.now back.now }
+    ensures { result ≡ is_reply_of parsed.now sent.now.items back.now }
 {
     if back.len() != sent.len() {
         return false;
     }
-    for k in 0..sent.len() {
-        if back[k] != sent[k] && !may_change(parsed, k) {
-            return false;
-        }
-    }
-    true
+    replied(parsed, sent, back).as_slice() == back
 }
 
 /// Whether two frames are one.
@@ -70,25 +80,16 @@ fn is_reply_to(parsed: &Parsed<'_>, sent: &[u8], back: &[u8]) -> bool
 fn is_same(sent: &[u8], back: &[u8]) -> bool
     ensures { result ≡ is_reply_of [] sent.now back.now }
 {
-    if back.len() != sent.len() {
-        return false;
-    }
-    for k in 0..sent.len() {
-        if back[k] != sent[k] {
-            return false;
-        }
-    }
-    true
+    sent == back
 }
 
 /// Whether what came back is a reply to what was sent.
-fn is_reply(sent: &[u8], back: &[u8]) -> bool
-    requires { length sent.now ≤ 2000 }
-    ensures { result ≡ is_reply_in sent.now back.now }
+fn is_reply(sent: &Frame, back: &[u8]) -> bool
+    ensures { result ≡ is_reply_in sent.now.items back.now }
 {
-    match read(sent) {
+    match read(sent.as_slice()) {
         Ok(parsed) => is_reply_to(&parsed, sent, back),
-        Err(_) => is_same(sent, back),
+        Err(_) => is_same(sent.as_slice(), back),
     }
 }
 
@@ -141,12 +142,11 @@ fn wrong_fault(number: u32, stage: Stage, wrong: Wrong) -> PlayFault
 pub(crate) fn judge(
     stage: Stage,
     number: u32,
-    sent: &[u8],
+    sent: &Frame,
     wants: &[u16],
     back: &[u8],
 ) -> Option<PlayFault>
-    requires { length sent.now ≤ 2000 }
-    ensures { result ≡ fault_of number (record { stage = stage; bytes = sent.now; wants = wants.now }) back.now }
+    ensures { result ≡ fault_of number (record { stage = stage; bytes = sent.now.items; wants = wants.now }) back.now }
 {
     let parsed = match read(back) {
         Ok(parsed) => parsed,

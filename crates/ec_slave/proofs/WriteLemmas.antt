@@ -17,16 +17,16 @@ use Rattle.ec_slave.proofs.MapLemmas.{source_found, source_again}
 use Rattle.ec_slave.proofs.StretchLemmas.{place_inside, place_outside}
 
 -- what stands where after bytes were put
-put-before : (at : ℕ) (bytes list : List ℕ) (k : ℕ) → at + length bytes ≤ length list → k < at → get_or (put at bytes list) k 0 ≡ get_or list k 0
+pub put-before : (at : ℕ) (bytes list : List ℕ) (k : ℕ) → at + length bytes ≤ length list → k < at → get_or (put at bytes list) k 0 ≡ get_or list k 0
 put-before at bytes list k room l =
     get_or_append_left (take at list) (bytes ++ drop (length bytes) (drop at list)) 0 k (omega (arith, l, room, length-take at list)) ∙ get_or-take at list k 0 l
 
-put-inside : (at : ℕ) (bytes list : List ℕ) (k : ℕ) → at + length bytes ≤ length list → at ≤ k → k < at + length bytes → get_or (put at bytes list) k 0 ≡ get_or bytes (k - at) 0
+pub put-inside : (at : ℕ) (bytes list : List ℕ) (k : ℕ) → at + length bytes ≤ length list → at ≤ k → k < at + length bytes → get_or (put at bytes list) k 0 ≡ get_or bytes (k - at) 0
 put-inside at bytes list k room low high =
     get_or-append_right (take at list) (bytes ++ drop (length bytes) (drop at list)) at k 0 (omega (arith, room, length-take at list)) low
     ∙ get_or_append_left bytes (drop (length bytes) (drop at list)) 0 (k - at) (omega (arith, low, high))
 
-put-behind : (at : ℕ) (bytes list : List ℕ) (k : ℕ) → at + length bytes ≤ length list → at + length bytes ≤ k → get_or (put at bytes list) k 0 ≡ get_or list k 0
+pub put-behind : (at : ℕ) (bytes list : List ℕ) (k : ℕ) → at + length bytes ≤ length list → at + length bytes ≤ k → get_or (put at bytes list) k 0 ≡ get_or list k 0
 put-behind at bytes list k room low =
     get_or-append_right (take at list) (bytes ++ drop (length bytes) (drop at list)) at k 0 (omega (arith, room, length-take at list)) (omega (arith, low))
     ∙ get_or-append_right bytes (drop (length bytes) (drop at list)) (length bytes) (k - at) 0 refl (omega (arith, low))

@@ -5,5 +5,5 @@ use Rattle.ec_player.proofs.judging.is_reply.Goals as goal
 
 pub is_reply_to-requires : goal.is_reply_to-requires
 is_reply_to-requires c =
-    let fits = extent_fits c.args.sent.now c.in-Ok.parsed ((read_is c.args.sent.now c.in-Ok.parsed).0 (sym c.in-Ok.ensures)) in
-    omega (arith, fits, c.requires)
+    let fits = extent_fits c.as_slice.result.now c.in-Ok.parsed ((read_is c.as_slice.result.now c.in-Ok.parsed).0 (sym c.in-Ok.ensures)) in
+    omega (arith, fits, c.as_slice.ensures.fits)

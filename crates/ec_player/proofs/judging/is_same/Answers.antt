@@ -1,12 +1,12 @@
-use Rattle.std.proofs.Common.{◌==◌, ◌||◌, false, [], get_or}
-use Rattle.std.proofs.lemmas.Bool.{eq-eqb, ne_eqb}
-use Rattle.ec_player.proofs.ReplyLemmas.{all-more, reply-fails}
+use Rattle.std.proofs.Common.{[], refl}
+use Rattle.std.proofs.lemmas.Bool.Decides.{Decides-eqb, same_from_decides}
+use Rattle.std.proofs.lemmas.Slice.Eq.{slice_eq-Decides}
+use Rattle.ec_player.specs.Faults.{is_reply_of}
+use Rattle.ec_player.proofs.ReplyLemmas.{reply-decides}
 use Rattle.ec_player.proofs.judging.is_same.Goals as goal
 
-pub returns-then-back-k : goal.returns-then-back-k
-returns-then-back-k c = reply-fails [] c.args.sent.now c.args.back.now c.loop-k.k c.loop-k-test.true (ne_eqb (get_or c.args.back.now c.loop-k.k 0) (get_or c.args.sent.now c.loop-k.k 0) c.if-back-k.true)
-
-pub loop-k-preserved : goal.loop-k-preserved
-loop-k-preserved c =
-    all-more (λ k. false || (get_or c.args.back.now k 0 == get_or c.args.sent.now k 0)) c.loop-k.k c.loop-k.invariant
-    (eq-eqb (get_or c.args.back.now c.loop-k.k 0) (get_or c.args.sent.now c.loop-k.k 0) c.if-back-k.false)
+pub returns : goal.returns
+returns c =
+    let sent = c.args.sent.now in
+    let back = c.args.back.now in
+    same_from_decides c.eq.result (is_reply_of [] sent back) (slice_eq-Decides Decides-eqb sent back c.eq.result c.eq.ensures) (reply-decides [] sent back sent refl (λ k. refl))
