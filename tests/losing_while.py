@@ -9,11 +9,13 @@ import signal
 from functools import partial
 
 from losing import NOTES, UNWRITABLE, put_all_paths
-from trials import NOBODY, REFUSED_WRITE, Done, Skipped, stop_once_begun
+from trials import NOBODY, REFUSED_WRITE, Done, Skipped, example, stop_once_begun
 
 NOTE = b"# a note of mine\n"
 # How often two runs are started at one time.
 ROUNDS = 12
+# The same of two that take no longer than their start.
+PAIRS = 150
 
 
 @contextlib.contextmanager
@@ -298,8 +300,29 @@ def try_two(output, rival, trial):
             return
 
 
+def try_two_quick(older, trial):
+    """A search that proves its plan and one that ends at once, both quick, with one path: in the end the proof stands there."""
+    trial.put("units.toml", example("handling-cell.toml"))
+    trial.run("plan", "--nodes", "1", "--out", "first", "units.toml")
+    trial.run("plan", "--out", "proof", "units.toml")
+    for number in range(PAIRS):
+        trial.put("c", trial.get("first") if older else b"")
+        if not older:
+            os.remove(trial.at("c"))
+        words = [(), ("--nodes", "1")]
+        children = [trial.start("plan", *more, "--out", "c", "units.toml") for more in (words if number % 2 else words[::-1])]
+        for child in children:
+            trial.end(child)
+        trial.holds(trial.get("c") == trial.get("proof"), f"pair {number}: the proof doesn't stand there")
+        if trial.wrong:
+            return
+
+
 def two_runs(outputs):
     """Two runs with one path at one time."""
+    for older in (False, True):
+        yield f"plan --out: two quick runs with one path, {PAIRS} times, over {'an older one' if older else 'nothing'}", partial(
+            try_two_quick, older)
     for output in outputs:
         yield f"{output.name}: two runs with one path, {ROUNDS} times", partial(try_two, output, output.rival)
 

@@ -1,5 +1,5 @@
 -- The command lines.
-use Rattle.std.specs.Prelude.{◌≡◌, ◌≤◌, Bool, true, false, String, Option, Some, None}
+use Rattle.std.specs.Prelude.{◌≡◌, ◌≤◌, ℕ, min, Bool, true, false, String, Option, Some, None}
 use Rattle.std.specs.Option.{ForSome}
 use Rattle.std.proofs.Common.{Global}
 use Rattle.ec_cert.specs.Parts.{IsPart}
@@ -38,6 +38,12 @@ job_of (line.Check cert) = job.Check
 job_of (line.Frames cert None header table report) = job.Frames
 job_of (line.Frames cert (Some pcap) header table report) = job.Capture
 job_of (line.Play cert) = job.Play
+
+-- the line with at most so many nodes for its search
+abbrev pub limited : ℕ → Line → Line
+limited most (line.Plan effort strong out places) = line.Plan (record { workers = effort.workers; nodes = min effort.nodes most; minutes = effort.minutes }) strong out places
+limited most (line.Resume cert effort part out places) = line.Resume cert (record { workers = effort.workers; nodes = min effort.nodes most; minutes = effort.minutes }) part out places
+limited most l = l
 
 -- the path of the certificate that it reads
 abbrev pub cert_of : Line → Option (String Global)

@@ -5,4 +5,4 @@ mod job;
 mod line;
 
 pub use job::Job;
-pub use line::{Effort, Line};
+pub use line::{Effort, Line, MOST_MINUTES, MOST_NODES, MOST_WORKERS, USUAL_NODES};

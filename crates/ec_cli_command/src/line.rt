@@ -1,10 +1,22 @@
 //! Command lines.
 
-ghost use Rattle.std.specs.Prelude.{◌≡◌, option_map};
-ghost use Rattle.ec_cli_command.specs.Words.{cert_of, job_of, out_of};
+ghost use Rattle.std.specs.Prelude.{◌≡◌, ◌≤◌, option_map};
+ghost use Rattle.ec_cli_command.specs.Words.{JobFits, cert_of, job_of, limited, out_of};
 
 use crate::job::Job;
 use ec_cert::Part;
+
+/// The most workers of a search.
+pub const MOST_WORKERS: usize = 16;
+
+/// The most nodes that a search may be asked to split and close; so many are the usual ones where time ends it.
+pub const MOST_NODES: u32 = 10_000_000;
+
+/// The nodes of a search that is asked for no number, and that time doesn't end.
+pub const USUAL_NODES: u32 = 1_000_000;
+
+/// The most minutes after which a search may be asked to end.
+pub const MOST_MINUTES: u32 = 10_000;
 
 /// What a search may take (own profile).
 #[derive(Clone, Copy, Debug, PartialEq, Eq)]
@@ -82,6 +94,20 @@ impl Line {
             Line::Frames { pcap: None, .. } => Job::Frames,
             Line::Frames { pcap: Some(_), .. } => Job::Capture,
             Line::Play { .. } => Job::Play,
+        }
+    }
+
+    /// Lets a search split and close at most so many nodes; nothing changes in a line that searches for nothing, or for fewer.
+    pub fn limit_nodes(&mut self, most: u32)
+        requires most { 1 ≤ most }
+        requires fits { JobFits (job_of self.old) }
+        ensures limited { self.new ≡ limited most self.old }
+        ensures fits { JobFits (job_of self.new) }
+    {
+        match self {
+            Line::Plan { effort, .. } => effort.nodes = effort.nodes.min(most),
+            Line::Resume { effort, .. } => effort.nodes = effort.nodes.min(most),
+            _ => {}
         }
     }
 

@@ -85,6 +85,8 @@ pub enum KeepReason {
     TooLittleMemory,
     /// It holds a certificate of the same units that says more, and no proof.
     SaysMore,
+    /// It holds a certificate of the same units with a higher level, whose plan costs more.
+    ShowsMore,
     /// It holds a certificate of the same search that has closed what the new one leaves open.
     HasOther,
     /// It holds a proof for the same units.
@@ -104,6 +106,15 @@ pub enum KeepReason {
 }
 
 impl KeepReason {
+    /// Whether the new file is of no use where what stands is kept: it was made of a text that stands there no more, or says no more of the
+    /// same units.
+    pub fn leaves_nothing(self) -> bool {
+        matches!(
+            self,
+            KeepReason::Changed | KeepReason::Better | KeepReason::AsGood
+        )
+    }
+
     /// What is told of it, with what to do.
     pub fn as_str(self) -> &'static str {
         match self {
@@ -126,6 +137,9 @@ impl KeepReason {
             }
             KeepReason::SaysMore => {
                 "It holds a certificate of the same units that says more: where check says that it is right, go on from it, else give another path"
+            }
+            KeepReason::ShowsMore => {
+                "It holds a certificate of the same units with a higher level, though its plan costs more than this one: give another path, so that you have both"
             }
             KeepReason::HasOther => {
                 "It holds a certificate of the same search that has closed what this one leaves open: merge both, or give another path"

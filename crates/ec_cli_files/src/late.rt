@@ -6,6 +6,7 @@ ghost use Rattle.std.specs.Io.{WritesAtMost};
 ghost use Rattle.std.specs.Io.KnownBytes.{WriteAppends};
 
 use crate::fault::FileFault;
+use crate::folders::Folders;
 use crate::guard::Content;
 use crate::place::{Identity, Place, take_away};
 use crate::settling::dress;
@@ -275,7 +276,7 @@ pub fn make_whole<'a, F: Files>(
 /// # Errors
 ///
 /// Why it isn't there, and where it lies; want of memory is one reason.
-pub fn write_whole<F: Files>(
+pub fn write_whole<F: Folders>(
     files: &F,
     alloc: Global,
     path: &str,

@@ -5,6 +5,7 @@
 #![tactic(auto)]
 
 mod fault;
+mod folders;
 mod guard;
 mod late;
 mod place;
@@ -13,6 +14,7 @@ mod settling;
 mod whole;
 
 pub use fault::FileFault;
+pub use folders::Folders;
 pub use guard::{Content, KeepReason, reason_to_keep};
 pub use late::{Late, make_whole, write_whole};
 pub use place::{are_one, are_same_file, is_no_file};

@@ -1,8 +1,9 @@
 //! A file that is whole, and what stands where it is to be.
 
 use crate::fault::FileFault;
+use crate::folders::Folders;
 use crate::guard::{Content, KeepReason, reason_to_keep};
-use crate::place::{Identity, NO_ENTRY, take_away};
+use crate::place::{Identity, NO_ENTRY, folder_of, take_away};
 use crate::reading::read_front;
 use crate::settling::sync_folder;
 use ec_cert_text::MOST_BYTES;
@@ -52,11 +53,6 @@ pub struct Whole<'a, F: Files> {
     pub(crate) bytes: u64,
 }
 
-/// Whether a file that isn't empty stands at a path.
-fn is_filled<F: Files>(files: &F, path: &str) -> bool {
-    fs::metadata(files, path).is_ok_and(|found| found.len() > 0)
-}
-
 impl<'a, F: Files> Whole<'a, F> {
     /// What stands at the path now; none where nothing does.
     pub fn seen(&self) -> Option<Seen> {
@@ -74,37 +70,6 @@ impl<'a, F: Files> Whole<'a, F> {
             Err(error) if error.kind() == ErrorKind::NotFound => Ok(None),
             Err(error) => Err(error),
         }
-    }
-
-    /// Lets the file take its place, unless what stands there is kept: for a reason of its own, or for one that `judge` has. Where
-    /// another file came there while it was judged, that one is judged, too. The folder is synced after that.
-    ///
-    /// # Errors
-    ///
-    /// Why it isn't there, and where it lies.
-    pub fn settle<J: Fn(&Whole<'a, F>) -> Option<KeepReason>>(
-        self,
-        judge: J,
-    ) -> Result<(), FileFault>
-        requires judge { (f : _) (x : _) → J.pre f x }
-    {
-        for _ in 0..MOST_LOOKS {
-            let seen = self.seen();
-            if let Some(why) = self.own_reason() {
-                return Err(self.leave(why));
-            }
-            if let Some(why) = judge(&self) {
-                return Err(self.leave(why));
-            }
-            if self.is_lost() {
-                let why = io::Error::from_raw_os_error(NO_ENTRY);
-                return Err(FileFault::Unwritten { why });
-            }
-            if self.seen() == seen {
-                return self.take_place();
-            }
-        }
-        Err(self.leave(KeepReason::Changing))
     }
 
     /// Why what stands at the path is kept, whatever the new file says: also a link or what is no file, which came there since the path
@@ -126,8 +91,52 @@ impl<'a, F: Files> Whole<'a, F> {
         }
     }
 
-    /// Lets the file take its place, and syncs the folder. One that no command reads doesn't take the place of another.
-    fn take_place(self) -> Result<(), FileFault> {
+    /// Leaves the file beside its path, where what stands there is kept for this reason. What was made of a text that stands there no
+    /// more is taken away, and what says no more of the same units.
+    fn leave(self, why: KeepReason) -> FileFault {
+        if why.leaves_nothing() {
+            let _ = take_away(self.files, self.name.as_str(), self.made);
+        }
+        FileFault::Kept { at: self.name, why }
+    }
+}
+
+impl<'a, F: Folders> Whole<'a, F> {
+    /// Lets the file take its place, unless what stands there is kept: for a reason of its own, or for one that `judge` has. Where
+    /// another file came there while it was judged, that one is judged, too: between the last look and the new name no other run of
+    /// this program puts one there, where the folder can be held. The folder is synced after that.
+    ///
+    /// # Errors
+    ///
+    /// Why it isn't there, and where it lies.
+    pub fn settle<J: Fn(&Whole<'a, F>) -> Option<KeepReason>>(
+        self,
+        judge: J,
+    ) -> Result<(), FileFault>
+        requires judge { (f : _) (x : _) → J.pre f x }
+    {
+        for _ in 0..MOST_LOOKS {
+            let seen = self.seen();
+            if let Some(why) = self.own_reason() {
+                return Err(self.leave(why));
+            }
+            if let Some(why) = judge(&self) {
+                return Err(self.leave(why));
+            }
+            let held = self.files.hold(folder_of(self.path.as_str()));
+            if self.is_lost() {
+                let why = io::Error::from_raw_os_error(NO_ENTRY);
+                return Err(FileFault::Unwritten { why });
+            }
+            if self.seen() == seen {
+                return self.take_place(held);
+            }
+        }
+        Err(self.leave(KeepReason::Changing))
+    }
+
+    /// Lets the file take its place, and then syncs the folder, which is held no longer. One that no command reads takes no place.
+    fn take_place(self, held: Option<F::Held>) -> Result<(), FileFault> {
         let Whole {
             files,
             content,
@@ -137,24 +146,14 @@ impl<'a, F: Files> Whole<'a, F> {
             ..
         } = self;
         let path = path.as_str();
-        if content == Content::Certificate && bytes > MOST_BYTES as u64 && is_filled(files, path) {
+        if content == Content::Certificate && bytes > MOST_BYTES as u64 {
             return Err(FileFault::TooLarge { at: name, bytes });
         }
-        if let Err(why) = fs::rename(files, name.as_str(), path) {
+        let renamed = fs::rename(files, name.as_str(), path);
+        drop(held);
+        if let Err(why) = renamed {
             return Err(FileFault::Aside { at: name, why });
         }
         sync_folder(files, path).map_err(|why| FileFault::Unsynced { why })
-    }
-
-    /// Leaves the file beside its path, where what stands there is kept for this reason. What was made of a text that stands there no
-    /// more is taken away, and what says no more of the same units.
-    fn leave(self, why: KeepReason) -> FileFault {
-        if matches!(
-            why,
-            KeepReason::Changed | KeepReason::Better | KeepReason::AsGood
-        ) {
-            let _ = take_away(self.files, self.name.as_str(), self.made);
-        }
-        FileFault::Kept { at: self.name, why }
     }
 }

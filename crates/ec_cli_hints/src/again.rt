@@ -1,13 +1,8 @@
 //! How a search goes on as the last one did.
 
 use crate::quoted::Word;
+use ec_cli_command::{MOST_NODES, USUAL_NODES};
 use std::fmt;
-
-/// The nodes that a search visits where no number is asked for.
-const USUAL_NODES: u32 = 1_000_000;
-
-/// The same where a time is asked for.
-const TIMED_NODES: u32 = 10_000_000;
 
 /// What a search that goes on is asked for, beside its certificate and its units. It is told as the options of a command.
 #[derive(Clone, Copy)]
@@ -44,7 +39,7 @@ impl<'a> Again<'a> {
 
     /// The nodes that it visits where its number isn't told.
     fn usual_nodes(self) -> u32 {
-        self.minutes.map_or(USUAL_NODES, |_| TIMED_NODES)
+        self.minutes.map_or(USUAL_NODES, |_| MOST_NODES)
     }
 }
 

@@ -16,7 +16,7 @@ use crate::older::reason_to_stay;
 use crate::reporting::{Report, deliver_report};
 use ec_cli_answers::{File, Told};
 use ec_cli_command::{Job, Line};
-use ec_cli_files::{Content, FileFault, KeepReason, Late, Seen, Whole};
+use ec_cli_files::{Content, FileFault, Folders, KeepReason, Late, Seen, Whole};
 use ec_cli_inputs::{read_alone, read_both};
 use ec_cli_refusals::Refusal;
 use ec_tree::{law_levels_bound, law_trees_bound};
@@ -84,7 +84,11 @@ fn tell_line<R: Read, F: Files, T: Threads + Wait + Sync, G: Gate + Sync>(
 fn content_of(line: &Line) -> Content {
     match line {
         Line::Frames { .. } => Content::Capture,
-        _ => Content::Certificate,
+        Line::Cost { .. }
+        | Line::Plan { .. }
+        | Line::Resume { .. }
+        | Line::Check { .. }
+        | Line::Play { .. } => Content::Certificate,
     }
 }
 
@@ -120,7 +124,7 @@ fn reason_to_leave<F: Files>(
 /// # Errors
 ///
 /// Why it isn't there, and where it lies.
-fn settle_file<F: Files>(
+fn settle_file<F: Folders>(
     alloc: Global,
     origin: Origin,
     file: &File,
@@ -141,7 +145,7 @@ fn settle_file<F: Files>(
 }
 
 /// Writes the file of what is told, if there is one, that comes from there, and lets it take its place. Why it isn't there.
-pub(crate) fn write_late<E, F: Files>(
+pub(crate) fn write_late<E, F: Folders>(
     alloc: Global,
     origin: Origin,
     told: &Result<Told, E>,
@@ -173,7 +177,7 @@ fn origin_of<F: Files>(files: &F, line: &Line) -> Origin {
 }
 
 /// Does what a command line says, on these units and to this text.
-fn report_line<R: Read, W: Write, F: Files, T: Threads + Wait + Sync, G: Gate + Sync>(
+fn report_line<R: Read, W: Write, F: Folders, T: Threads + Wait + Sync, G: Gate + Sync>(
     files: &F,
     wait: &T,
     alloc: Global,
@@ -210,7 +214,7 @@ fn report_line<R: Read, W: Write, F: Files, T: Threads + Wait + Sync, G: Gate + 
 /// Does what a command line says, on these units and to this text. The certificate or the capture file is at its path,
 /// whole, before a byte of the text is written; where it can't be, the text is the refusal of a failed write. `gate` is told
 /// before each node of a search, but for those of seeding, and asked before each piece whether the time is over.
-pub fn do_line<R: Read, W: Write, F: Files, T: Threads + Wait + Sync, G: Gate + Sync>(
+pub fn do_line<R: Read, W: Write, F: Folders, T: Threads + Wait + Sync, G: Gate + Sync>(
     files: &F,
     wait: &T,
     alloc: Global,

@@ -22,7 +22,7 @@ use ec_cert::Cert;
 use ec_cert_merge::Misfit;
 use ec_checker::CheckFault;
 use ec_cli_answers::{Told, joined, right_cert, tell_merged};
-use ec_cli_files::{Content, Late, Seen, are_same_file};
+use ec_cli_files::{Content, Folders, Late, Seen, are_same_file};
 use ec_cli_inputs::{cert_text, read_alone};
 use ec_cli_refusals::Refusal;
 use ec_loads::Loads;
@@ -198,7 +198,7 @@ fn seen_among<F: Files>(files: &F, paths: &[String], out: &str) -> Option<Seen> 
 }
 
 /// Merges the certificates at some paths for the units that the reader has, and reports it.
-fn report_merge<R: Read, W: Write, F: Files>(
+fn report_merge<R: Read, W: Write, F: Folders>(
     files: &F,
     alloc: Global,
     paths: &[String],
@@ -246,7 +246,7 @@ fn report_merge<R: Read, W: Write, F: Files>(
 ///
 /// In the report: that the units are refused, or that a read of them failed; a certificate that can't be read or that a check refuses,
 /// with its number, from 1; one that doesn't fit with what those before it show; or that memory ran out.
-pub fn do_merge<R: Read, W: Write, F: Files>(
+pub fn do_merge<R: Read, W: Write, F: Folders>(
     files: &F,
     alloc: Global,
     paths: &[String],

@@ -148,7 +148,12 @@ fn reason_by(older: &Cert, newer: &Cert, is_part: bool) -> Option<KeepReason> {
     if is_of_one && has_closed_more(&older.tree, &newer.tree) {
         return Some(KeepReason::HasOther);
     }
-    Some(KeepReason::SaysMore).filter(|_| says_more)
+    let why = if costs_less(&newer.best, &older.best) {
+        KeepReason::ShowsMore
+    } else {
+        KeepReason::SaysMore
+    };
+    Some(why).filter(|_| says_more)
 }
 
 /// Why a certificate that stands at the path of a newer one makes no room for it: it says more for the same units, or has closed

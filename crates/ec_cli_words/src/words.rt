@@ -13,7 +13,7 @@ ghost use Rattle.ec_cli_words.specs.declared.words.LineFault.TheVariants.{Memory
 use crate::part::part_of;
 use clap::ArgMatches;
 use ec_cert::Part;
-use ec_cli_command::{Effort, Line};
+use ec_cli_command::{Effort, Line, MOST_MINUTES, MOST_NODES, MOST_WORKERS, USUAL_NODES};
 use std::alloc::{AllocError, Global};
 
 /// What is told of a number that is out of its limits.
@@ -45,6 +45,8 @@ pub struct Words {
     pub line: Line,
     /// The path of the units; none where they come on standard input.
     pub units: Option<String>,
+    /// Whether a number of nodes is asked for.
+    pub nodes: bool,
     /// Whether the progress of a search is told also where standard error is no terminal.
     pub progress: bool,
     /// What else is to be done with a play; nothing with another job.
@@ -108,8 +110,8 @@ fn usual_nodes(minutes: Option<u32>) -> u32
     ensures { result ≡ usual_nodes_spec minutes }
 {
     match minutes {
-        Some(_) => 10_000_000,
-        None => 1_000_000,
+        Some(_) => MOST_NODES,
+        None => USUAL_NODES,
     }
 }
 
@@ -124,12 +126,17 @@ fn nodes_of(matches: &ArgMatches<'_>, minutes: Option<u32>) -> Option<u32>
     }
 }
 
+/// Whether a number of nodes is asked for.
+fn has_nodes(matches: &ArgMatches<'_>) -> bool {
+    matches!(matches.try_get_one::<u32>("nodes"), Ok(Some(_)))
+}
+
 /// Whether a number of minutes is within its limits.
 fn are_minutes(minutes: Option<u32>) -> bool
     ensures { result ≡ true → ForSome minutes (λ m. (1 ≤ m) × (m ≤ 10000)) }
 {
     match minutes {
-        Some(minutes) => 1 <= minutes && minutes <= 10_000,
+        Some(minutes) => 1 <= minutes && minutes <= MOST_MINUTES,
         None => true,
     }
 }
@@ -142,7 +149,8 @@ fn effort_of(matches: &ArgMatches<'_>) -> Option<Effort>
     let workers = matches.get_one::<usize>("workers")?;
     let minutes = minutes_of(matches)?;
     let nodes = nodes_of(matches, minutes)?;
-    if workers < 1 || workers > 16 || nodes < 1 || nodes > 10_000_000 || !are_minutes(minutes) {
+    let is_crew = 1 <= workers && workers <= MOST_WORKERS;
+    if !is_crew || nodes < 1 || nodes > MOST_NODES || !are_minutes(minutes) {
         return None;
     }
     Some(Effort {
@@ -305,6 +313,7 @@ pub(crate) fn line_words(
     let line = line_of(alloc, command, options)?;
     Ok(Words {
         units: units_path(alloc, options)?,
+        nodes: has_nodes(options),
         progress: options.get_flag("progress"),
         trial: trial_of(alloc, &line, options)?,
         line,

@@ -1,6 +1,6 @@
 //! The identity of a plan.
 
-use crate::csv::map_in;
+use crate::map::map_in;
 use ec_fmmu::Mapping;
 use ec_loads::Plan;
 use ec_units::Units;

@@ -5,22 +5,22 @@
 mod bytes;
 mod cells;
 mod claim;
-mod csv;
 mod facts;
 mod frame_rows;
+mod header;
 mod identity;
 mod laid;
-mod page;
+mod map;
+mod report;
 mod seats;
 mod sends;
 mod slave_rows;
 mod style;
 mod tables;
-mod text;
 mod types;
 mod unit_rows;
 
 pub use claim::Claim;
-pub use csv::map_of;
-pub use page::report_of;
-pub use text::header_of;
+pub use header::header_of;
+pub use map::map_of;
+pub use report::report_of;

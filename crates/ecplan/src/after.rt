@@ -1,20 +1,15 @@
 //! What is written after the text of a job: the picture of costs, the units with the places of a plan, and what is handed over
 //! with frames.
 
-use crate::costs::{Standing, are_alike, lacks_place, legal_cost, standing_at};
 use crate::ending::Done;
-use crate::lines::{Others, differ_in_places, others_in};
-use crate::placed::{PlacedFault, placed_text};
-use crate::targets::Target;
-use crate::telling::{tell, tell_fault, tell_path, tell_whole};
+use crate::others::{gone_at, tell_stale};
 use ec_checker::Verdict;
 use ec_cli_answers::Told;
-use ec_cli_explain::quoted_path;
-use ec_cli_files::{Content, FileFault, KeepReason, make_whole, read_file};
-use ec_cli_refusals::Refusal;
-use ec_cli_text::placed_plan;
+use ec_cli_files::{Content, FileFault, Folders, KeepReason, make_whole, read_file};
+use ec_cli_paths::{Target, tell, tell_fault, tell_path, tell_whole};
+use ec_cli_places::{PlacedFault, Placing, placed_text, reason_to_stay};
 use ec_cost_picture::picture;
-use ec_loads::{Plan, is_legal};
+use ec_loads::is_legal;
 use ec_master_files::{Claim, header_of, map_of, report_of};
 use ec_units::Units;
 use std::alloc::{AllocError, Global};
@@ -30,8 +25,10 @@ const NO_PLAN: &str = "No plan was found";
 #[derive(Drop)]
 enum AfterFault {
     File(FileFault),
-    /// The places aren't written, for this reason.
-    Unplaced(&'static str),
+    /// The places aren't written, since what stands there is kept for this reason.
+    Unplaced(KeepReason),
+    /// The units' text can't have places, for this reason.
+    Unfit(&'static str),
     /// The units stand there with places that are as good, or better, so nothing is missing.
     Stays(KeepReason),
     /// No plan was found, so nothing is missing.
@@ -54,7 +51,7 @@ impl From<PlacedFault> for AfterFault {
     fn from(fault: PlacedFault) -> AfterFault {
         match fault {
             PlacedFault::OutOfMemory => AfterFault::from(AllocError),
-            PlacedFault::Unfit(why) => AfterFault::Unplaced(why),
+            PlacedFault::Unfit(why) => AfterFault::Unfit(why),
         }
     }
 }
@@ -83,7 +80,8 @@ fn handed_of(
         Content::Picture => picture(alloc, units, plan),
         Content::Header => header_of(alloc, units, plan),
         Content::Map => map_of(alloc, units, plan),
-        _ => report_of(alloc, units, plan, claim_of(told.verdict)),
+        Content::Report => report_of(alloc, units, plan, claim_of(told.verdict)),
+        Content::Certificate | Content::Capture | Content::Units => Err(AllocError),
     }
 }
 
@@ -102,7 +100,7 @@ fn text_of(
     told: &Told,
 ) -> Result<String, AfterFault> {
     if content == Content::Units {
-        return placed_of(alloc, done.left.text, told);
+        return placed_of(alloc, done.record.text, told);
     }
     let units = done.units.ok_or(AllocError)?;
     Ok(handed_of(alloc, content, units, told)?)
@@ -117,44 +115,6 @@ fn holds_still<R: Files + AllocGlobal>(rt: &R, path: &str, units: &[u8]) -> bool
     }
 }
 
-/// Why the places of a plan aren't written over a unit text that stands. It lacks places, so that no plan made it, and differs from
-/// the units' text in more than places. Or its units have the same names, periods and bytes, and places that cost less, or as much where
-/// the certificate was left as it is, since they may be its plan's. Where it differs in places alone, cheaper ones are better, and ones that
-/// cost as much are as good, unless a certificate is to have the same plan.
-fn reason_by(
-    alloc: Global,
-    standing: &Standing,
-    units: &Units,
-    plan: &Plan,
-    done: Done<'_>,
-) -> Option<KeepReason> {
-    let Standing { text, units: held } = standing;
-    let is_same = differ_in_places(text.as_slice(), done.left.text);
-    if lacks_place(held) {
-        return Some(KeepReason::HasLines).filter(|_| !is_same);
-    }
-    if !are_alike(held, units) {
-        return None;
-    }
-    let own = match placed_plan(alloc, held) {
-        Ok(own) => own,
-        Err(Refusal::Illegal(_)) => return None,
-        Err(_) => return Some(KeepReason::TooLittleMemory),
-    };
-    let (standing, cost) = (legal_cost(held, &own)?, legal_cost(units, plan)?);
-    if standing < cost && is_same {
-        Some(KeepReason::Better)
-    } else if standing < cost {
-        Some(KeepReason::Cheaper)
-    } else if standing > cost || own.places.as_slice() == plan.places.as_slice() {
-        None
-    } else if done.is_kept {
-        Some(KeepReason::AsCheap)
-    } else {
-        Some(KeepReason::AsGood).filter(|_| is_same && done.target.is_none())
-    }
-}
-
 /// Why places aren't written over the unit text that stands at a path.
 fn standing_reason<R: Files + AllocGlobal>(
     rt: &R,
@@ -165,15 +125,14 @@ fn standing_reason<R: Files + AllocGlobal>(
     if target.content != Content::Units {
         return None;
     }
-    let plan = told.plan()?;
-    let Ok(standing) = standing_at(rt, rt.alloc(), target.path) else {
-        return Some(KeepReason::TooLittleMemory);
+    let placing = Placing {
+        text: done.record.text,
+        units: done.units,
+        plan: told.plan()?,
+        has_cert: done.target.is_some(),
+        is_cert_kept: done.is_kept,
     };
-    let standing = standing?;
-    match done.units {
-        Some(units) => reason_by(rt.alloc(), &standing, units, plan, done),
-        None => Some(KeepReason::TooLittleMemory),
-    }
+    reason_to_stay(rt, rt.alloc(), target.path, placing)
 }
 
 /// Why what stands at a path is kept: it is the units' own file, and doesn't hold their text any more; or it is a unit text over which no
@@ -184,7 +143,7 @@ fn reason_to_leave<R: Files + AllocGlobal>(
     done: Done<'_>,
     told: &Told,
 ) -> Option<KeepReason> {
-    if target.is_own && !holds_still(rt, target.path, done.left.text) {
+    if target.is_own && !holds_still(rt, target.path, done.record.text) {
         return Some(KeepReason::Changed);
     }
     standing_reason(rt, target, done, told)
@@ -194,54 +153,21 @@ fn reason_to_leave<R: Files + AllocGlobal>(
 fn unplaced(why: KeepReason) -> AfterFault {
     match why {
         KeepReason::Better | KeepReason::AsGood => AfterFault::Stays(why),
-        why => AfterFault::Unplaced(why.as_str()),
+        why => AfterFault::Unplaced(why),
     }
 }
 
-/// Why what is written after the job isn't at its path. Places for another text than the one that stands there, and worse ones, are
-/// nowhere.
+/// Why what is written after the job isn't at its path. What would be of no use beside it is nowhere.
 fn after_fault(fault: FileFault) -> AfterFault {
     match fault {
-        FileFault::Kept {
-            why: why @ (KeepReason::Changed | KeepReason::Better | KeepReason::AsGood),
-            ..
-        } => unplaced(why),
+        FileFault::Kept { why, .. } if why.leaves_nothing() => unplaced(why),
         fault => AfterFault::File(fault),
     }
 }
 
-/// That some lines of the unit text that stood at a path are gone.
-fn gone_text(alloc: Global, path: &str, others: Others<'_>) -> Result<String, AllocError> {
-    let path = quoted_path(alloc, path)?;
-    let Others {
-        count,
-        number,
-        first,
-    } = others;
-    let line = std::str::from_utf8(first).unwrap_or("");
-    let lines = match count {
-        1 => "a line",
-        _ => "lines",
-    };
-    format!(in alloc;
-        "What stood at {path} had {lines} that the text of the units has not, as line {number}:\n    {line}\nWhat of them is still needed has to be written into that text.\n"
-    )
-}
-
-/// What is told once places were written over the unit text that stands at a path, where it has lines that the units' text hasn't. Nothing
-/// where that can't be read, or memory runs out over it.
-fn gone_at<R: Files + AllocGlobal>(rt: &R, target: Target<'_>, done: Done<'_>) -> Option<String> {
-    if target.content != Content::Units || target.is_own {
-        return None;
-    }
-    let Standing { text, .. } = standing_at(rt, rt.alloc(), target.path).ok()??;
-    let others = others_in(rt.alloc(), text.as_slice(), done.left.text).ok()??;
-    gone_text(rt.alloc(), target.path, others).ok()
-}
-
 /// Writes to a path what is to be there, unless what stands there is kept. That is judged once more when the new file, which is whole by
-/// then, takes its place.
-fn write_to<R: Files + AllocGlobal + Eprint>(
+/// then, takes its place. The units' own file isn't written where it has these very bytes: it would be newer than what was made of it.
+fn write_to<R: Folders + AllocGlobal + Eprint>(
     rt: &R,
     target: Target<'_>,
     done: Done<'_>,
@@ -251,6 +177,9 @@ fn write_to<R: Files + AllocGlobal + Eprint>(
     let text = text_of(rt.alloc(), content, done, told)?;
     if let Some(why) = reason_to_leave(rt, target, done, told) {
         return Err(unplaced(why));
+    }
+    if target.is_own && text.as_bytes() == done.record.text {
+        return Ok(());
     }
     let gone = gone_at(rt, target, done);
     if let Some(whole) = make_whole(rt, rt.alloc(), path, content, text.as_bytes())? {
@@ -268,11 +197,16 @@ fn write_to<R: Files + AllocGlobal + Eprint>(
 fn tell_after<R: Files + AllocGlobal + Eprint>(
     rt: &R,
     target: Target<'_>,
+    done: Done<'_>,
     fault: &AfterFault,
 ) -> bool {
     match fault {
         AfterFault::File(fault) => tell_fault(rt, target, fault),
-        AfterFault::Unplaced(why) => tell_path(rt, UNPLACED, target.path, *why),
+        AfterFault::Unplaced(why) => {
+            tell_path(rt, UNPLACED, target.path, why.as_str());
+            tell_stale(rt, target, done, *why);
+        }
+        AfterFault::Unfit(why) => tell_path(rt, UNPLACED, target.path, *why),
         AfterFault::Stays(why) => tell_path(rt, UNPLACED, target.path, why.as_str()),
         AfterFault::NoPlan => tell_path(rt, UNPLACED, target.path, NO_PLAN),
     }
@@ -281,7 +215,7 @@ fn tell_after<R: Files + AllocGlobal + Eprint>(
 
 /// Writes what is to be at some paths after the text of a job, each whole before the next one. Whether nothing is missing; tells
 /// what is, and where standard output hasn't got the text, or says that the job's file isn't at its path, where each whole file lies.
-pub(crate) fn write_after<R: Files + AllocGlobal + Eprint>(
+pub(crate) fn write_after<R: Folders + AllocGlobal + Eprint>(
     rt: &R,
     targets: &[Option<Target<'_>>],
     told: &Told,
@@ -292,7 +226,7 @@ pub(crate) fn write_after<R: Files + AllocGlobal + Eprint>(
         match write_to(rt, *target, done, told) {
             Ok(()) if done.untold.is_some() || done.is_missing => tell_whole(rt, *target),
             Ok(()) => {}
-            Err(fault) => is_whole = tell_after(rt, *target, &fault) && is_whole,
+            Err(fault) => is_whole = tell_after(rt, *target, done, &fault) && is_whole,
         }
     }
     is_whole

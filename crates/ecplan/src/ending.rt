@@ -1,17 +1,17 @@
 //! What is told on standard error at the end of a job.
 
-use crate::costs::{legal_cost, placed_cost};
+use crate::job::FAILED;
+use crate::line::places_of;
 use crate::output::tell_untold;
-use crate::progress::effort_of;
 use crate::refusal::tell_refusal;
-use crate::targets::Target;
-use crate::telling::{tell, tell_fault, tell_whole};
-use crate::units::Left;
+use crate::units::Record;
 use ec_cert::{Cert, node_count};
 use ec_cli_answers::{File, Told};
-use ec_cli_command::{Effort, Line};
+use ec_cli_command::{Effort, Line, MOST_MINUTES, MOST_NODES};
 use ec_cli_explain::{Again, Asked, Cycle, Filed, Found, Written, advice, misread};
 use ec_cli_files::{FileFault, are_one, is_no_file};
+use ec_cli_paths::{Target, tell, tell_fault, tell_whole};
+use ec_cli_places::{legal_cost, placed_cost};
 use ec_cli_refusals::Refusal;
 use ec_cli_run::Report;
 use ec_cli_text::placed_plan;
@@ -22,18 +22,12 @@ use std::alloc::{AllocError, Global};
 use std::rt::Files;
 use std::{fs, io};
 
-/// The most nodes that a search may be asked to visit.
-const MOST_NODES: u32 = 10_000_000;
-
 /// From so many nodes on a certificate shows how many bytes a node takes.
 const MANY_NODES: u64 = 100_000;
 
 /// What is told where the places of the units are another plan than that of the certificate.
 const OTHER_PLAN: &str =
     "The places in the unit text are another plan: this is the one of the certificate.\n";
-
-/// The most minutes that a search may be asked to take.
-const MOST_MINUTES: u32 = 10_000;
 
 /// Whether a search that was cut short took as many nodes or minutes as may be asked for.
 fn is_most(effort: &Effort, cut: Cut) -> bool {
@@ -51,14 +45,6 @@ pub(crate) struct Wanted<'a> {
     pub again: Again<'a>,
     /// Whether a longer search may be of use: the places of the units aren't known to be the best.
     pub is_needed: bool,
-}
-
-/// The path to which a search writes the units with the places of its plan, if it writes them.
-pub(crate) fn places_of(line: &Line) -> Option<&str> {
-    match line {
-        Line::Plan { places, .. } | Line::Resume { places, .. } => places.as_deref(),
-        _ => None,
-    }
 }
 
 /// Whether a line made a part of a certificate beside it, so that it can be merged with the other parts.
@@ -80,9 +66,9 @@ fn wanted_of<'a, R: Files + AllocGlobal>(
     rt: &R,
     line: &'a Line,
     told: &Told,
-    units: Option<&Units>,
+    done: Done<'_>,
 ) -> Option<Wanted<'a>> {
-    let effort = effort_of(line)?;
+    let effort = done.asked?;
     let asked = match told.ending {
         _ if is_part_beside(rt, line) => Asked::Part,
         Some(ending) if is_most(&effort, ending.cut) => Asked::Most,
@@ -94,7 +80,7 @@ fn wanted_of<'a, R: Files + AllocGlobal>(
         minutes: effort.minutes,
         places: places_of(line),
     };
-    let is_needed = least_placed(rt.alloc(), told, units).is_none();
+    let is_needed = least_placed(rt.alloc(), told, done.units).is_none();
     Some(Wanted {
         asked,
         again,
@@ -248,7 +234,9 @@ fn filed_at<'x, R: Files>(
 /// What is there once a job is done, beside its report.
 #[derive(Clone, Copy)]
 pub(crate) struct Done<'a> {
-    pub left: Left<'a>,
+    pub record: Record<'a>,
+    /// What a search was asked for, before its nodes were limited; none of a run that searches for nothing.
+    pub asked: Option<Effort>,
     /// The units, where the job found them right.
     pub units: Option<&'a Units>,
     /// The file that the job writes, if it writes one.
@@ -271,7 +259,7 @@ pub(crate) fn tell_end<R: Files + AllocGlobal + Eprint, E>(
     done: Done<'_>,
     wanted: Option<Wanted<'_>>,
 ) {
-    tell(rt, misread(rt.alloc(), done.left.text));
+    tell(rt, misread(rt.alloc(), done.record.text));
     match (done.target, &report.fault, done.untold) {
         (Some(target), Some(fault), _) => tell_fault(rt, target, fault),
         (Some(target), None, Some(_)) => tell_whole(rt, target),
@@ -287,7 +275,7 @@ pub(crate) fn tell_end<R: Files + AllocGlobal + Eprint, E>(
     else {
         return;
     };
-    if report.status.code == 4 {
+    if report.status.code == FAILED {
         let _ = rt.eprint("What was found:\n");
         let _ = rt.eprint(told.answer.text.as_str());
     }
@@ -297,7 +285,7 @@ pub(crate) fn tell_end<R: Files + AllocGlobal + Eprint, E>(
     let filed = filed_at(
         rt,
         done.target,
-        done.left.path,
+        done.record.path,
         told,
         report.fault.as_ref(),
         again,
@@ -333,12 +321,12 @@ pub(crate) fn tell_line<R: Files + AllocGlobal + Eprint>(
     tell_untold(rt, done.untold);
     match &report.told {
         Ok(told) => {
-            let wanted = wanted_of(rt, line, told, done.units);
+            let wanted = wanted_of(rt, line, told, done);
             tell_end(rt, told, report, done, wanted);
             if let Some(units) = done.units {
                 tell_plan(rt, line, told, units);
             }
         }
-        Err(refusal) => tell_refusal(rt, refusal, line.cert(), line.out(), done.left),
+        Err(refusal) => tell_refusal(rt, refusal, line.cert(), line.out(), done.record),
     }
 }

@@ -6,19 +6,15 @@ ghost use Rattle.std.specs.Prelude.{IfOk};
 ghost use Rattle.ec_cli_words.specs.Merges.{AskedFits};
 
 mod after;
-mod costs;
+mod before;
 mod ending;
-mod inputs;
 mod job;
-mod lines;
+mod line;
 mod merging;
-mod onward;
+mod others;
 mod output;
-mod placed;
 mod progress;
 mod refusal;
-mod targets;
-mod telling;
 mod trial;
 mod units;
 
@@ -80,7 +76,8 @@ fn main(rt: HostRuntime) -> ExitCode {
     let code = match asked_by(&rt) {
         Ok(Asked::Line(words)) => {
             tell_waiting(&rt, &words.units);
-            do_words(&rt, &words, streams)
+            let mut words = words;
+            do_words(&rt, &mut words, streams)
         }
         Ok(Asked::Merge(merging)) => {
             tell_waiting(&rt, &merging.units);

@@ -3,18 +3,16 @@
 ghost use Rattle.std.specs.Prelude.{◌≡◌};
 ghost use Rattle.ec_cli_words.specs.Merges.{MergingFits};
 
+use crate::before::{Written, tell_of_units};
 use crate::ending::{Done, Wanted, tell_end};
-use crate::inputs::takes_text;
 use crate::job::{FAILED, Streams};
-use crate::onward::is_proof;
 use crate::output::{Output, refuse_line, tell_untold};
 use crate::refusal::tell_refusal;
-use crate::targets::{Target, may_write, target_at};
-use crate::telling::tell;
-use crate::units::{Kept, open_units};
+use crate::units::{Recorder, open_units};
 use ec_cert_merge::Misfit;
 use ec_cli_explain::{Again, Asked, quoted_path};
-use ec_cli_files::Content;
+use ec_cli_files::{Content, Folders};
+use ec_cli_paths::{Target, is_proof, may_write, takes_text, target_at, tell};
 use ec_cli_refusals::Refusal;
 use ec_cli_run::{MergeFault, Report, do_merge};
 use ec_cli_words::Merging;
@@ -97,9 +95,9 @@ fn tell_merge<H: Files + AllocGlobal + Eprint>(
             };
             tell_end(rt, told, report, done, Some(wanted));
         }
-        Err(MergeFault::Refused(why)) => tell_refusal(rt, why, None, None, done.left),
+        Err(MergeFault::Refused(why)) => tell_refusal(rt, why, None, None, done.record),
         Err(MergeFault::Cert { number, why }) => {
-            tell_refusal(rt, why, path_of(merging, *number), None, done.left);
+            tell_refusal(rt, why, path_of(merging, *number), None, done.record);
         }
         Err(MergeFault::Misfit { number, why }) => {
             tell(rt, misfit_text(rt, merging, *number, *why));
@@ -108,7 +106,7 @@ fn tell_merge<H: Files + AllocGlobal + Eprint>(
 }
 
 /// Merges certificates for the units that a reader has, and tells what comes of it. The status.
-fn merge_units<H: Files + AllocGlobal + Eprint + Print, R: Read + Drop>(
+fn merge_units<H: Folders + AllocGlobal + Eprint + Print, R: Read + Drop>(
     rt: &H,
     merging: &Merging,
     target: Option<Target<'_>>,
@@ -116,20 +114,26 @@ fn merge_units<H: Files + AllocGlobal + Eprint + Print, R: Read + Drop>(
 ) -> u8
     requires { MergingFits merging.now }
 {
-    let mut kept = Kept::new(rt.alloc(), &merging.units, reader);
+    let mut recorder = Recorder::new(rt.alloc(), &merging.units, reader);
+    let written = Written {
+        cert: merging.out.as_deref(),
+        places: None,
+    };
+    tell_of_units(rt, &merging.units, written);
     let mut output = Output::new(rt, false);
     let report = do_merge(
         rt,
         rt.alloc(),
         merging.certs.as_slice(),
         merging.out.as_ref(),
-        &mut Io::new(&mut kept),
+        &mut Io::new(&mut recorder),
         &mut Io::new(&mut output),
     );
-    let left = kept.left();
-    let units = left.units(rt.alloc());
+    let record = recorder.record();
+    let units = record.units(rt.alloc());
     let done = Done {
-        left,
+        record,
+        asked: None,
         units: units.as_ref(),
         target,
         untold: output.fault(),
@@ -151,7 +155,7 @@ fn writes_to_input<H: Files + AllocGlobal + Eprint>(rt: &H, merging: &Merging) -
 
 /// Merges the certificates that the words name, unless the file that they name as one to write is to be left as it is. The
 /// status.
-pub(crate) fn do_merging<H: Files + AllocGlobal + Eprint + Print + Input>(
+pub(crate) fn do_merging<H: Folders + AllocGlobal + Eprint + Print + Input>(
     rt: &H,
     merging: &Merging,
     streams: Streams,

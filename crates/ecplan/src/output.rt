@@ -1,8 +1,8 @@
 //! Standard output, and what is told where it takes no text.
 
 use crate::progress::BLANKS;
-use crate::telling::tell;
 use ec_cli_explain::shown_text;
+use ec_cli_paths::tell;
 use ec_cli_refusals::Refusal;
 use ec_cli_run::{refuse, refuse_words};
 use ec_unit_text::UnitFault;

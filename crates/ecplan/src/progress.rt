@@ -1,29 +1,19 @@
 //! The progress of a search, told on standard error while it runs.
 
+use crate::line::effort_of;
 use crossbeam_utils::CachePadded;
-use ec_cli_command::{Effort, Line};
+use ec_cli_command::{Effort, Line, MOST_WORKERS};
 use ec_workers::Gate;
 use std::alloc::{AllocError, Global};
 use std::rt::Clock;
 use std::sync::atomic::{AtomicU64, Ordering};
 use std::time::Instant;
 
-/// The most workers of a search.
-const MOST_WORKERS: usize = 16;
-
 /// The milliseconds that stand for none.
 const UNASKED: u64 = u64::MAX;
 
 /// What covers a line on a terminal: the longest one has 54 characters.
 pub(crate) const BLANKS: &str = "\r                                                      \r";
-
-/// What the search of a line may take, if it searches.
-pub(crate) fn effort_of(line: &Line) -> Option<Effort> {
-    match line {
-        Line::Plan { effort, .. } | Line::Resume { effort, .. } => Some(*effort),
-        _ => None,
-    }
-}
 
 /// The milliseconds that a search may take, if time ends it.
 fn most_millis(effort: Option<Effort>) -> Option<u64> {

@@ -1,11 +1,11 @@
 //! What is told of a refusal.
 
-use crate::telling::{reason_at, tell_unread};
-use crate::units::Left;
+use crate::units::Record;
 use ec_cert_text::{CertFault, MOST_BYTES};
 use ec_checker::CheckFault;
 use ec_cli_explain::{Inputs, explain};
 use ec_cli_files::read_file;
+use ec_cli_paths::{reason_at, tell_unread};
 use ec_cli_refusals::Refusal;
 use std::alloc::AllocError;
 use std::io::Read;
@@ -71,15 +71,15 @@ fn refusal_text<'x, R: Files + AllocGlobal>(
     refusal: &Refusal,
     cert_path: Option<&'x String>,
     out_path: Option<&'x String>,
-    left: Left<'x>,
+    record: Record<'x>,
 ) -> Result<String, AllocError> {
-    let reason = match reason_for(rt, refusal, cert_path, left.fault) {
+    let reason = match reason_for(rt, refusal, cert_path, record.fault) {
         Some(error) => Some(reason_at(rt, cert_path.map_or("", |path| path.as_str()), error)?),
         None => None,
     };
     let cert = cert_path.and_then(|path| cert_for(rt, refusal, path.as_str()));
     let inputs = Inputs {
-        units: left.text,
+        units: record.text,
         cert: match &cert {
             Some(bytes) => Some(bytes.as_slice()),
             None => None,
@@ -98,18 +98,18 @@ pub(crate) fn tell_refusal<'x, R: Files + AllocGlobal + Eprint>(
     refusal: &Refusal,
     cert: Option<&'x String>,
     out: Option<&'x String>,
-    left: Left<'x>,
+    record: Record<'x>,
 ) {
-    if let (Some(path), Some(error)) = (left.path, left.fault) {
+    if let (Some(path), Some(error)) = (record.path, record.fault) {
         return tell_unread(rt, path, error);
     }
-    if left.path.is_none() && !left.came && matches!(refusal, Refusal::Unit(_)) {
+    if record.path.is_none() && !record.came && matches!(refusal, Refusal::Unit(_)) {
         let _ = rt.eprint(NOTHING);
         return;
     }
     // Where standard input couldn't be read, the certificate has no part in it.
-    let cert = if left.fault.is_some() { None } else { cert };
-    if let Ok(told) = refusal_text(rt, refusal, cert, out, left) {
+    let cert = if record.fault.is_some() { None } else { cert };
+    if let Ok(told) = refusal_text(rt, refusal, cert, out, record) {
         let _ = rt.eprint(told.as_str());
     }
 }

@@ -4,15 +4,15 @@ ghost use Rattle.std.specs.Prelude.{◌≡◌};
 ghost use Rattle.ec_cli_command.specs.Words.{JobFits, job_of};
 
 use crate::ending::tell_given;
+use crate::job::FAILED;
 use crate::output::{Output, refuse_line, refuse_text, tell_untold};
 use crate::progress::{Progress, Telling};
 use crate::refusal::tell_refusal;
-use crate::targets::Target;
-use crate::telling::{tell, tell_fault, tell_whole};
-use crate::units::Kept;
+use crate::units::Recorder;
 use ec_cli_answers::Told;
 use ec_cli_explain::misread;
-use ec_cli_files::{FileFault, write_whole};
+use ec_cli_files::{FileFault, Folders, write_whole};
+use ec_cli_paths::{Target, tell, tell_fault, tell_whole};
 use ec_cli_refusals::Refusal;
 use ec_cli_run::do_line;
 use ec_cli_words::Words;
@@ -143,7 +143,7 @@ fn refusal_of(fault: &FileFault) -> Refusal {
 }
 
 /// Writes the capture file of a play. The refusal where it can't; tells why.
-fn write_capture<H: Files + AllocGlobal + Eprint>(
+fn write_capture<H: Folders + AllocGlobal + Eprint>(
     rt: &H,
     target: Target<'_>,
     bytes: &[u8],
@@ -168,11 +168,11 @@ fn write_text<H: Files + AllocGlobal + Eprint + Print>(
     if let (Some(target), Some(_)) = (target, untold) {
         tell_whole(rt, target);
     }
-    if written.is_ok() { 0 } else { 4 }
+    if written.is_ok() { 0 } else { FAILED }
 }
 
 /// Writes what comes of a play, its capture file first. The status.
-fn write_played<H: Files + AllocGlobal + Eprint + Print>(
+fn write_played<H: Folders + AllocGlobal + Eprint + Print>(
     rt: &H,
     target: Option<Target<'_>>,
     played: &Played,
@@ -187,9 +187,9 @@ fn write_played<H: Files + AllocGlobal + Eprint + Print>(
 
 /// Does the job of a play on its units, and tells and writes what comes of it as the words say. The status.
 pub(crate) fn do_trial<
-    H: Files + AllocGlobal + Eprint + Print + Clock + Threads + Wait + Sync,
+    H: Folders + AllocGlobal + Eprint + Print + Clock + Threads + Wait + Sync,
     R: Read,
->(rt: &H, words: &Words, target: Option<Target<'_>>, kept: &mut Kept<'_, R>) -> u8
+>(rt: &H, words: &Words, target: Option<Target<'_>>, recorder: &mut Recorder<'_, R>) -> u8
     requires { JobFits (job_of words.now.line) }
 {
     let line = &words.line;
@@ -199,16 +199,16 @@ pub(crate) fn do_trial<
         rt,
         rt.alloc(),
         line,
-        &mut Io::new(&mut *kept),
+        &mut Io::new(&mut *recorder),
         &mut Io::new(io::sink()),
         &progress,
     );
-    let left = kept.left();
-    let units = left.units(rt.alloc());
+    let record = recorder.record();
+    let units = record.units(rt.alloc());
     match try_told(rt.alloc(), words, units.as_ref(), report.told) {
         Ok(played) => {
             let code = write_played(rt, target, &played);
-            tell(rt, misread(rt.alloc(), left.text));
+            tell(rt, misread(rt.alloc(), record.text));
             if let Some(units) = &units {
                 tell_given(rt, line, &played.plan, units);
             }
@@ -216,12 +216,12 @@ pub(crate) fn do_trial<
         }
         Err(TrialFault::Station(text)) => {
             let code = refuse_text(rt, text.as_str());
-            tell(rt, misread(rt.alloc(), left.text));
+            tell(rt, misread(rt.alloc(), record.text));
             code
         }
         Err(TrialFault::Refused(refusal)) => {
             let code = refuse_line(rt, refusal);
-            tell_refusal(rt, &refusal, line.cert(), None, left);
+            tell_refusal(rt, &refusal, line.cert(), None, record);
             code
         }
     }

@@ -1,7 +1,7 @@
 //! The units that a job reads: opened first, and kept for what is told afterwards.
 
 use crate::output::refuse_line;
-use crate::telling::tell_unread;
+use ec_cli_paths::tell_unread;
 use ec_cli_refusals::Refusal;
 use ec_unit_text::{MOST_BYTES, read_units};
 use ec_units::Units;
@@ -11,15 +11,15 @@ use std::rt::Files;
 use std::{fs, io};
 
 /// The most bytes of a unit text that are read, and one, by which a longer one shows.
-pub(crate) const MOST_TEXT: usize = MOST_BYTES + 1;
+const MOST_TEXT: usize = MOST_BYTES + 1;
 
 /// What is told where the units come on standard input and that is closed.
 const CLOSED: &str = "The units cannot be read: standard input is closed.\n";
 
-/// What is left of the units: their path if they have one, the front of what was read, whether anything was, and why their reading
+/// What was recorded of the units: their path if they have one, the front of what was read, whether anything was, and why their reading
 /// failed.
 #[derive(Clone, Copy)]
-pub(crate) struct Left<'a> {
+pub(crate) struct Record<'a> {
     pub path: Option<&'a str>,
     pub text: &'a [u8],
     /// Whether anything was read.
@@ -27,7 +27,7 @@ pub(crate) struct Left<'a> {
     pub fault: Option<io::Error>,
 }
 
-impl Left<'_> {
+impl Record<'_> {
     /// The units that the text says; none where it is refused, or memory is wanting.
     pub(crate) fn units(self, alloc: Global) -> Option<Units> {
         read_units(alloc, self.text).ok()
@@ -59,7 +59,7 @@ impl Front {
 /// A reader of units at a path, if they have one, the front of what passed through it, and why it failed at last. It reads and
 /// tells what the one inside does.
 #[derive(Drop)]
-pub(crate) struct Kept<'a, R> {
+pub(crate) struct Recorder<'a, R> {
     path: Option<&'a str>,
     inner: R,
     front: Front,
@@ -67,10 +67,10 @@ pub(crate) struct Kept<'a, R> {
     fault: Option<io::Error>,
 }
 
-impl<'a, R> Kept<'a, R> {
+impl<'a, R> Recorder<'a, R> {
     /// This reader, of which nothing was read yet.
-    pub(crate) fn new(alloc: Global, path: &'a Option<String>, inner: R) -> Kept<'a, R> {
-        Kept {
+    pub(crate) fn new(alloc: Global, path: &'a Option<String>, inner: R) -> Recorder<'a, R> {
+        Recorder {
             path: path.as_deref(),
             inner,
             front: Front {
@@ -82,9 +82,9 @@ impl<'a, R> Kept<'a, R> {
         }
     }
 
-    /// What is left of the units.
-    pub(crate) fn left(&self) -> Left<'_> {
-        Left {
+    /// What was recorded so far.
+    pub(crate) fn record(&self) -> Record<'_> {
+        Record {
             path: self.path,
             text: self.front.bytes.as_slice(),
             came: self.came,
@@ -93,8 +93,8 @@ impl<'a, R> Kept<'a, R> {
     }
 }
 
-impl<'a, R: Read> Read for Kept<'a, R> {
-    ghost remaining = { λ kept. R.remaining kept.inner };
+impl<'a, R: Read> Read for Recorder<'a, R> {
+    ghost remaining = { λ recorder. R.remaining recorder.inner };
 
     fn read(&mut self, buf: &mut [u8]) -> io::Result<usize> {
         match self.inner.read(buf) {

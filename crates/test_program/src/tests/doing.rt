@@ -7,6 +7,7 @@ use super::late::{add_calls, add_failed, add_file};
 use super::threes::Threes;
 use super::words::asked;
 use ec_cli_command::Line;
+use ec_cli_files::Folders;
 use ec_cli_run::do_line;
 use ec_cli_words::Asked;
 use ec_text_builder::Draft;
@@ -51,7 +52,7 @@ impl<'a> Read for Counted<'a> {
 }
 
 /// Adds what is written for a line and these units, with the status, and how often the units were read.
-fn add_done<R: Files + AllocGlobal + Threads + Wait + Sync>(
+fn add_done<R: Folders + AllocGlobal + Threads + Wait + Sync>(
     out: &mut Draft,
     rt: &R,
     line: &Line,
@@ -77,7 +78,7 @@ fn add_done<R: Files + AllocGlobal + Threads + Wait + Sync>(
 }
 
 /// Adds what a line of words is answered with, for these units.
-fn add_answer<R: Files + AllocGlobal + Threads + Wait + Sync>(
+fn add_answer<R: Folders + AllocGlobal + Threads + Wait + Sync>(
     out: &mut Draft,
     rt: &R,
     line: &str,
@@ -91,7 +92,7 @@ fn add_answer<R: Files + AllocGlobal + Threads + Wait + Sync>(
 }
 
 /// Adds what a line of words is answered with, for the units that always meet; behind `placed` for them with their places.
-fn add_line<R: Files + AllocGlobal + Threads + Wait + Sync>(out: &mut Draft, rt: &R, line: &str) {
+fn add_line<R: Folders + AllocGlobal + Threads + Wait + Sync>(out: &mut Draft, rt: &R, line: &str) {
     match line.strip_prefix("placed ") {
         Some(line) => add_answer(out, rt, line, PLACED),
         None => add_answer(out, rt, line, MEETING),
@@ -99,7 +100,7 @@ fn add_line<R: Files + AllocGlobal + Threads + Wait + Sync>(out: &mut Draft, rt:
 }
 
 /// What lines of words, parted by ` = `, are answered with.
-fn answers_to<R: Files + AllocGlobal + Threads + Wait + Sync>(
+fn answers_to<R: Folders + AllocGlobal + Threads + Wait + Sync>(
     rt: &R,
     lines: &str,
 ) -> Result<String, AllocError> {
@@ -121,7 +122,11 @@ fn add_same(out: &mut Draft, text: &str) {
 }
 
 /// Tells whether two lines of words have the same answer.
-fn add_alike<R: Files + AllocGlobal + Threads + Wait + Sync>(out: &mut Draft, rt: &R, lines: &str) {
+fn add_alike<R: Folders + AllocGlobal + Threads + Wait + Sync>(
+    out: &mut Draft,
+    rt: &R,
+    lines: &str,
+) {
     match answers_to(rt, lines) {
         Ok(text) => add_same(out, text.as_str()),
         Err(AllocError) => out.give_up(),
@@ -161,7 +166,7 @@ fn remove<R: Files>(out: &mut Draft, rt: &R, path: &str) {
 }
 
 /// Adds a step and what comes of it: what a line of words is answered with, or what one of the words below does.
-fn add_step<R: Files + AllocGlobal + Threads + Wait + Sync>(out: &mut Draft, rt: &R, step: &str) {
+fn add_step<R: Folders + AllocGlobal + Threads + Wait + Sync>(out: &mut Draft, rt: &R, step: &str) {
     out.add(format_args!("> {step}\n"));
     let (word, rest) = step.split_once(' ').unwrap_or((step, ""));
     match word {
@@ -179,7 +184,7 @@ fn add_step<R: Files + AllocGlobal + Threads + Wait + Sync>(out: &mut Draft, rt:
 }
 
 /// A text whose lines behind `> ` are steps, with what comes of each below it: the same steps with what comes of them now.
-fn told_again<R: Files + AllocGlobal + Threads + Wait + Sync>(
+fn told_again<R: Folders + AllocGlobal + Threads + Wait + Sync>(
     rt: &R,
     text: &str,
 ) -> Result<String, AllocError> {

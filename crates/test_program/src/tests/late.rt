@@ -1,6 +1,6 @@
 //! A file that is made when it is first written.
 
-use ec_cli_files::{Content, Late};
+use ec_cli_files::{Content, Folders, Late};
 use ec_text_builder::Draft;
 use ec_wire::Io;
 use std::fs;
@@ -36,7 +36,7 @@ fn add_call<W: Write>(out: &mut Draft, late: &mut W, call: &str) {
 }
 
 /// Whether a file took its place, whatever stood there.
-fn is_settled<F: Files>(late: Late<'_, F>) -> bool {
+fn is_settled<F: Folders>(late: Late<'_, F>) -> bool {
     match late.finish() {
         Ok(Some(whole)) => whole.settle(|_| None).is_ok(),
         Ok(None) => true,
@@ -46,7 +46,7 @@ fn is_settled<F: Files>(late: Late<'_, F>) -> bool {
 
 /// Tells what the file at a path holds before the first of some calls, parted by `|`, after each, and once the file took its
 /// place.
-pub(super) fn add_calls<R: Files + AllocGlobal, F: Files>(
+pub(super) fn add_calls<R: Files + AllocGlobal, F: Folders>(
     out: &mut Draft,
     rt: &R,
     files: &F,

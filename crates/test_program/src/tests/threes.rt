@@ -1,5 +1,6 @@
 //! Files that take three bytes a call.
 
+use ec_cli_files::Folders;
 use std::alloc::Allocator;
 use std::fs::{Files, Metadata, OpenFile, OpenOptions, Permissions};
 use std::io;
@@ -148,5 +149,13 @@ impl<'a, F: Files> Files for Threes<'a, F> {
 
     fn bind_unix(&self, socket: BorrowedFd<'_>, addr: &SocketAddr) -> io::Result<()> {
         self.files.bind_unix(socket, addr)
+    }
+}
+
+impl<'a, F: Folders> Folders for Threes<'a, F> {
+    type Held = F::Held;
+
+    fn hold(&self, folder: &str) -> Option<F::Held> {
+        self.files.hold(folder)
     }
 }

@@ -1,4 +1,4 @@
-//! What is told on standard error of paths. Where memory is wanting, or standard error takes nothing, nothing is told.
+//! What is told on standard error of paths.
 
 use crate::targets::Target;
 use ec_cert_text::MOST_BYTES;
@@ -16,11 +16,18 @@ const NOT_PERMITTED: i32 = 1;
 /// A folder or a file gives no access.
 const NO_ACCESS: i32 = 13;
 
+/// Why no file can be made beside a path: each name that is tried is taken.
+const NO_NAME: &str =
+    "A file for each name that is tried lies beside it, from .part to .part999: take away those that nobody needs";
+
+/// Why nothing can be read from the word that stands for standard input elsewhere.
+const NO_STREAM: &str = "No such file, since - stands for standard input for the units alone";
+
 /// A name is too long.
 const LONG_NAME: i32 = 36;
 
 /// Tells some sentences, with nothing in them but what a terminal shows as it stands.
-pub(crate) fn tell<R: AllocGlobal + Eprint>(rt: &R, sentences: Result<String, AllocError>) {
+pub fn tell<R: AllocGlobal + Eprint>(rt: &R, sentences: Result<String, AllocError>) {
     let Ok(sentences) = sentences else {
         return;
     };
@@ -40,8 +47,9 @@ fn path_text<W: Display + Drop>(
     format!(in alloc; "{words} {path}.\n{why}.\n")
 }
 
-/// Why the system refuses to read or to write a path; of a link that leads nowhere that it is one.
-pub(crate) fn reason_at<R: Files + AllocGlobal>(
+/// Why the system refuses to read or to write a path; of a link that leads nowhere that it is one, of a word that is no path that it is
+/// none, and where no name is free for a new file that this is so.
+pub fn reason_at<R: Files + AllocGlobal>(
     rt: &R,
     path: &str,
     why: io::Error,
@@ -50,11 +58,17 @@ pub(crate) fn reason_at<R: Files + AllocGlobal>(
     if why.kind() == ErrorKind::NotFound && leads_nowhere {
         return String::from_str(rt.alloc(), "It is a link to a file that isn't there");
     }
+    if why.kind() == ErrorKind::NotFound && path == "-" {
+        return String::from_str(rt.alloc(), NO_STREAM);
+    }
+    if why.kind() == ErrorKind::AlreadyExists && why.raw_os_error().is_none() {
+        return String::from_str(rt.alloc(), NO_NAME);
+    }
     why.to_string(rt.alloc())
 }
 
 /// Tells that the units at a path can't be read, and why.
-pub(crate) fn tell_unread<R: Files + AllocGlobal + Eprint>(rt: &R, path: &str, why: io::Error) {
+pub fn tell_unread<R: Files + AllocGlobal + Eprint>(rt: &R, path: &str, why: io::Error) {
     if let Ok(reason) = reason_at(rt, path, why) {
         tell_path(rt, "The units cannot be read from", path, reason);
     }
@@ -73,7 +87,7 @@ pub(crate) fn more_on(why: io::Error) -> &'static str {
 }
 
 /// Tells a sentence that ends with a path, and why.
-pub(crate) fn tell_path<R: AllocGlobal + Eprint, W: Display + Drop>(
+pub fn tell_path<R: AllocGlobal + Eprint, W: Display + Drop>(
     rt: &R,
     words: &str,
     path: &str,
@@ -92,7 +106,7 @@ fn whole_text(alloc: Global, content: Content, path: &str) -> Result<String, All
 }
 
 /// Tells that a whole file lies at its path. What is no file, as a pipe, isn't told.
-pub(crate) fn tell_whole<R: Files + AllocGlobal + Eprint>(rt: &R, target: Target<'_>) {
+pub fn tell_whole<R: Files + AllocGlobal + Eprint>(rt: &R, target: Target<'_>) {
     let Target { path, content, .. } = target;
     if fs::metadata(rt, path).is_ok_and(|found| found.is_file()) {
         tell(rt, whole_text(rt.alloc(), content, path));
@@ -154,10 +168,6 @@ fn fault_text<R: Files + AllocGlobal>(
 }
 
 /// Tells why a file isn't at its path, and where it lies.
-pub(crate) fn tell_fault<R: Files + AllocGlobal + Eprint>(
-    rt: &R,
-    target: Target<'_>,
-    fault: &FileFault,
-) {
+pub fn tell_fault<R: Files + AllocGlobal + Eprint>(rt: &R, target: Target<'_>, fault: &FileFault) {
     tell(rt, fault_text(rt, target, fault));
 }

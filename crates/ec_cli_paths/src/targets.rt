@@ -11,7 +11,7 @@ use std::rt::Files;
 
 /// A path to write, and what is written there.
 #[derive(Clone, Copy)]
-pub(crate) struct Target<'a> {
+pub struct Target<'a> {
     pub path: &'a str,
     pub content: Content,
     /// Whether it is the file that the units come from.
@@ -19,10 +19,10 @@ pub(crate) struct Target<'a> {
 }
 
 /// What is written: the file of the job, and what is written after its text.
-pub(crate) type Targets<'a> = [Option<Target<'a>>; 4];
+pub type Targets<'a> = [Option<Target<'a>>; 4];
 
 /// A path to write, if it is there.
-pub(crate) fn target_at(path: &Option<String>, content: Content) -> Option<Target<'_>> {
+pub fn target_at(path: &Option<String>, content: Content) -> Option<Target<'_>> {
     Some(Target {
         path: path.as_deref()?,
         content,
@@ -52,7 +52,7 @@ fn places_at<'a, H: Files + AllocGlobal>(
 }
 
 /// What the words of a line write.
-pub(crate) fn targets_of<'a, H: Files + AllocGlobal>(rt: &H, words: &'a Words) -> Targets<'a> {
+pub fn targets_of<'a, H: Files + AllocGlobal>(rt: &H, words: &'a Words) -> Targets<'a> {
     match &words.line {
         Line::Cost { svg, .. } => [None, target_at(svg, Content::Picture), None, None],
         Line::Plan { out, places, .. } | Line::Resume { out, places, .. } => [
@@ -83,10 +83,17 @@ pub(crate) fn targets_of<'a, H: Files + AllocGlobal>(rt: &H, words: &'a Words) -
     }
 }
 
-/// That something is to be written to an empty path.
+/// Why something is to be written to what is no path: to an empty one, or to the word that stands for a stream elsewhere.
 fn nameless_text(alloc: Global, target: Target<'_>) -> Result<String, AllocError> {
     let name = target.content.as_str();
-    format!(in alloc; "The path of the {name} is empty: give one, or leave the option out.\n")
+    if target.path.is_empty() {
+        return format!(in alloc;
+            "The path of the {name} is empty: give one, or leave the option out.\n"
+        );
+    }
+    format!(in alloc;
+        "The path of the {name} is -, and standard output has the text: give a path, or ./- for a file of that name.\n"
+    )
 }
 
 /// That what stands at a path is left as it is, and why.
@@ -101,10 +108,10 @@ fn kept_text(alloc: Global, target: Target<'_>, why: KeepReason) -> Result<Strin
     format!(in alloc; "The {name} {is} not written over the file {path}.\n{why}.\n")
 }
 
-/// Whether nothing may be written to a path: it is empty, or what stands there is left as it is; tells why. The units' own file is judged
+/// Whether nothing may be written to a path: it is empty or -, or what stands there is left as it is; tells why. The units' own file is judged
 /// as the units are, and kept only where standard output or standard error goes to it.
 fn is_kept<H: Files + AllocGlobal + Eprint>(rt: &H, target: Target<'_>) -> bool {
-    if target.path.is_empty() {
+    if matches!(target.path, "" | "-") {
         tell(rt, nameless_text(rt.alloc(), target));
         return true;
     }
@@ -164,10 +171,7 @@ fn has_same<H: Files + AllocGlobal + Eprint>(rt: &H, targets: &[Option<Target<'_
 
 /// Whether all that is to be written may be: none of the paths is one whose file is left as it is, and no two are one. Tells
 /// what is wrong. The file of `--places` may be the units' own.
-pub(crate) fn may_write<H: Files + AllocGlobal + Eprint>(
-    rt: &H,
-    targets: &[Option<Target<'_>>],
-) -> bool {
+pub fn may_write<H: Files + AllocGlobal + Eprint>(rt: &H, targets: &[Option<Target<'_>>]) -> bool {
     let is_any_kept = targets.iter().flatten().any(|target| is_kept(rt, *target));
     !is_any_kept && !has_same(rt, targets)
 }
@@ -199,7 +203,7 @@ fn try_target<H: Files + AllocGlobal + Eprint>(
 }
 
 /// Tells which paths can't be written, before a search begins.
-pub(crate) fn try_targets<H: Files + AllocGlobal + Eprint>(
+pub fn try_targets<H: Files + AllocGlobal + Eprint>(
     rt: &H,
     targets: &Targets<'_>,
 ) -> Result<(), AllocError> {

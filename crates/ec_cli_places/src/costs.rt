@@ -1,6 +1,6 @@
 //! What plans cost, and whether a unit text that stands has a better one.
 
-use crate::units::MOST_TEXT;
+use crate::placed::MOST_TEXT;
 use ec_cli_files::read_file;
 use ec_cli_text::placed_plan;
 use ec_loads::{Plan, busiest, is_legal};
@@ -11,13 +11,13 @@ use std::io::ErrorKind;
 use std::rt::Files;
 
 /// What the busiest tick of a plan costs, in wire bytes, if the plan is legal.
-pub(crate) fn legal_cost(units: &Units, plan: &Plan) -> Option<u64> {
+pub fn legal_cost(units: &Units, plan: &Plan) -> Option<u64> {
     is_legal(units, plan).ok()?;
     Some(busiest(units, plan).0)
 }
 
 /// What the busiest tick of the units' own places costs, in wire bytes, if each unit has one and the plan is legal.
-pub(crate) fn placed_cost(alloc: Global, units: &Units) -> Option<u64> {
+pub fn placed_cost(alloc: Global, units: &Units) -> Option<u64> {
     legal_cost(units, &placed_plan(alloc, units).ok()?)
 }
 

@@ -32,7 +32,7 @@ fn tell_taken<H: AllocGlobal + Eprint>(rt: &H, path: Option<&str>, why: &str) {
 
 /// Whether standard output goes to the file at a path, or without one to that of standard input, which is read; tells that. The text
 /// would stand in what is read then.
-pub(crate) fn takes_text<H: Files + AllocGlobal + Eprint>(rt: &H, path: Option<&str>) -> bool {
+pub fn takes_text<H: Files + AllocGlobal + Eprint>(rt: &H, path: Option<&str>) -> bool {
     let at = path.unwrap_or(STDIN);
     let Ok(found) = fs::metadata(rt, at) else {
         return false;

@@ -2,23 +2,10 @@
 
 use std::alloc::{AllocError, Global};
 
-/// Whether a line says the phase or the slot of a unit, and nothing beside it.
-fn is_place(line: &[u8]) -> bool {
-    let key = line.split(|byte| *byte == b'=').next().unwrap_or(line);
-    !line.contains(&b'#') && matches!(key.trim_ascii(), b"phase" | b"slot")
-}
-
 /// Whether two unit texts differ in places alone, in blanks at the ends of their lines, in empty lines, or not at all.
 pub(crate) fn differ_in_places(one: &[u8], other: &[u8]) -> bool {
-    let mut others = other
-        .split(|byte| *byte == b'\n')
-        .filter(|line| !is_place(*line))
-        .map(<[u8]>::trim_ascii_end);
-    let lines = one
-        .split(|byte| *byte == b'\n')
-        .filter(|line| !is_place(*line))
-        .map(<[u8]>::trim_ascii_end);
-    for line in lines {
+    let mut others = other.split(|byte| *byte == b'\n').map(kept_part);
+    for line in one.split(|byte| *byte == b'\n').map(kept_part) {
         if !line.is_empty() && others.find(|other| !other.is_empty()) != Some(line) {
             return false;
         }
@@ -28,7 +15,7 @@ pub(crate) fn differ_in_places(one: &[u8], other: &[u8]) -> bool {
 
 /// Lines of a text that another one hasn't.
 #[derive(Clone, Copy)]
-pub(crate) struct Others<'a> {
+pub struct Others<'a> {
     /// How many they are.
     pub count: usize,
     /// The number of the first one, from 1.
@@ -67,7 +54,7 @@ fn sorted_lines(alloc: Global, text: &[u8]) -> Result<Vec<(&[u8], usize)>, Alloc
 }
 
 /// The lines of a unit text that another one hasn't, or hasn't as often, but for what other places change.
-pub(crate) fn others_in<'a>(
+pub fn others_in<'a>(
     alloc: Global,
     one: &'a [u8],
     other: &[u8],

@@ -1,0 +1,93 @@
+//! What the lines of a certificate say before its tree.
+
+use crate::telling::tell;
+use ec_cli_explain::quoted_path;
+use ec_cli_files::read_file;
+use ec_units::{Units, bytes_of};
+use std::alloc::{AllocError, Global};
+use std::fmt::Write as _;
+use std::rt::Files;
+
+/// Before its tree a certificate has at most so many bytes: those of 48 units and of their places.
+const MOST_HEAD: u64 = 8192;
+
+/// How the certificate of a search by the strong rules begins.
+const STRONG: &[u8] = b"ecplan 4\n";
+
+/// How the line begins that says the level, a number, of a certificate without a proof.
+const LEVEL: &[u8] = b"\nlevel ";
+
+/// The line behind which the nodes stand.
+const TREE: &[u8] = b"\ntree\n";
+
+/// The lines of a certificate before its tree, and perhaps some of that.
+#[derive(Drop)]
+pub(crate) struct Head(Vec<u8>);
+
+impl Head {
+    /// Those of the certificate at a path, if they can be read.
+    pub(crate) fn at<H: Files + AllocGlobal>(rt: &H, path: &str) -> Option<Head> {
+        Some(Head(read_file(rt, rt.alloc(), path, MOST_HEAD).ok()??))
+    }
+
+    /// Whether it is one of a search by the strong rules.
+    pub(crate) fn is_strong(&self) -> bool {
+        self.0.starts_with(STRONG)
+    }
+
+    /// Whether it has a level, and so is no proof.
+    pub(crate) fn has_level(&self) -> bool {
+        self.0.windows(LEVEL.len() + 1).any(|words| words.starts_with(LEVEL)
+            && words.last().is_some_and(|byte| byte.is_ascii_digit()))
+    }
+
+    /// Whether it has no level before its tree, and so is a proof.
+    fn is_proof(&self) -> bool {
+        !self.has_level() && self.0.windows(TREE.len()).any(|words| words == TREE)
+    }
+
+    /// What stands behind its version; none where it doesn't begin as a certificate does.
+    fn rest(&self) -> Option<&[u8]> {
+        let rest = self.0.strip_prefix(b"ecplan ")?;
+        let at = rest.iter().position(|byte| !byte.is_ascii_digit())?;
+        rest.get(at..).filter(|rest| rest.starts_with(b"\nslots "))
+    }
+}
+
+/// Whether the certificate at a path, which was found right, is a proof: it has no level.
+pub fn is_proof<H: Files + AllocGlobal>(rt: &H, path: &str) -> bool {
+    Head::at(rt, path).is_some_and(|head| head.is_proof())
+}
+
+/// The lines of a certificate that say its slots and its units, and how the next one begins, behind the end of the first line.
+fn unit_lines(alloc: Global, units: &Units) -> Result<String, AllocError> {
+    let mut lines = format!(in alloc; "\nslots {}\n", units.slots)?;
+    for unit in units.units.as_slice() {
+        let (name, bytes, period) = (unit.name.as_str(), bytes_of(unit), unit.period);
+        write!(lines, "unit {name} {bytes} {period}\n")?;
+    }
+    lines.push_str("order ")?;
+    Ok(lines)
+}
+
+/// That a certificate of other units is replaced.
+fn others_text(alloc: Global, path: &str, is_proof: bool) -> Result<String, AllocError> {
+    let path = quoted_path(alloc, path)?;
+    let what = if is_proof { "a proof" } else { "a certificate" };
+    format!(in alloc;
+        "{path} holds {what} of other units, and this run may put its own there: give another --out to keep it.\n"
+    )
+}
+
+/// Tells, before a run that writes a certificate to a path, that one of other units stands there, if one does.
+pub fn tell_other_units<H: Files + AllocGlobal + Eprint>(rt: &H, path: &str, units: &Units) {
+    let Some(head) = Head::at(rt, path) else {
+        return;
+    };
+    let (Some(rest), Ok(lines)) = (head.rest(), unit_lines(rt.alloc(), units)) else {
+        return;
+    };
+    if !rest.starts_with(lines.as_bytes()) {
+        tell(rt, others_text(rt.alloc(), path, head.is_proof()));
+    }
+}

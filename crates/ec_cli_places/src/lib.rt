@@ -1,0 +1,12 @@
+//! Unit texts with places: made of a plan, and compared with the one that stands where they are to be.
+#![tactic(auto)]
+
+mod costs;
+mod lines;
+mod placed;
+mod standing;
+
+pub use costs::{legal_cost, placed_cost};
+pub use lines::{Others, others_in};
+pub use placed::{PlacedFault, placed_text, unfit_text};
+pub use standing::{Placing, reason_to_stay, standing_text};

@@ -1,0 +1,66 @@
+//! What is told before a run that takes long, since it shows then already.
+
+use crate::line::places_of;
+use ec_cli_command::Line;
+use ec_cli_files::{are_one, read_file};
+use ec_cli_paths::{tell_other_units, tell_path};
+use ec_cli_places::unfit_text;
+use ec_unit_text::{MOST_BYTES, read_units};
+use std::rt::Files;
+
+/// What is told before the path of a text that can't have places, while a search goes on.
+const UNPLACEABLE: &str =
+    "A search tells its plan all the same, but the places cannot be written to";
+
+/// What a run writes that is made of its units: a certificate and a unit text with places.
+#[derive(Clone, Copy)]
+pub(crate) struct Written<'a> {
+    pub cert: Option<&'a str>,
+    pub places: Option<&'a str>,
+}
+
+impl<'a> Written<'a> {
+    /// What a line writes. A certificate that takes the place of the one that it goes on with is one of these units, or none is
+    /// written.
+    pub(crate) fn of<H: Files>(rt: &H, line: &'a Line) -> Written<'a> {
+        let (Line::Plan { out, .. } | Line::Resume { out, .. }) = line else {
+            return Written {
+                cert: None,
+                places: None,
+            };
+        };
+        let is_other = |path: &&str| line
+            .cert()
+            .is_none_or(|cert| !are_one(rt, cert.as_str(), *path));
+        Written {
+            cert: out.as_deref().filter(is_other),
+            places: places_of(line),
+        }
+    }
+}
+
+/// Tells, before a run, that the units at a path can't have places, and that a certificate of other units stands where one is to be
+/// written. Nothing of units that are refused, or can't be read twice.
+pub(crate) fn tell_of_units<H: Files + AllocGlobal + Eprint>(
+    rt: &H,
+    units: &Option<String>,
+    written: Written<'_>,
+) {
+    let Some(path) = units.as_deref() else {
+        return;
+    };
+    let Ok(Some(text)) = read_file(rt, rt.alloc(), path, MOST_BYTES as u64 + 1) else {
+        return;
+    };
+    let Ok(units) = read_units(rt.alloc(), text.as_slice()) else {
+        return;
+    };
+    if let Some(to) = written.places
+        && let Some(why) = unfit_text(rt.alloc(), text.as_slice(), &units)
+    {
+        tell_path(rt, UNPLACEABLE, to, why);
+    }
+    if let Some(cert) = written.cert {
+        tell_other_units(rt, cert, &units);
+    }
+}
