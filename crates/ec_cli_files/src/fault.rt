@@ -15,7 +15,8 @@ pub enum FileFault {
     Aside { at: String, why: io::Error },
     /// It is whole and lies at another path, since what stands at its own is kept, for this reason.
     Kept { at: String, why: KeepReason },
-    /// It is whole and lies at another path, since it has so many bytes that no command reads it.
+    /// It is whole and lies at another path, since it has so many bytes that no command reads it, and a file stands at its
+    /// own.
     TooLarge { at: String, bytes: u64 },
     /// It is whole and at its path, but whether it lasts isn't known: the folder couldn't be synced.
     Unsynced { why: io::Error },

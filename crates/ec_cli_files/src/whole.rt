@@ -53,6 +53,11 @@ pub struct Whole<'a, F: Files> {
     pub(crate) bytes: u64,
 }
 
+/// Whether a file that isn't empty stands at a path.
+fn is_filled<F: Files>(files: &F, path: &str) -> bool {
+    fs::metadata(files, path).is_ok_and(|found| found.len() > 0)
+}
+
 impl<'a, F: Files> Whole<'a, F> {
     /// What stands at the path now; none where nothing does.
     pub fn seen(&self) -> Option<Seen> {
@@ -135,7 +140,8 @@ impl<'a, F: Folders> Whole<'a, F> {
         Err(self.leave(KeepReason::Changing))
     }
 
-    /// Lets the file take its place, and then syncs the folder, which is held no longer. One that no command reads takes no place.
+    /// Lets the file take its place, and then syncs the folder, which is held no longer. One that no command reads
+    /// doesn't take the place of another.
     fn take_place(self, held: Option<F::Held>) -> Result<(), FileFault> {
         let Whole {
             files,
@@ -146,7 +152,7 @@ impl<'a, F: Folders> Whole<'a, F> {
             ..
         } = self;
         let path = path.as_str();
-        if content == Content::Certificate && bytes > MOST_BYTES as u64 {
+        if content == Content::Certificate && bytes > MOST_BYTES as u64 && is_filled(files, path) {
             return Err(FileFault::TooLarge { at: name, bytes });
         }
         let renamed = fs::rename(files, name.as_str(), path);
