@@ -84,7 +84,7 @@ fn tell_version(out: &mut Draft, inputs: &Inputs<'_>) {
     ));
     match inputs.cert {
         None => out.add(".\n"),
-        Some(cert) if cert.trim_ascii().is_empty() => out.add(": it is empty.\n"),
+        Some([]) => out.add(": it is empty.\n"),
         Some(cert) => {
             out.add(". It begins:\n");
             add_line(out, cert, 0);
@@ -108,17 +108,18 @@ fn is_end(cert: &[u8], line: usize) -> bool {
 
 /// Adds what a line, from 0, of a certificate should be, by its fault.
 fn add_wanted(out: &mut Draft, inputs: &Inputs<'_>, text: &[u8], line: usize, fault: CertFault) {
-    let is_due = !matches!(fault, CertFault::Late(_) | CertFault::TooDeep(_));
+    let is_behind = line.checked_sub(1).is_some_and(|last| is_end(text, last));
+    let is_due = !is_behind && !matches!(fault, CertFault::Late(_) | CertFault::TooDeep(_));
     if let Some(cert) = CertText::of(inputs).filter(|_| is_due) {
         let (form, note) = cert.wanted_at(line);
         out.add(format_args!("Due there: {form}.\n{note}"));
     }
     out.add(match fault {
+        CertFault::Early(_) | CertFault::Late(_) if is_behind =>
+            "The last line is end, behind the tree, and nothing follows it.\n",
         CertFault::Early(_) if is_end(text, line) && text.ends_with(b"\n") => CHANGED,
         CertFault::Early(_) =>
             "Was the file cut off? Each line ends with a line feed, also the last.\n",
-        CertFault::Late(_) if line.checked_sub(1).is_some_and(|last| is_end(text, last)) =>
-            "The last line is end, behind the tree, and nothing follows it.\n",
         CertFault::Late(_) =>
             "Due there: end.\nThis line was added or changed, or one of the tree above it, perhaps far above.\n",
         _ => "",

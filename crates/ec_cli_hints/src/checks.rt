@@ -65,15 +65,15 @@ fn add_outlook(out: &mut Draft, alloc: Global, units: &[u8]) {
 
 /// Tells that a certificate holds no plan.
 pub(crate) fn tell_no_plan(out: &mut Draft, alloc: Global, inputs: &Inputs<'_>) {
-    let is_partial = CertText::of(inputs).map(CertText::is_partial);
-    let why = match is_partial {
+    let is_open = CertText::of(inputs).map(CertText::is_open);
+    let why = match is_open {
         Some(true) => "is that of a search that has found no plan so far",
         Some(false) => "shows that there is no plan",
         None => "holds no plan",
     };
     let name = CertName(inputs.cert_path);
     out.add(format_args!("{name} is right, and {why}: there is nothing to tell.\n"));
-    if is_partial == Some(true) {
+    if is_open == Some(true) {
         add_outlook(out, alloc, inputs.units);
     }
 }

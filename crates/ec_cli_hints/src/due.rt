@@ -2,6 +2,9 @@
 
 use crate::inputs::Inputs;
 
+/// A certificate has so many units at most.
+const MOST_UNITS: usize = 48;
+
 /// The text of a certificate.
 #[derive(Clone, Copy)]
 pub(crate) struct CertText<'a> {
@@ -95,6 +98,11 @@ impl<'a> CertText<'a> {
         self.version >= 3 && self.line(self.level_line()) != Some("level none")
     }
 
+    /// Whether it has a level, and a leaf of its tree is open.
+    pub(crate) fn is_open(self) -> bool {
+        self.is_partial() && self.text.split('\n').any(|line| line == "O")
+    }
+
     /// Whether its tree is whole before a line.
     fn is_whole(self, line: usize) -> bool {
         let mut missing = 1usize;
@@ -111,6 +119,9 @@ impl<'a> CertText<'a> {
             0 => Due::Form("ecplan 1, ecplan 2, ecplan 3 or ecplan 4"),
             1 => Due::Form("slots S, S 1 to 8"),
             2 => Due::Form("unit NAME BYTES PERIOD, BYTES 1 to 1486, PERIOD 1 to 60"),
+            _ if line == MOST_UNITS + 2 && self.units >= MOST_UNITS => Due::Form(
+                "order I I .. (each unit once, from 0), since a certificate has at most 48 units",
+            ),
             _ if line <= self.order_line() => Due::Form(
                 "unit NAME BYTES PERIOD (1 to 1486, 1 to 60), or order I I .. (each unit once, from 0)",
             ),
