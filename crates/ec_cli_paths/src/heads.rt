@@ -70,13 +70,17 @@ fn unit_lines(alloc: Global, units: &Units) -> Result<String, AllocError> {
     Ok(lines)
 }
 
-/// That a certificate of other units is replaced.
-fn others_text(alloc: Global, path: &str, is_proof: bool) -> Result<String, AllocError> {
+/// That what is of other units is replaced, at the path of an option.
+fn others_text(alloc: Global, path: &str, what: &str, option: &str) -> Result<String, AllocError> {
     let path = quoted_path(alloc, path)?;
-    let what = if is_proof { "a proof" } else { "a certificate" };
     format!(in alloc;
-        "{path} holds {what} of other units, and this run may put its own there: give another --out to keep it.\n"
+        "{path} holds {what} of other units, and this run may put its own there: give another {option} to keep it.\n"
     )
+}
+
+/// Tells, before a run that writes a unit text to a path, that one of other units stands there.
+pub fn tell_other_text<H: AllocGlobal + Eprint>(rt: &H, path: &str) {
+    tell(rt, others_text(rt.alloc(), path, "a text", "--places"));
 }
 
 /// Tells, before a run that writes a certificate to a path, that one of other units stands there, if one does.
@@ -88,6 +92,11 @@ pub fn tell_other_units<H: Files + AllocGlobal + Eprint>(rt: &H, path: &str, uni
         return;
     };
     if !rest.starts_with(lines.as_bytes()) {
-        tell(rt, others_text(rt.alloc(), path, head.is_proof()));
+        let what = if head.is_proof() {
+            "a proof"
+        } else {
+            "a certificate"
+        };
+        tell(rt, others_text(rt.alloc(), path, what, "--out"));
     }
 }

@@ -78,7 +78,9 @@ fn room_text(alloc: Global, room: Room<'_>, is_asked: bool) -> Result<String, Al
     match (nodes, is_asked) {
         (0, true) => format!(in alloc; "{front}One that goes on with it may have more.\n"),
         (0, false) => {
-            format!(in alloc; "{front}So none goes on with it: give --nodes, or leave --out out.\n")
+            format!(in alloc;
+                "{front}So none goes on with it: give --nodes, leave --out out, or begin anew, with --strong or without.\n"
+            )
         }
         (_, true) => {
             format!(in alloc;

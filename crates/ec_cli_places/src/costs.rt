@@ -1,5 +1,13 @@
 //! What plans cost, and whether a unit text that stands has a better one.
 
+ghost use Rattle.std.specs.Prelude.{◌≡◌, List, IfSome, None};
+ghost use Rattle.ec_units.specs.declared.slave.Place.{Place};
+ghost use Rattle.ec_units.specs.Views.{units_view};
+ghost use Rattle.ec_loads.specs.Cost.{plan_items, IsBusiest};
+ghost use Rattle.ec_loads.specs.Legal.{IsLegal};
+ghost use Rattle.ec_units.specs.Load.{loads_of};
+ghost use Rattle.ec_cli_text.specs.Plans.{IsPlacedPlan};
+
 use crate::placed::MOST_TEXT;
 use ec_cli_files::read_file;
 use ec_cli_text::placed_plan;
@@ -11,13 +19,21 @@ use std::io::ErrorKind;
 use std::rt::Files;
 
 /// What the busiest tick of a plan costs, in wire bytes, if the plan is legal.
-pub fn legal_cost(units: &Units, plan: &Plan) -> Option<u64> {
-    is_legal(units, plan).ok()?;
-    Some(busiest(units, plan).0)
+pub fn legal_cost(units: &Units, plan: &Plan) -> Option<u64>
+    ensures legal { IfSome result (λ b. IsLegal (loads_of units.now.units) units.now.slots plan.now.places) }
+    ensures busiest { IfSome result (λ b. IsBusiest (plan_items (loads_of units.now.units) plan.now.places) units.now.slots b) }
+    ensures none { result ≡ None → ¬ (IsLegal (loads_of units.now.units) units.now.slots plan.now.places) }
+{
+    match is_legal(units, plan) {
+        Ok(()) => Some(busiest(units, plan).0),
+        Err(_) => None,
+    }
 }
 
 /// What the busiest tick of the units' own places costs, in wire bytes, if each unit has one and the plan is legal.
-pub fn placed_cost(alloc: Global, units: &Units) -> Option<u64> {
+pub fn placed_cost(alloc: Global, units: &Units) -> Option<u64>
+    ensures { IfSome result (λ b. (places : List Place) × IsPlacedPlan (units_view units.now) places × IsBusiest (plan_items (loads_of units.now.units) places) units.now.slots b) }
+{
     legal_cost(units, &placed_plan(alloc, units).ok()?)
 }
 

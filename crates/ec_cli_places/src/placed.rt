@@ -1,5 +1,8 @@
 //! A unit text with other places.
 
+ghost use Rattle.std.specs.Prelude.{string_bytes, IfOk};
+ghost use Rattle.ec_unit_rewrite.specs.Placing.{IsPlacedText};
+
 use ec_unit_rewrite::{PlacingFault, place_text};
 use ec_unit_text::MOST_BYTES;
 use ec_units::{Place, Units};
@@ -24,7 +27,9 @@ pub enum PlacedFault {
 }
 
 /// A unit text that was found right, with these places.
-pub fn placed_text(alloc: Global, units: &[u8], places: &[Place]) -> Result<String, PlacedFault> {
+pub fn placed_text(alloc: Global, units: &[u8], places: &[Place]) -> Result<String, PlacedFault>
+    ensures { IfOk result (λ placed. IsPlacedText units.now places.now (string_bytes placed)) }
+{
     if units.is_empty() {
         return Err(PlacedFault::OutOfMemory);
     }

@@ -78,6 +78,14 @@ pub fn reason_to_stay<F: Files>(
     }
 }
 
+/// Whether a unit text stands at a path in which each unit has a place, and which isn't one of these units (own profile).
+pub fn holds_others<F: Files>(files: &F, alloc: Global, path: &str, units: &Units) -> bool {
+    match standing_at(files, alloc, path) {
+        Ok(Some(Standing { units: held, .. })) => !lacks_place(&held) && !are_alike(&held, units),
+        _ => false,
+    }
+}
+
 /// The unit text that stands at a path, if one does that can be read (own profile).
 pub fn standing_text<F: Files>(files: &F, alloc: Global, path: &str) -> Option<Vec<u8>> {
     let Standing { text, .. } = standing_at(files, alloc, path).ok()??;

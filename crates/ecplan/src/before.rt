@@ -3,9 +3,10 @@
 use crate::line::places_of;
 use ec_cli_command::Line;
 use ec_cli_files::{are_one, read_file};
-use ec_cli_paths::{tell_other_units, tell_path};
-use ec_cli_places::unfit_text;
+use ec_cli_paths::{tell_other_text, tell_other_units, tell_path};
+use ec_cli_places::{holds_others, unfit_text};
 use ec_unit_text::{MOST_BYTES, read_units};
+use ec_units::Units;
 use std::rt::Files;
 
 /// What is told before the path of a text that can't have places, while a search goes on.
@@ -39,8 +40,17 @@ impl<'a> Written<'a> {
     }
 }
 
-/// Tells, before a run, that the units at a path can't have places, and that a certificate of other units stands where one is to be
-/// written. Nothing of units that are refused, or can't be read twice.
+/// Tells, before a run, that a text can't have places, or that one of other units stands where it is to be written with them.
+fn tell_of_places<H: Files + AllocGlobal + Eprint>(rt: &H, text: &[u8], units: &Units, to: &str) {
+    match unfit_text(rt.alloc(), text, units) {
+        Some(why) => tell_path(rt, UNPLACEABLE, to, why),
+        None if holds_others(rt, rt.alloc(), to, units) => tell_other_text(rt, to),
+        None => {}
+    }
+}
+
+/// Tells, before a run, that the units at a path can't have places, and that a text or a certificate of other units stands where one is to
+/// be written. Nothing of units that are refused, or can't be read twice.
 pub(crate) fn tell_of_units<H: Files + AllocGlobal + Eprint>(
     rt: &H,
     units: &Option<String>,
@@ -55,10 +65,8 @@ pub(crate) fn tell_of_units<H: Files + AllocGlobal + Eprint>(
     let Ok(units) = read_units(rt.alloc(), text.as_slice()) else {
         return;
     };
-    if let Some(to) = written.places
-        && let Some(why) = unfit_text(rt.alloc(), text.as_slice(), &units)
-    {
-        tell_path(rt, UNPLACEABLE, to, why);
+    if let Some(to) = written.places {
+        tell_of_places(rt, text.as_slice(), &units, to);
     }
     if let Some(cert) = written.cert {
         tell_other_units(rt, cert, &units);
