@@ -20,23 +20,13 @@ use std::collections::VecDeque;
 use std::sync::Wait;
 
 /// So many frames are under way at most.
-pub(crate) const WINDOW: u32 = 128;
+pub(crate) const WINDOW: u32 = 512;
 
 /// Frames are sent once no more than so many are under way, so that threads find many at a time.
 const LOW: u32 = WINDOW / 2;
 
-/// While ticks are sent, the thread behind the ring is woken after the first one, and then once for so many.
-const NUDGE: u32 = 16;
-
 /// A tick has at most so many frames, one in each slot.
 const MOST_IN_TICK: u32 = 8;
-
-/// Wakes the thread at a place, once for so many ticks.
-fn nudge(seat: Seat<'_>, tick: u32) {
-    if tick % NUDGE == 1 {
-        seat.wake();
-    }
-}
 
 /// The frames that were sent and aren't judged yet, by tick; the first tick whose frames aren't sent; and how many frames were
 /// sent in all, with those of the start.
@@ -104,7 +94,7 @@ impl Ahead {
         Ok(())
     }
 
-    /// Sends frames of ticks below `ticks`, as long as at most 128 are under way, and those of one tick in any case. So many frames
+    /// Sends frames of ticks below `ticks`, as long as at most 512 are under way, and those of one tick in any case. So many frames
     /// came back.
     fn fill<R: Wait>(
         &mut self,
@@ -128,7 +118,6 @@ impl Ahead {
     {
         while self.tick < ticks && !self.is_full(number) {
             self.send_tick(rt, alloc, first, spare, seat, units, mapping, image)?;
-            nudge(seat, self.tick);
         }
         Ok(())
     }

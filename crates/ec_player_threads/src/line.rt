@@ -20,7 +20,7 @@ use std::sync::Wait;
 use std::thread::{PromisedHandle, Scope, Threads};
 
 /// Frames that a ring has room for: all that are under way, so that sending never waits for what comes back.
-pub(crate) const RING: usize = 128;
+pub(crate) const RING: usize = 512;
 
 /// The thread of a slave, with what it promises.
 pub(crate) type Handle<X> = PromisedHandle<Back<X>, Carried<X>>;

@@ -80,7 +80,7 @@ fn play_in<'s, E, X: Pass + Send + Drop + 's, R: Threads + Wait + Sync>(
 }
 
 /// Plays a plan as `play_plain` does, with a thread for each slave (own profile, after ETG.1000.4, clause 5.4): rings lead from the
-/// calling thread through the slaves, in file order, and back. Ticks are sent ahead, so that up to 128 frames are under way, and each
+/// calling thread through the slaves, in file order, and back. Ticks are sent ahead, so that up to 512 frames are under way, and each
 /// frame is judged as it comes back. After the first faulty frame no more is sent. All threads are joined. There are at most 16
 /// slaves; ticks and image are as for `play_plain`.
 ///
