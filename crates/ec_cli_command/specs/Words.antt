@@ -63,6 +63,18 @@ out_of (line.Check cert) = None
 out_of (line.Frames cert pcap header table report) = pcap
 out_of (line.Play cert) = None
 
+-- what its search may take
+abbrev pub effort_of : Line → Option Effort
+effort_of (line.Plan effort strong out places) = Some effort
+effort_of (line.Resume cert effort part out places) = Some effort
+effort_of _ = None
+
+-- the path of the units with the places of its plan
+abbrev pub places_of : Line → Option (String Global)
+places_of (line.Plan effort strong out places) = places
+places_of (line.Resume cert effort part out places) = places
+places_of _ = None
+
 -- the job searches for nothing
 abbrev pub IsPlain : Job → Type 0
 IsPlain (job.Plan workers nodes strong) = ⊥

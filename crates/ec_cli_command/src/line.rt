@@ -1,7 +1,7 @@
 //! Command lines.
 
 ghost use Rattle.std.specs.Prelude.{◌≡◌, ◌≤◌, option_map};
-ghost use Rattle.ec_cli_command.specs.Words.{JobFits, cert_of, job_of, limited, out_of};
+ghost use Rattle.ec_cli_command.specs.Words.{JobFits, cert_of, effort_of, job_of, limited, out_of, places_of};
 
 use crate::job::Job;
 use ec_cert::Part;
@@ -132,6 +132,28 @@ impl Line {
             Line::Plan { out, .. } | Line::Resume { out, .. } => out.as_ref(),
             Line::Frames { pcap, .. } => pcap.as_ref(),
             Line::Cost { .. } | Line::Check { .. } | Line::Play { .. } => None,
+        }
+    }
+
+    /// What the search may take, if the line asks for one.
+    pub fn effort(&self) -> Option<Effort>
+        ensures { result ≡ effort_of self.now }
+    {
+        match self {
+            Line::Plan { effort, .. } | Line::Resume { effort, .. } => Some(*effort),
+            Line::Cost { .. } | Line::Check { .. } | Line::Frames { .. } | Line::Play { .. } =>
+                None,
+        }
+    }
+
+    /// The path to which a search writes the units with the places of its plan, if it writes them.
+    pub fn places(&self) -> Option<&String>
+        ensures { option_map (λ path. path.now) result ≡ places_of self.now }
+    {
+        match self {
+            Line::Plan { places, .. } | Line::Resume { places, .. } => places.as_ref(),
+            Line::Cost { .. } | Line::Check { .. } | Line::Frames { .. } | Line::Play { .. } =>
+                None,
         }
     }
 }

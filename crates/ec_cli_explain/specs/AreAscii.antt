@@ -1,8 +1,8 @@
 -- Where what is told of is ASCII.
 use Rattle.std.specs.Prelude.{IsAscii, ⊤, IfSome}
-use Rattle.ec_cli_hints.specs.declared.advising.Filed.{Filed}
-use Rattle.ec_cli_hints.specs.declared.advising.Filed.TheVariants as filed
-use Rattle.ec_cli_hints.specs.declared.inputs.Inputs.{Inputs}
+use Rattle.ec_cli_search_hints.specs.declared.advising.Filed.{Filed}
+use Rattle.ec_cli_search_hints.specs.declared.advising.Filed.TheVariants as filed
+use Rattle.ec_cli_spots.specs.declared.inputs.Inputs.{Inputs}
 
 -- the units of a refusal and its paths are
 abbrev pub AreAscii : Inputs → Type 0

@@ -6,8 +6,10 @@ ghost use Rattle.ec_cli_explain.specs.IsShown.{IsShown};
 ghost use Rattle.ec_cli_explain.specs.AreAscii.{AreAscii, HasAsciiPath};
 
 use crate::plain::{plain_text, shown_text};
-use ec_cli_hints::{Asked, Cycle, Filed, Found, Inputs, counsel, remarks};
+use crate::telling::remarks;
 use ec_cli_refusals::Refusal;
+use ec_cli_search_hints::{Asked, Cycle, Filed, Found, counsel};
+use ec_cli_spots::Inputs;
 use std::alloc::{AllocError, Global};
 
 /// Whether a path, if there is one, is ASCII.

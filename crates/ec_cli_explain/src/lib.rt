@@ -2,11 +2,13 @@
 #![tactic(auto)]
 
 mod explaining;
+mod paths;
 mod plain;
 mod sheet;
+mod telling;
 
-pub use ec_cli_hints::{
-    Again, Asked, Cycle, Filed, Found, Inputs, Written, misread, quoted_path, room_beside,
-};
+pub use ec_cli_search_hints::{Again, Asked, Cycle, Filed, Found, Written, room_beside};
+pub use ec_cli_spots::{Inputs, quoted_path};
+pub use ec_cli_unit_hints::{misread, unset_areas};
 pub use explaining::{advice, explain};
 pub use plain::{plain_text, shown_text};

@@ -4,7 +4,7 @@ ghost use Rattle.std.specs.Prelude.{◌≡◌, true, string_bytes};
 ghost use Rattle.std.proofs.Props.{props};
 ghost use Rattle.ec_cli_explain.specs.IsShown.{IsShown, is_told};
 
-use ec_cli_hints::PIECE;
+use ec_cli_spots::PIECE;
 use std::alloc::{AllocError, Global};
 
 /// The longest line that is told, in columns, but for a piece that is told whole.

@@ -6,7 +6,7 @@ ghost use Rattle.ec_cli_command.specs.Words.{JobFits, job_of};
 use crate::heads::Head;
 use crate::telling::tell;
 use ec_cert_text::MOST_BYTES;
-use ec_cli_command::{Effort, Line};
+use ec_cli_command::Line;
 use ec_cli_explain::{quoted_path, room_beside};
 use ec_cli_files::are_one;
 use std::alloc::{AllocError, Global};
@@ -18,23 +18,6 @@ use std::rt::Files;
 struct Room<'a> {
     nodes: u64,
     beside: Option<(&'a str, u64)>,
-}
-
-/// What a search may take, if it searches and writes a certificate.
-fn written_effort(line: &Line) -> Option<Effort> {
-    match line {
-        Line::Plan {
-            effort,
-            out: Some(_),
-            ..
-        }
-        | Line::Resume {
-            effort,
-            out: Some(_),
-            ..
-        } => Some(*effort),
-        _ => None,
-    }
 }
 
 /// The room beside the certificate at a path, unless it isn't a file, is too large to be read, or is a proof: no search goes on with these.
@@ -84,7 +67,7 @@ fn room_text(alloc: Global, room: Room<'_>, is_asked: bool) -> Result<String, Al
         }
         (_, true) => {
             format!(in alloc;
-                "{front}That of more than {nodes} nodes may have more: give --nodes {nodes} or less.\n"
+                "{front}With more than {nodes} nodes the new one may have more, and no command reads it: give --nodes {nodes} or less.\n"
             )
         }
         (_, false) => {
@@ -120,7 +103,7 @@ fn tell_replaced<H: Files + AllocGlobal + Eprint>(rt: &H, line: &Line) {
 
 /// How many nodes leave a certificate that can be read of the search of a line, where it would visit more; tells that.
 fn most_nodes<H: Files + AllocGlobal + Eprint>(rt: &H, line: &Line, is_asked: bool) -> Option<u32> {
-    let effort = written_effort(line)?;
+    let effort = line.effort().filter(|_| line.out().is_some())?;
     let room = room_of(rt, line)?;
     if u64::from(effort.nodes) <= room.nodes {
         return None;

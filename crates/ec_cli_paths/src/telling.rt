@@ -80,7 +80,7 @@ pub(crate) fn more_on(why: io::Error) -> &'static str {
         Some(NOT_PERMITTED) =>
             "The file that stands there has an owner or a group that this user cannot give to a new one, or it may not be replaced at all.\n",
         Some(NO_ACCESS) =>
-            "It is made beside its path first: its folder has to take new files, and a file that stands there to be writable.\n",
+            "Its folder has to be writable, since it is made there first, and so has the file, if one is there.\n",
         Some(LONG_NAME) => "While it is made .part stands behind its name: give a shorter one.\n",
         _ => "",
     }

@@ -32,7 +32,7 @@ pub fn legal_cost(units: &Units, plan: &Plan) -> Option<u64>
 
 /// What the busiest tick of the units' own places costs, in wire bytes, if each unit has one and the plan is legal.
 pub fn placed_cost(alloc: Global, units: &Units) -> Option<u64>
-    ensures { IfSome result (λ b. (places : List Place) × IsPlacedPlan (units_view units.now) places × IsBusiest (plan_items (loads_of units.now.units) places) units.now.slots b) }
+    ensures { IfSome result (λ b. (places : List Place) × IsPlacedPlan (units_view units.now) places × IsLegal (loads_of units.now.units) units.now.slots places × IsBusiest (plan_items (loads_of units.now.units) places) units.now.slots b) }
 {
     legal_cost(units, &placed_plan(alloc, units).ok()?)
 }

@@ -7,6 +7,6 @@ mod placed;
 mod standing;
 
 pub use costs::{legal_cost, placed_cost};
-pub use lines::{Others, others_in};
+pub use lines::others_in;
 pub use placed::{PlacedFault, placed_text, unfit_text};
 pub use standing::{Placing, holds_others, reason_to_stay, standing_text};

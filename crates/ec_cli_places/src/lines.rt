@@ -13,16 +13,6 @@ pub(crate) fn differ_in_places(one: &[u8], other: &[u8]) -> bool {
     others.all(|other| other.is_empty())
 }
 
-/// Lines of a text that another one hasn't.
-#[derive(Clone, Copy)]
-pub struct Others<'a> {
-    /// How many they are.
-    pub count: usize,
-    /// The number of the first one, from 1.
-    pub number: usize,
-    pub first: &'a [u8],
-}
-
 /// Whether a line says the phase or the slot of a unit, whatever stands beside it.
 fn has_place(line: &[u8]) -> bool {
     let key = line.split(|byte| *byte == b'=').next().unwrap_or(line);
@@ -53,43 +43,25 @@ fn sorted_lines(alloc: Global, text: &[u8]) -> Result<Vec<(&[u8], usize)>, Alloc
     Ok(lines)
 }
 
-/// The lines of a unit text that another one hasn't, or hasn't as often, but for what other places change.
+/// The lines of a unit text that another one hasn't, or hasn't as often, but for what other places change: each with its number, from 1,
+/// in order.
 pub fn others_in<'a>(
     alloc: Global,
     one: &'a [u8],
     other: &[u8],
-) -> Result<Option<Others<'a>>, AllocError> {
+) -> Result<Vec<(usize, &'a [u8])>, AllocError> {
     let (lines, known) = (sorted_lines(alloc, one)?, sorted_lines(alloc, other)?);
     let mut left = known.as_slice();
-    let mut found: Option<Others<'a>> = None;
+    let mut found = Vec::new(alloc);
     for (line, number) in lines.as_slice() {
         let before = left.partition_point(|(known, _)| *known < *line);
         left = left.get(before..).unwrap_or(&[]);
         match left {
             [(known, _), rest @ ..] if *known == *line => left = rest,
             _ if line.is_empty() => {}
-            _ => found = Some(with_other(found, line, *number)),
+            _ => found.push((*number, *line))?,
         }
     }
+    found.sort_unstable();
     Ok(found)
-}
-
-/// The lines that were found so far, and one more.
-fn with_other<'a>(found: Option<Others<'a>>, line: &'a [u8], number: usize) -> Others<'a> {
-    let one = Others {
-        count: 1,
-        number,
-        first: line,
-    };
-    match found {
-        Some(others) if others.number < number => Others {
-            count: others.count.saturating_add(1),
-            ..others
-        },
-        Some(others) => Others {
-            count: others.count.saturating_add(1),
-            ..one
-        },
-        None => one,
-    }
 }

@@ -3,14 +3,13 @@
 ghost use Rattle.std.specs.Prelude.{◌≡◌};
 ghost use Rattle.ec_cli_refusals.specs.Memory.{text_memory, play_memory};
 ghost use Rattle.ec_cli_refusals.specs.Refusals.{refusal_code, out_of_memory};
-ghost use Rattle.ec_cli_refusals.specs.declared.refusal.Refusal.TheVariants.{Unit as UnitRefusal, Illegal as IllegalRefusal, Cert as CertRefusal, Solve as SolveRefusal, Write as WriteRefusal};
+ghost use Rattle.ec_cli_refusals.specs.declared.refusal.Refusal.TheVariants.{Unit as UnitRefusal, Illegal as IllegalRefusal, Cert as CertRefusal, Solve as SolveRefusal};
 
 use ec_cert_text::CertFault;
 use ec_checker::CheckFault;
 use ec_loads::Illegal;
 use ec_outcome::{PlayFault, PlayTextFault, SolveFault, TextFault};
 use ec_unit_text::UnitFault;
-use ec_wire::WriteFault;
 use std::alloc::{AllocError, AllocFailed};
 
 /// Why a run was refused.
@@ -102,14 +101,6 @@ impl From<SolveFault> for Refusal {
 
     fn from(fault: SolveFault) -> Refusal {
         Refusal::Solve(fault)
-    }
-}
-
-impl From<WriteFault> for Refusal {
-    ghost from_gives = { λ _ r. r ≡ WriteRefusal };
-
-    fn from(_fault: WriteFault) -> Refusal {
-        Refusal::Write
     }
 }
 

@@ -159,21 +159,13 @@ pub(crate) fn write_late<E, F: Folders>(
     }
 }
 
-/// What stands at the path of the certificate that a line reads, before it is read; none of a line that reads none.
-fn seen_of<F: Files>(files: &F, line: &Line) -> Option<Seen> {
-    Seen::at(files, line.cert()?.as_str())
-}
-
 /// Where the certificate of a line comes from.
 fn origin_of<F: Files>(files: &F, line: &Line) -> Origin {
-    let is_part = match line {
-        Line::Resume { part, .. } => part.count > 1,
-        _ => false,
+    let (from, is_part) = match line {
+        Line::Resume { cert, part, .. } => (Seen::at(files, cert.as_str()), part.count > 1),
+        _ => (None, false),
     };
-    Origin {
-        from: seen_of(files, line),
-        is_part,
-    }
+    Origin { from, is_part }
 }
 
 /// Does what a command line says, on these units and to this text.

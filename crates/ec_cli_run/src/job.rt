@@ -1,10 +1,10 @@
-//! The exit status of a run, and the line that refuses.
+//! The exit status of a run, and what refuses a job or words.
 
 ghost use Rattle.std.specs.Prelude.{◌≡◌, true, false};
 ghost use Rattle.std.specs.Io.KnownBytes.{Appends};
 ghost use Rattle.ec_wire.specs.Stream.{stream, has_failed, WritesFront};
 ghost use Rattle.ec_cli_inputs.specs.Use.{used};
-ghost use Rattle.ec_cli_run.specs.Runs.{Tells};
+ghost use Rattle.ec_cli_run.specs.Runs.{Tells, usage};
 ghost use Rattle.ec_cli_text.specs.Output.{refused};
 
 use ec_cli_refusals::{Refusal, refusal_line};
@@ -38,4 +38,12 @@ pub fn refuse<W: Write>(refusal: Refusal, text: &mut Io<W>) -> Status
 {
     let line = refusal_line(refusal);
     write_status(text, line.as_slice(), refusal.code())
+}
+
+/// Says why words are no command line, by this text, with status 5.
+pub fn refuse_words<W: Write>(out: &mut Io<W>, text: &str) -> Status
+    requires { has_failed out.old ≡ false }
+    ensures { Tells (λ w. w ≡ usage text.now) (used W.contents out.old out.new) result.code }
+{
+    write_status(out, text.as_bytes(), 5)
 }

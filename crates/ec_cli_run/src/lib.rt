@@ -11,10 +11,9 @@ mod misfits;
 mod older;
 mod reporting;
 mod running;
-mod usage;
 
 pub use doing::do_line;
-pub use job::{Status, refuse};
+pub use job::{Status, refuse, refuse_words};
 pub use law::{
     law_a_plan_is_true, law_a_resumed_plan_is_true, law_a_yes_is_true, law_answers_agree,
     law_one_capture_each, law_one_least_each, law_one_output_each,
@@ -22,4 +21,3 @@ pub use law::{
 pub use merging::{MergeFault, do_merge};
 pub use reporting::Report;
 pub use running::{run, run_plain};
-pub use usage::refuse_words;

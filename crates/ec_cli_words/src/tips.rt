@@ -27,22 +27,14 @@ fn word_in(text: &str) -> Option<&str> {
 }
 
 /// What is told of a word that is no option and that a command doesn't take, of which the text tells.
-fn tip_of_path(word: &str, text: &str) -> Option<&'static str> {
+fn tip_of_path(word: &str, text: &str) -> &'static str {
     let is_number = !word.is_empty() && word.bytes().all(|byte| byte.is_ascii_digit());
     if is_number && text.contains(" resume ") {
-        Some(PART_TIP)
+        PART_TIP
     } else if text.contains(" --cert <PATH>") {
-        Some(CERT_TIP)
+        CERT_TIP
     } else {
-        Some(PATH_TIP)
-    }
-}
-
-/// A tip, if there is one.
-fn owned(alloc: Global, tip: Option<&str>) -> Result<Option<String>, AllocError> {
-    match tip {
-        Some(tip) => Ok(Some(String::from_str(alloc, tip)?)),
-        None => Ok(None),
+        PATH_TIP
     }
 }
 
@@ -50,15 +42,16 @@ fn owned(alloc: Global, tip: Option<&str>) -> Result<Option<String>, AllocError>
 fn tip_for(alloc: Global, kind: ErrorKind, text: &str) -> Result<Option<String>, AllocError> {
     let first = text.lines().next().unwrap_or("");
     let word = word_in(text).unwrap_or("");
-    match kind {
-        ErrorKind::UnknownArgument if word.starts_with('-') => tip_of_option(alloc, word),
-        ErrorKind::UnknownArgument => owned(alloc, tip_of_path(word, text)),
-        ErrorKind::InvalidSubcommand => tip_of_command(alloc, word),
+    let tip = match kind {
+        ErrorKind::UnknownArgument if word.starts_with('-') => return tip_of_option(alloc, word),
+        ErrorKind::UnknownArgument => tip_of_path(word, text),
+        ErrorKind::InvalidSubcommand => return tip_of_command(alloc, word),
         ErrorKind::ValueValidation if first.ends_with(": invalid digit found in string") => {
-            owned(alloc, Some(NUMBER_TIP))
+            NUMBER_TIP
         }
-        _ => Ok(None),
-    }
+        _ => return Ok(None),
+    };
+    Ok(Some(String::from_str(alloc, tip)?))
 }
 
 /// The text with a tip behind its first line in place of those that it has, and else without how to give an option as a path, since it

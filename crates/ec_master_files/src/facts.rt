@@ -57,8 +57,8 @@ fn add_limits(page: &mut Draft, units: &Units, laid: &Laid<'_>) {
     );
     add_fact(
         page,
-        "Most bytes of datagrams in a frame",
-        format_args!("{MOST_PAYLOAD} bytes, 12 of each datagram beside its data"),
+        "A frame carries at most",
+        format_args!("{MOST_PAYLOAD} bytes of datagrams, each its data and 12 bytes"),
     );
 }
 

@@ -85,8 +85,9 @@ for each slave with outputs, and 1 for each slave with inputs.</p>
 /// What stands before the table of slaves.
 pub(crate) const SLAVES: &str = "</tbody></table></div>
 <h2>Slaves</h2>
-<p>In file order, which has to be the order on the cable. The record of the outputs is written to 0x0600 of the slave, that
-of the inputs to 0x0610. The last column is the working counter of the slave's group.</p>
+<p>In file order, numbered from 0. The start frames of ecplan find each slave by its position: where they are sent, the order on
+the cable has to be this one, with no other device, as a coupler, before or between the slaves. The record of the outputs is written
+to 0x0600 of the slave, that of the inputs to 0x0610. The last column is the working counter of the slave's group.</p>
 <div class=\"wide\"><table>
 <thead><tr><th>Slave</th><th>Unit</th><th>Station</th><th>Data</th><th>Bytes</th><th>Logical address</th>\
 <th>Begin in the image, bytes</th><th>Address in the slave</th><th>FMMU record</th><th>Group</th>\
@@ -96,8 +97,8 @@ of the inputs to 0x0610. The last column is the working counter of the slave's g
 /// What stands before the table of frames.
 pub(crate) const FRAMES: &str = "</table></div>
 <h2>Frames of each tick</h2>
-<p>A frame has a datagram for each of its groups, in this order. Its length is without preamble and frame check sequence;
-on the wire these and the gap are counted too.</p>
+<p>A frame has a datagram for each of its groups, in this order. Its length is 16 bytes of headers, and for each group its data and
+12 bytes, at least 60. On the wire these are 24 more: preamble, frame check sequence and gap.</p>
 <div class=\"wide\"><table>
 <thead><tr><th>Tick</th><th>All frames on the wire, bytes</th><th>Time, ns</th><th>Slot</th><th>Groups</th>\
 <th>Frame, bytes</th><th>Frame on the wire, bytes</th></tr></thead>

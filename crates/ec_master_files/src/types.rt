@@ -6,7 +6,7 @@ pub(crate) const HEAD: &str = "/* A plan of ecplan: tables for an EtherCAT maste
  * Version 1 of these tables. Lengths and offsets are bytes, times are ns or ticks.
  * Places in a table are counted from 0. Numbers are the host's; on the wire they have
  * their lowest byte first. INTEGRATING.md of ecplan says how to use the tables, and
- * FORMATS.md, \"Frames\", how a frame is made.
+ * FORMATS.md, \"Bytes of a frame\", how a frame is made.
  */
 ";
 
@@ -28,7 +28,7 @@ pub(crate) const NAMES: &str = "
 
 /// What stands before the table of the slaves.
 pub(crate) const SLAVE: &str = "
-/* A slave. The slaves stand in file order, which is their order on the cable. */
+/* A slave. The slaves stand in file order, and ecplan_starts finds them in this order. */
 struct ecplan_slave {
     const char *unit;    /* name of its unit */
     uint16_t station;    /* configured station address */
@@ -101,7 +101,8 @@ static const struct ecplan_tick ecplan_ticks[ECPLAN_TICKS] = {
 /// What stands before the table of the start frames.
 pub(crate) const START: &str = "};
 
-/* A frame that is sent before the first tick, with one datagram. */
+/* A frame that is sent before the first tick, with one datagram. These frames count the
+ * slaves and find them by position: on the cable there is no other device, as a coupler. */
 struct ecplan_start {
     uint32_t first;   /* its first byte: a place in ecplan_start_bytes */
     uint16_t bytes;   /* bytes without preamble and frame check sequence */

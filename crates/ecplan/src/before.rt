@@ -1,6 +1,5 @@
 //! What is told before a run that takes long, since it shows then already.
 
-use crate::line::places_of;
 use ec_cli_command::Line;
 use ec_cli_files::{are_one, read_file};
 use ec_cli_paths::{tell_other_text, tell_other_units, tell_path};
@@ -13,30 +12,14 @@ use std::rt::Files;
 const UNPLACEABLE: &str =
     "A search tells its plan all the same, but the places cannot be written to";
 
-/// What a run writes that is made of its units: a certificate and a unit text with places.
-#[derive(Clone, Copy)]
-pub(crate) struct Written<'a> {
-    pub cert: Option<&'a str>,
-    pub places: Option<&'a str>,
-}
-
-impl<'a> Written<'a> {
-    /// What a line writes. A certificate that takes the place of the one that it goes on with is one of these units, or none is
-    /// written.
-    pub(crate) fn of<H: Files>(rt: &H, line: &'a Line) -> Written<'a> {
-        let (Line::Plan { out, .. } | Line::Resume { out, .. }) = line else {
-            return Written {
-                cert: None,
-                places: None,
-            };
-        };
-        let is_other = |path: &&str| line
-            .cert()
-            .is_none_or(|cert| !are_one(rt, cert.as_str(), *path));
-        Written {
-            cert: out.as_deref().filter(is_other),
-            places: places_of(line),
-        }
+/// The path of the certificate that a search writes, unless it takes the place of the one that it goes on with: that is one of these units,
+/// or none is written.
+pub(crate) fn other_cert<'a, H: Files>(rt: &H, line: &'a Line) -> Option<&'a str> {
+    line.effort()?;
+    let out = line.out()?.as_str();
+    match line.cert() {
+        Some(cert) if are_one(rt, cert.as_str(), out) => None,
+        _ => Some(out),
     }
 }
 
@@ -49,12 +32,13 @@ fn tell_of_places<H: Files + AllocGlobal + Eprint>(rt: &H, text: &[u8], units: &
     }
 }
 
-/// Tells, before a run, that the units at a path can't have places, and that a text or a certificate of other units stands where one is to
-/// be written. Nothing of units that are refused, or can't be read twice.
+/// Tells, before a run that writes a certificate and a text with places to these paths, that the units at a path can't have places, and
+/// that a text or a certificate of other units stands there. Nothing of units that are refused, or can't be read twice.
 pub(crate) fn tell_of_units<H: Files + AllocGlobal + Eprint>(
     rt: &H,
     units: &Option<String>,
-    written: Written<'_>,
+    cert: Option<&str>,
+    places: Option<&String>,
 ) {
     let Some(path) = units.as_deref() else {
         return;
@@ -62,13 +46,16 @@ pub(crate) fn tell_of_units<H: Files + AllocGlobal + Eprint>(
     let Ok(Some(text)) = read_file(rt, rt.alloc(), path, MOST_BYTES as u64 + 1) else {
         return;
     };
+    if text.len() > MOST_BYTES {
+        return;
+    }
     let Ok(units) = read_units(rt.alloc(), text.as_slice()) else {
         return;
     };
-    if let Some(to) = written.places {
-        tell_of_places(rt, text.as_slice(), &units, to);
+    if let Some(to) = places {
+        tell_of_places(rt, text.as_slice(), &units, to.as_str());
     }
-    if let Some(cert) = written.cert {
+    if let Some(cert) = cert {
         tell_other_units(rt, cert, &units);
     }
 }

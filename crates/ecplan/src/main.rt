@@ -5,16 +5,11 @@
 ghost use Rattle.std.specs.Prelude.{IfOk};
 ghost use Rattle.ec_cli_words.specs.Merges.{AskedFits};
 
-mod after;
 mod before;
-mod ending;
 mod job;
-mod line;
 mod merging;
-mod others;
 mod output;
 mod progress;
-mod refusal;
 mod trial;
 mod units;
 

@@ -3,18 +3,18 @@
 ghost use Rattle.std.specs.Prelude.{◌≡◌};
 ghost use Rattle.ec_cli_words.specs.Merges.{MergingFits};
 
-use crate::before::{Written, tell_of_units};
-use crate::ending::{Done, Wanted, tell_end};
-use crate::job::{FAILED, Streams};
-use crate::output::{Output, refuse_line, tell_untold};
-use crate::refusal::tell_refusal;
+use crate::before::tell_of_units;
+use crate::job::Streams;
+use crate::output::{Output, refuse_line};
 use crate::units::{Recorder, open_units};
 use ec_cert_merge::Misfit;
+use ec_cli_answers::Told;
+use ec_cli_endings::{Done, FAILED, Wanted, tell_end, tell_refusal, tell_untold};
 use ec_cli_explain::{Again, Asked, quoted_path};
 use ec_cli_files::{Content, Folders};
 use ec_cli_paths::{Target, is_proof, may_write, takes_text, target_at, tell};
 use ec_cli_refusals::Refusal;
-use ec_cli_run::{MergeFault, Report, do_merge};
+use ec_cli_run::{MergeFault, do_merge};
 use ec_cli_words::Merging;
 use ec_wire::Io;
 use std::alloc::{AllocError, Global};
@@ -82,18 +82,18 @@ fn misfit_text<H: Files + AllocGlobal>(
 fn tell_merge<H: Files + AllocGlobal + Eprint>(
     rt: &H,
     merging: &Merging,
-    report: &Report<MergeFault>,
+    told: &Result<Told, MergeFault>,
     done: Done<'_>,
 ) {
     tell_untold(rt, done.untold);
-    match &report.told {
+    match told {
         Ok(told) => {
             let wanted = Wanted {
                 asked: Asked::Merged,
                 again: Again::usual(),
                 is_needed: true,
             };
-            tell_end(rt, told, report, done, Some(wanted));
+            tell_end(rt, told, done, Some(wanted));
         }
         Err(MergeFault::Refused(why)) => tell_refusal(rt, why, None, None, done.record),
         Err(MergeFault::Cert { number, why }) => {
@@ -115,11 +115,7 @@ fn merge_units<H: Folders + AllocGlobal + Eprint + Print, R: Read + Drop>(
     requires { MergingFits merging.now }
 {
     let mut recorder = Recorder::new(rt.alloc(), &merging.units, reader);
-    let written = Written {
-        cert: merging.out.as_deref(),
-        places: None,
-    };
-    tell_of_units(rt, &merging.units, written);
+    tell_of_units(rt, &merging.units, merging.out.as_deref(), None);
     let mut output = Output::new(rt, false);
     let report = do_merge(
         rt,
@@ -136,12 +132,12 @@ fn merge_units<H: Folders + AllocGlobal + Eprint + Print, R: Read + Drop>(
         asked: None,
         units: units.as_ref(),
         target,
+        fault: report.fault.as_ref(),
         untold: output.fault(),
-        is_kept: false,
-        is_missing: report.fault.is_some(),
+        code: report.status.code,
     };
-    tell_merge(rt, merging, &report, done);
-    report.status.code
+    tell_merge(rt, merging, &report.told, done);
+    done.code
 }
 
 /// Whether standard output goes to a file that is merged, or to that of the units; tells that.

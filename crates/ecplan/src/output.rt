@@ -1,8 +1,8 @@
 //! Standard output, and what is told where it takes no text.
 
 use crate::progress::BLANKS;
+use ec_cli_endings::tell_untold;
 use ec_cli_explain::shown_text;
-use ec_cli_paths::tell;
 use ec_cli_refusals::Refusal;
 use ec_cli_run::{refuse, refuse_words};
 use ec_unit_text::UnitFault;
@@ -60,20 +60,6 @@ impl<'a, H: Eprint + Print> io::Write for Output<'a, H> {
     }
 }
 
-/// The system's number of the error that a stream takes no bytes since it is closed, or opened for reading.
-const NOT_FOR_WRITING: i32 = 9;
-
-/// That a text isn't written, and why.
-fn untold_text(alloc: Global, why: io::Error) -> Result<String, AllocError> {
-    if why.raw_os_error() == Some(NOT_FOR_WRITING) {
-        return String::from_str(
-            alloc,
-            "The text cannot be written to standard output: it is closed, or opened for reading alone.\n",
-        );
-    }
-    format!(in alloc; "The text cannot be written to standard output: {why}.\n")
-}
-
 /// A text, with a sign in place of each of its control characters, if it has some.
 fn plain_words(alloc: Global, text: &str) -> Result<String, AllocError> {
     let has_control = text
@@ -83,13 +69,6 @@ fn plain_words(alloc: Global, text: &str) -> Result<String, AllocError> {
         return shown_text(alloc, text);
     }
     String::from_str(alloc, text)
-}
-
-/// Tells why a text isn't written, if it isn't.
-pub(crate) fn tell_untold<H: AllocGlobal + Eprint>(rt: &H, why: Option<io::Error>) {
-    if let Some(why) = why {
-        tell(rt, untold_text(rt.alloc(), why));
-    }
 }
 
 /// Refuses for want of memory; tells why, where it can't. The status.

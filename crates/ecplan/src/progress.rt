@@ -1,6 +1,5 @@
 //! The progress of a search, told on standard error while it runs.
 
-use crate::line::effort_of;
 use crossbeam_utils::CachePadded;
 use ec_cli_command::{Effort, Line, MOST_WORKERS};
 use ec_workers::Gate;
@@ -34,7 +33,7 @@ pub(crate) enum Telling {
 impl Telling {
     /// How the progress of a line is told: of a search alone, on a terminal, or where it is asked for.
     pub(crate) fn of(line: &Line, is_terminal: bool, is_asked: bool) -> Telling {
-        match effort_of(line) {
+        match line.effort() {
             Some(_) if is_terminal => Telling::Over,
             Some(_) if is_asked => Telling::Lines,
             _ => Telling::Nothing,
@@ -83,7 +82,7 @@ fn new_counts(alloc: Global, telling: Telling) -> Vec<CachePadded<AtomicU64>> {
 impl<'a, H: AllocGlobal + Eprint + Clock> Progress<'a, H> {
     /// The progress of a line, of which nothing was told yet.
     pub(crate) fn new(rt: &'a H, line: &Line, telling: Telling) -> Progress<'a, H> {
-        let effort = effort_of(line);
+        let effort = line.effort();
         Progress {
             rt,
             telling,

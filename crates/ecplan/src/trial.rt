@@ -3,13 +3,11 @@
 ghost use Rattle.std.specs.Prelude.{◌≡◌};
 ghost use Rattle.ec_cli_command.specs.Words.{JobFits, job_of};
 
-use crate::ending::tell_given;
-use crate::job::FAILED;
-use crate::output::{Output, refuse_line, refuse_text, tell_untold};
+use crate::output::{Output, refuse_line, refuse_text};
 use crate::progress::{Progress, Telling};
-use crate::refusal::tell_refusal;
 use crate::units::Recorder;
 use ec_cli_answers::Told;
+use ec_cli_endings::{FAILED, tell_given, tell_refusal, tell_untold};
 use ec_cli_explain::misread;
 use ec_cli_files::{FileFault, Folders, write_whole};
 use ec_cli_paths::{Target, tell, tell_fault, tell_whole};

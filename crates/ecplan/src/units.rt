@@ -1,10 +1,10 @@
 //! The units that a job reads: opened first, and kept for what is told afterwards.
 
 use crate::output::refuse_line;
+use ec_cli_endings::Record;
 use ec_cli_paths::tell_unread;
 use ec_cli_refusals::Refusal;
-use ec_unit_text::{MOST_BYTES, read_units};
-use ec_units::Units;
+use ec_unit_text::MOST_BYTES;
 use std::alloc::Global;
 use std::io::Read;
 use std::rt::Files;
@@ -15,24 +15,6 @@ const MOST_TEXT: usize = MOST_BYTES + 1;
 
 /// What is told where the units come on standard input and that is closed.
 const CLOSED: &str = "The units cannot be read: standard input is closed.\n";
-
-/// What was recorded of the units: their path if they have one, the front of what was read, whether anything was, and why their reading
-/// failed.
-#[derive(Clone, Copy)]
-pub(crate) struct Record<'a> {
-    pub path: Option<&'a str>,
-    pub text: &'a [u8],
-    /// Whether anything was read.
-    pub came: bool,
-    pub fault: Option<io::Error>,
-}
-
-impl Record<'_> {
-    /// The units that the text says; none where it is refused, or memory is wanting.
-    pub(crate) fn units(self, alloc: Global) -> Option<Units> {
-        read_units(alloc, self.text).ok()
-    }
-}
 
 /// The front of some bytes, up to a limit. Where memory runs out it keeps nothing any more.
 #[derive(Drop)]

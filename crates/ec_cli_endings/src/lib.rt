@@ -1,0 +1,18 @@
+//! What is told on standard error once a job is done, and the files that are written after its text.
+//!
+//! Nothing is known of what stands at a path, so no clause says what is told. Where memory is wanting, or standard error takes nothing,
+//! nothing is.
+#![tactic(auto)]
+
+mod after;
+mod ending;
+mod others;
+mod record;
+mod refusal;
+mod untold;
+
+pub use after::write_after;
+pub use ending::{Done, FAILED, Wanted, tell_end, tell_given, tell_line};
+pub use record::Record;
+pub use refusal::tell_refusal;
+pub use untold::tell_untold;

@@ -1,0 +1,116 @@
+//! Lines that the text of the units has and the unit text at a path of places has not, and the other way round.
+
+use crate::ending::Done;
+use ec_cli_explain::quoted_path;
+use ec_cli_files::{Content, KeepReason};
+use ec_cli_paths::{Target, tell};
+use ec_cli_places::{others_in, standing_text};
+use ec_text_builder::Draft;
+use std::alloc::{AllocError, Global};
+use std::rt::Files;
+
+/// What other lines mean for what is made of a text.
+const STALE: &str = "So frames of what stands there may be other ones.\n";
+
+/// The most lines that are told.
+const MOST_TOLD: usize = 24;
+
+/// What so many lines are called.
+fn lines_of(count: usize) -> &'static str {
+    match count {
+        1 => "a line",
+        _ => "lines",
+    }
+}
+
+/// Adds some lines of a text, each with its number.
+fn add_lines(out: &mut Draft, others: &[(usize, &[u8])]) {
+    for (number, line) in others.iter().take(MOST_TOLD) {
+        let line = std::str::from_utf8(*line).unwrap_or("");
+        out.add(format_args!("    line {number}: {line}\n"));
+    }
+    let more = others.len().saturating_sub(MOST_TOLD);
+    if more > 0 {
+        out.add(format_args!("    and {more} more\n"));
+    }
+}
+
+/// That these lines of the unit text that stood at a path are gone.
+fn gone_text(alloc: Global, path: &str, others: &[(usize, &[u8])]) -> Result<String, AllocError> {
+    let (path, lines) = (quoted_path(alloc, path)?, lines_of(others.len()));
+    let mut out = Draft::new(alloc);
+    out.add(format_args!("What stood at {path} had {lines} that the text of the units has not:\n"));
+    add_lines(&mut out, others);
+    out.add("What of them is still needed has to be written into that text.\n");
+    out.finish()
+}
+
+/// Adds that a text has these lines and the other hasn't.
+fn add_others(out: &mut Draft, lead: &str, others: &[(usize, &[u8])]) {
+    let lines = lines_of(others.len());
+    out.add(format_args!("{lead} has {lines} that the other has not:\n"));
+    add_lines(out, others);
+}
+
+/// How the unit text that stays at a path differs from the units' text in these lines of the one or of the other, or in their order.
+fn stale_text(
+    alloc: Global,
+    path: &str,
+    missing: &[(usize, &[u8])],
+    beside: &[(usize, &[u8])],
+) -> Result<String, AllocError> {
+    let path = quoted_path(alloc, path)?;
+    let mut out = Draft::new(alloc);
+    if !missing.is_empty() {
+        add_others(&mut out, "The text of the units", missing);
+    } else if !beside.is_empty() {
+        add_others(&mut out, "What stands there", beside);
+    } else {
+        out.add(format_args!(
+            "The lines of {path} stand in another order than those of the text of the units.\n"
+        ));
+    }
+    out.add(STALE);
+    out.finish()
+}
+
+/// What is told once places were written over the unit text that stands at a path, where it has lines that the units' text hasn't. Nothing
+/// where that can't be read, or memory runs out over it.
+pub(crate) fn gone_at<R: Files + AllocGlobal>(
+    rt: &R,
+    target: Target<'_>,
+    done: Done<'_>,
+) -> Option<String> {
+    if target.content != Content::Units || target.is_own {
+        return None;
+    }
+    let text = standing_text(rt, rt.alloc(), target.path)?;
+    let others = others_in(rt.alloc(), text.as_slice(), done.record.text).ok()?;
+    if others.is_empty() {
+        return None;
+    }
+    gone_text(rt.alloc(), target.path, others.as_slice()).ok()
+}
+
+/// How the unit text at a path differs from the units' text, as it is told.
+fn stale_at<R: Files + AllocGlobal>(rt: &R, target: Target<'_>, done: Done<'_>) -> Option<String> {
+    let alloc = rt.alloc();
+    let text = standing_text(rt, alloc, target.path)?;
+    let missing = others_in(alloc, done.record.text, text.as_slice()).ok()?;
+    let beside = others_in(alloc, text.as_slice(), done.record.text).ok()?;
+    stale_text(alloc, target.path, missing.as_slice(), beside.as_slice()).ok()
+}
+
+/// Tells how the unit text at a path differs from the units' text, where its cheaper places stay for this reason.
+pub(crate) fn tell_stale<R: Files + AllocGlobal + Eprint>(
+    rt: &R,
+    target: Target<'_>,
+    done: Done<'_>,
+    why: KeepReason,
+) {
+    if why == KeepReason::Cheaper
+        && let Some(text) = stale_at(rt, target, done)
+    {
+        tell(rt, Ok(text));
+    }
+}

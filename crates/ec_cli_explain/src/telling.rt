@@ -1,0 +1,70 @@
+//! What is told of each refusal.
+
+use crate::paths::{tell_read, tell_write};
+use ec_cli_cert_hints::{tell_cert, tell_check, tell_no_plan};
+use ec_cli_refusals::Refusal;
+use ec_cli_spots::{Doc, Inputs};
+use ec_cli_unit_hints::{add_marked, tell_illegal, tell_large, tell_no_place, tell_units};
+use ec_outcome::{PlayFault, SolveFault};
+use ec_text_builder::Draft;
+use std::alloc::{AllocError, Global};
+
+/// Tells what is refused, of units that are this document.
+fn tell(out: &mut Draft, inputs: &Inputs<'_>, doc: Doc<'_>, refusal: Refusal) {
+    match refusal {
+        Refusal::Unit(fault) => tell_units(out, inputs.units, doc, fault),
+        Refusal::Illegal(illegal) => tell_illegal(out, doc, illegal),
+        Refusal::TooLarge => tell_large(out, doc.text),
+        Refusal::NoPlace(unit) => tell_no_place(out, doc, unit),
+        Refusal::Read => tell_read(out, inputs),
+        Refusal::Cert(fault) => tell_cert(out, inputs, fault),
+        Refusal::Check(fault) => tell_check(out, inputs, doc, fault),
+        Refusal::Solve(SolveFault::OutOfMemory) => out.add(
+            "Memory ran out before the search began. Run it with more memory, or with fewer workers.\n",
+        ),
+        Refusal::Solve(SolveFault::Spawn) => out.add(
+            "No thread could be started for a worker. Run it with --workers 1, which needs none.\n",
+        ),
+        Refusal::Write => tell_write(out, inputs),
+        Refusal::CertHasNoPlan => tell_no_plan(out, doc.alloc, inputs),
+        Refusal::Play(PlayFault::OutOfMemory) => out.add(
+            "Memory ran out over the frames or the slaves. Run it with more memory.\n",
+        ),
+        Refusal::Play(PlayFault::Ring) => out.add(
+            "No ring of frames could be made between two threads, or one was lost. Run it again, with more memory.\n",
+        ),
+        Refusal::Play(PlayFault::Spawn) => out.add(
+            "No thread could be started for a slave: a play takes one for each of at most 16 slaves. Run it where that many may be started.\n",
+        ),
+        // Modelled slaves leave no faulty frame.
+        Refusal::Play(
+            PlayFault::Counter { .. }
+            | PlayFault::Frame(_)
+            | PlayFault::StartCounter { .. }
+            | PlayFault::Reply { .. },
+        ) => {}
+    }
+}
+
+/// What there is to tell of a refusal, in a few sentences, each a line. Names, keys, values and the letters of a line are quoted as they
+/// stand; of a control character and of another sign the bytes are told, as `\x1b`. Where the inputs aren't those of the refusal, or are
+/// missing, less is told. Only want of memory is an error (own profile).
+pub(crate) fn remarks(
+    alloc: Global,
+    refusal: &Refusal,
+    inputs: &Inputs<'_>,
+) -> Result<String, AllocError> {
+    let text = String::from_utf8_lossy(alloc, inputs.units)?;
+    let parsed = toml::table_from_slice(alloc, inputs.units);
+    let doc = Doc {
+        alloc,
+        text: text.as_str(),
+        top: parsed.as_ref().map_err(|error| *error),
+    };
+    let mut out = Draft::new(alloc);
+    if matches!(refusal, Refusal::Unit(_)) {
+        add_marked(&mut out, doc.text);
+    }
+    tell(&mut out, inputs, doc, *refusal);
+    out.finish()
+}

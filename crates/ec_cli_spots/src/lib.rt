@@ -1,0 +1,21 @@
+//! What a refused job had read, where its parts stand, and how they stand in a sentence.
+#![tactic(auto)]
+
+mod headers;
+mod illegal;
+mod inputs;
+mod label;
+mod lines;
+mod periods;
+mod quoted;
+
+pub use headers::{Header, first_header, header_line, header_of, line_named, name_of};
+pub use illegal::add_illegal;
+pub use inputs::{Doc, Fields, Inputs, bytes_of, slave_bytes};
+pub use label::{AtLine, In, Named, Pair};
+pub use lines::{line_at, position_of};
+pub use periods::{are_coprime, has_period, ticks_of};
+pub use quoted::{
+    Bytes, CertName, Coded, Letter, PIECE, PathPiece, Quoted, Shown, Word, is_shown, is_told_whole,
+    quoted_path,
+};

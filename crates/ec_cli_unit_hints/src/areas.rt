@@ -1,0 +1,49 @@
+//! Addresses of process bytes that a unit text doesn't give.
+
+use ec_cli_spots::{Doc, Fields, Named};
+use ec_text_builder::Draft;
+use ec_unit_text::Key;
+use std::alloc::{AllocError, Global};
+
+/// Whether a slave has bytes in a direction whose address isn't given.
+fn lacks_area(slave: Fields<'_>, is_input: bool) -> bool {
+    let bytes = if is_input {
+        Key::InBytes
+    } else {
+        Key::OutBytes
+    };
+    slave.number(bytes).unwrap_or(0) > 0 && !slave.has(Key::Area(is_input))
+}
+
+/// The first slave of a unit that lacks an address.
+fn first_in(doc: Doc<'_>, unit: usize) -> Option<usize> {
+    let mut slaves = doc.slaves(Some(unit)).iter().map(Fields::of);
+    slaves.position(|slave| lacks_area(slave, false) || lacks_area(slave, true))
+}
+
+/// The first slave of a line that lacks an address.
+fn first_of(doc: Doc<'_>) -> Option<Named<'_>> {
+    (0..doc.units().len()).find_map(|unit| {
+        let slave = first_in(doc, unit)?;
+        Some(Named(doc, unit, Some(slave)))
+    })
+}
+
+/// What there is to tell of a unit text that was found right, and gives some slaves no `out_at` or `in_at`: where their bytes are taken to
+/// lie. Only want of memory is an error (own profile).
+pub fn unset_areas(alloc: Global, units: &[u8]) -> Result<String, AllocError> {
+    let text = String::from_utf8_lossy(alloc, units)?;
+    let parsed = toml::table_from_slice(alloc, units);
+    let doc = Doc {
+        alloc,
+        text: text.as_str(),
+        top: parsed.as_ref().map_err(|error| *error),
+    };
+    let mut out = Draft::new(alloc);
+    if let Some(first) = first_of(doc) {
+        out.add(format_args!(
+            "Addresses out_at or in_at are not given, first of {first}.\nOutputs are then taken to begin at 0x1000, inputs at 0x2000, where few devices have them.\nThe description of a device (ESI) has these addresses, as StartAddress of its sync managers.\n"
+        ));
+    }
+    out.finish()
+}

@@ -1,0 +1,125 @@
+//! Places of units: out of range, half given, missing, or too many units in one slot.
+
+use ec_cli_spots::{Doc, Fields, In, Named, Pair, Quoted, add_illegal, are_coprime};
+use ec_loads::Illegal;
+use ec_text_builder::Draft;
+use ec_unit_text::{Key, Spot};
+use toml::Value;
+
+/// Adds that there can be more slots than the file has, if there can.
+fn add_more_slots(out: &mut Draft, doc: Doc<'_>) {
+    if let Some(slots @ 1..=7) = doc.top().number(Key::Slots) {
+        out.add(format_args!(
+            "slots = {slots} at the top of the file can be raised, to 8 at most.\n"
+        ));
+    }
+}
+
+/// Adds the place that a unit has.
+fn add_place(out: &mut Draft, doc: Doc<'_>, spot: Spot) {
+    let unit = doc.unit(spot.unit);
+    out.add(format_args!(
+        "{}{} and {}",
+        In(doc, spot),
+        Pair(unit, Key::Phase),
+        Pair(unit, Key::Slot)
+    ));
+}
+
+/// Tells a phase or a slot out of range, with both limits.
+pub(crate) fn tell_range(out: &mut Draft, doc: Doc<'_>, spot: Spot) {
+    let unit = doc.unit(spot.unit);
+    let period = unit.number(Key::Period).unwrap_or(60);
+    let slots = doc.top().number(Key::Slots).unwrap_or(8);
+    let (last_phase, last_slot) = (period.saturating_sub(1), slots.saturating_sub(1));
+    add_place(out, doc, spot);
+    out.add(format_args!(
+        ", but with its period its phase is 0 to {last_phase}, and with the slots of the file its slot is 0 to {last_slot}.\n"
+    ));
+    out.add(
+        "Write one of these; or take phase and slot of all units out, and plan --places PATH finds places for them.\n",
+    );
+    if unit.number(Key::Slot).unwrap_or(0) > last_slot {
+        add_more_slots(out, doc);
+    }
+}
+
+/// Tells which half of a place is missing.
+pub(crate) fn tell_half(out: &mut Draft, doc: Doc<'_>, spot: Spot) {
+    add_place(out, doc, spot);
+    out.add(", but a place is both, a phase and a slot.\nWrite both, or leave both out.\n");
+}
+
+/// Tells a unit without a place.
+pub fn tell_no_place(out: &mut Draft, doc: Doc<'_>, unit: usize) {
+    out.add(format_args!(
+        "A unit has no place, that is no phase and no slot: {}.\nCosts and frames are those of places: write them for every unit, or let plan --places PATH write the text with those that it finds.\n",
+        Named(doc, unit, None)
+    ));
+    if doc
+        .units()
+        .iter()
+        .any(|unit| Fields::of(unit).has(Key::Phase))
+    {
+        out.add("It may move units that have places, too.\n");
+    }
+}
+
+/// Whether a unit with this place travels in a tick and a slot.
+fn travels(unit: Fields<'_>, tick: i64, slot: i64) -> bool {
+    let rest = tick.checked_rem(unit.number(Key::Period).unwrap_or(0));
+    let is_then = unit
+        .number(Key::Phase)
+        .is_some_and(|phase| rest == Some(phase));
+    is_then && unit.number(Key::Slot) == Some(slot)
+}
+
+/// Adds the names of the units that travel in a tick and a slot.
+fn add_travelling(out: &mut Draft, doc: Doc<'_>, tick: i64, slot: i64) {
+    out.add("In it travel");
+    let mut sign = " ";
+    for unit in doc.units() {
+        let unit = Fields::of(unit);
+        if travels(unit, tick, slot) {
+            out.add(format_args!("{sign}{}", Quoted(unit.text(Key::Name).unwrap_or(""))));
+            sign = ", ";
+        }
+    }
+    out.add(".\n");
+}
+
+/// Whether another phase may part some of the units that travel in a tick and a slot: the periods of two of them have a common divisor.
+/// Also where no unit is known to travel in it.
+fn has_phases(units: &[Value], tick: i64, slot: i64) -> bool {
+    let (mut is_alone, mut product) = (true, 1u64);
+    for unit in units.iter().map(Fields::of) {
+        if travels(unit, tick, slot) {
+            let period = unit.number(Key::Period).unwrap_or(1).unsigned_abs();
+            if !are_coprime(product, period) {
+                return true;
+            }
+            is_alone = false;
+            product = product.saturating_mul(period);
+        }
+    }
+    is_alone
+}
+
+/// Tells why the places of the file are no legal plan: which slot carries too much in which tick, and which units travel in it. Of
+/// those that reading has judged nothing is told.
+pub fn tell_illegal(out: &mut Draft, doc: Doc<'_>, illegal: Illegal) {
+    let Illegal::Full { tick, slot, .. } = illegal else {
+        return;
+    };
+    let (tick, slot) = (i64::from(tick), i64::from(slot));
+    add_illegal(out, doc, illegal);
+    if !doc.units().is_empty() {
+        add_travelling(out, doc, tick, slot);
+    }
+    out.add(if has_phases(doc.units(), tick, slot) {
+        "Give some of them another phase or another slot.\n"
+    } else {
+        "Give some of them another slot.\n"
+    });
+    add_more_slots(out, doc);
+}

@@ -1,0 +1,169 @@
+//! Values out of their range, and areas of a slave's memory that lie wrong.
+
+use ec_cli_spots::{Doc, Fields, In, Pair};
+use ec_text_builder::Draft;
+use ec_unit_text::{Key, Spot};
+
+/// What is told of values out of their range: their keys, and the range.
+#[derive(Clone, Copy)]
+pub(crate) struct Rule(&'static [Key], &'static str);
+
+pub(crate) const PERIOD: Rule = Rule(&[Key::Period], "a period is 1 to 60 ticks");
+
+pub(crate) const STATION: Rule = Rule(&[Key::Station], "a station address is 1 to 65535");
+
+pub(crate) const SLAVE_BYTES: Rule = Rule(
+    &[Key::OutBytes, Key::InBytes],
+    "neither may be negative, and not both may be 0.\nA device without process data is left out",
+);
+
+pub(crate) const SLOTS: Rule = Rule(&[Key::Slots], "there are 1 to 8 slots");
+
+pub(crate) const TICK: Rule = Rule(
+    &[Key::TickNs],
+    "a tick is 80 to 1000000000 ns, and 1 ms is 1000000",
+);
+
+/// Tells values out of their range: `In unit "a" (line 3): period = 90, but a period is 1 to 60 ticks.`
+pub(crate) fn tell_range(out: &mut Draft, doc: Doc<'_>, spot: Spot, rule: Rule) {
+    let Rule(keys, words) = rule;
+    let table = doc.table(spot);
+    out.add(In(doc, spot));
+    if table.0.is_some() {
+        for key in keys {
+            out.add(format_args!("{}, ", Pair(table, *key)));
+        }
+        out.add("but ");
+    }
+    out.add(format_args!("{words}.\n"));
+}
+
+/// What is told of a slave whose process data are registers.
+const REGISTERS: &str =
+    "A slave that has its data there, as digital outputs at 3840, can't be planned: leave it out, and let your master write it.\n";
+
+/// Where the outputs of a slave lie whose text doesn't say it.
+const OUT_AT: i64 = 4096;
+
+/// The same of the inputs.
+const IN_AT: i64 = 8192;
+
+/// Addresses from here on are told as they stand, and not asked for their base: digital outputs are at 3840, which is 0x0F00.
+const DIGITAL_OUTPUTS: i64 = 3840;
+
+/// The number that digits of base 16 say, if they say one that isn't too great; `_` may stand between them.
+fn hex_value(digits: &str) -> Option<i64> {
+    let mut sum = 0i64;
+    for letter in digits.chars().filter(|letter| *letter != '_') {
+        let digit = i64::from(letter.to_digit(16)?);
+        sum = sum.checked_mul(16)?.checked_add(digit)?;
+    }
+    Some(sum)
+}
+
+/// Whether a number stands in a text with its base, 16.
+fn is_hex_in(text: &str, number: i64) -> bool {
+    text.split(|letter: char| !letter.is_ascii_alphanumeric() && letter != '_')
+        .filter_map(|word| word.strip_prefix("0x"))
+        .any(|digits| hex_value(digits) == Some(number))
+}
+
+/// An area: the key of its address, where it begins, and its bytes.
+#[derive(Clone, Copy)]
+struct Area {
+    key: Key,
+    at: i64,
+    bytes: i64,
+}
+
+impl Area {
+    /// An area of a slave, with the address that stands for one that isn't given.
+    fn of(slave: Fields<'_>, key: Key, default: i64, bytes: Key) -> Area {
+        Area {
+            key,
+            at: slave.number(key).unwrap_or(default),
+            bytes: slave.number(bytes).unwrap_or(0),
+        }
+    }
+
+    /// The address after it.
+    fn end(self) -> i64 {
+        self.at.saturating_add(self.bytes)
+    }
+
+    /// Adds that it lies where registers are. One of four digits may be meant in base 16, unless it stands so in the text.
+    fn add_registers(self, out: &mut Draft, text: &str) {
+        let Area { key, at, bytes } = self;
+        if is_hex_in(text, at) {
+            out.add(format_args!(
+                "{key} is {at}, below 4096 (0x1000), where a slave has registers.\n"
+            ));
+        } else {
+            out.add(format_args!("{key} = {at} is below 4096, where a slave has registers.\n"));
+            if (1000..DIGITAL_OUTPUTS).contains(&at) && bytes > 0 {
+                out.add(format_args!("Is {at} of base 16? Then write {key} = 0x{at}.\n"));
+            }
+        }
+        if bytes > 0 {
+            out.add(REGISTERS);
+        }
+    }
+
+    /// Adds what is wrong with it, and says whether something is.
+    fn add_fault(self, out: &mut Draft, text: &str) -> bool {
+        let Area { key, at, bytes } = self;
+        if at < 4096 {
+            self.add_registers(out, text);
+        } else if at > 65535 {
+            out.add(format_args!("{key} = {at} is above 65535, the last address.\n"));
+        } else if self.end() > 65536 {
+            out.add(format_args!(
+                "{key} = {at} with {bytes} bytes ends above 65535, the last address.\n"
+            ));
+        } else {
+            return false;
+        }
+        if bytes == 0 {
+            let name = if key == Key::Area(false) {
+                "outputs"
+            } else {
+                "inputs"
+            };
+            out.add(format_args!("The slave has no {name}: take {key} out.\n"));
+        }
+        true
+    }
+}
+
+/// Adds that two areas overlap, and where each lies; of one that isn't given also why.
+fn add_overlap(out: &mut Draft, slave: Fields<'_>, outputs: Area, inputs: Area) {
+    let (out_at, out_last) = (outputs.at, outputs.end().saturating_sub(1));
+    let (in_at, in_last) = (inputs.at, inputs.end().saturating_sub(1));
+    out.add(format_args!(
+        "The two overlap: outputs at {out_at} to {out_last} (0x{out_at:04x} to 0x{out_last:04x}), inputs at {in_at} to {in_last} (0x{in_at:04x} to 0x{in_last:04x}).\n"
+    ));
+    for Area { key, at, .. } in [outputs, inputs] {
+        if !slave.has(key) {
+            out.add(format_args!("{key} is not given, so it is {at}.\n"));
+        }
+    }
+}
+
+/// Tells which cause an area has to be refused.
+pub(crate) fn tell_area(out: &mut Draft, doc: Doc<'_>, spot: Spot) {
+    let slave = doc.table(spot);
+    out.add(format_args!(
+        "{}its outputs or its inputs lie where none can be planned.\n",
+        In(doc, spot)
+    ));
+    if slave.0.is_none() {
+        return;
+    }
+    let outputs = Area::of(slave, Key::Area(false), OUT_AT, Key::OutBytes);
+    let inputs = Area::of(slave, Key::Area(true), IN_AT, Key::InBytes);
+    let first = outputs.add_fault(out, doc.text);
+    let second = inputs.add_fault(out, doc.text);
+    if !first && !second && outputs.bytes > 0 && inputs.bytes > 0 {
+        add_overlap(out, slave, outputs, inputs);
+    }
+}

@@ -1,0 +1,125 @@
+//! A unit text that isn't TOML: where its reader stopped, and what was likely meant.
+
+use crate::mixed::add_mixed;
+use crate::slips::{Stop, add_likely, is_strange};
+use ec_cli_spots::{Bytes, Coded, Letter, line_at, position_of};
+use ec_text_builder::Draft;
+use std::fmt;
+use toml::de::Error;
+
+/// The most characters of a line that are shown.
+const SHOWN: usize = 120;
+
+/// Whether a text has one NUL in each of its first four pairs of bytes, as one in UTF-16 has whose letters are plain.
+fn is_wide(text: &str) -> bool {
+    let front = text.as_bytes().get(..8).unwrap_or(&[]);
+    !front.is_empty()
+        && front
+            .chunks_exact(2)
+            .all(|pair| (pair[0] == 0) != (pair[1] == 0))
+}
+
+/// What a text is that isn't one of units, as far as that is seen.
+pub(crate) fn kind_of(text: &str) -> Option<&'static str> {
+    let version = text.strip_prefix("ecplan ").unwrap_or("");
+    let front = text.trim_start_matches('\u{feff}').trim_start();
+    let kind = if version.starts_with(|letter: char| letter.is_ascii_digit()) {
+        "It is a certificate, and the file of the units is wanted here. A command that reads a certificate takes it behind --cert.\n"
+    } else if front.contains("<EtherCATInfo") {
+        "It is a device description (ESI). Have the engineering tool export the network (ENI), of which tools/units-from-eni of the sources makes a unit text.\n"
+    } else if front.starts_with("<?xml") || front.starts_with("<EtherCAT") {
+        "It is XML. Of the network description (ENI) of an engineering tool tools/units-from-eni of the sources makes a unit text.\n"
+    } else if front.starts_with("{\\rtf") {
+        "It is a text with formats: save it as plain text.\n"
+    } else if is_wide(text) {
+        "The file is UTF-16: save it as plain text in UTF-8.\n"
+    } else if text.contains('\r') && !text.contains('\n') {
+        "Its lines end with a carriage return alone: save it with line feeds.\n"
+    } else {
+        return None;
+    };
+    Some(kind)
+}
+
+/// Adds what was likely meant where the reader stopped with a message behind so many bytes, at a line, from 0.
+fn add_hint(out: &mut Draft, text: &str, line: usize, count: usize, message: &str) {
+    if let Some(kind) = kind_of(text) {
+        return out.add(kind);
+    }
+    let behind = text.get(count..).unwrap_or("");
+    let stop = Stop {
+        line: text.split('\n').nth(line).unwrap_or(""),
+        rest: behind.split('\n').next().unwrap_or(""),
+        before: text.get(..count).unwrap_or(""),
+        message,
+    };
+    if !add_mixed(out, text, line, stop) {
+        add_likely(out, stop);
+    }
+}
+
+/// The first characters of a line, letters and plain ones as they stand, of others each byte as `\xNN`, and dots where there are more.
+#[derive(Clone, Copy)]
+struct Excerpt<'a>(&'a str);
+
+impl fmt::Display for Excerpt<'_> {
+    fn fmt<W: fmt::Write>(&self, f: &mut fmt::Formatter<W>) -> fmt::Result {
+        for letter in self.0.chars().take(SHOWN) {
+            if is_strange(letter) {
+                write!(f, "{}", Coded(letter))?;
+            } else {
+                write!(f, "{}", Letter(letter))?;
+            }
+        }
+        let is_cut = self.0.chars().nth(SHOWN).is_some();
+        f.write_str(if is_cut { "..." } else { "" })
+    }
+}
+
+/// Adds a line as it stands, of a long one the part about a column, from 1.
+fn add_excerpt(out: &mut Draft, line: &str, column: usize) {
+    let skipped = if column <= SHOWN {
+        0
+    } else {
+        column.saturating_sub(SHOWN / 2)
+    };
+    let begun = line.char_indices().nth(skipped);
+    let from = begun.map_or(line.len(), |(index, _)| index);
+    let dots = if skipped > 0 { "..." } else { "" };
+    let rest = line.get(from..).unwrap_or("");
+    out.add(format_args!("    {dots}{}\n", Excerpt(rest)));
+}
+
+/// The same of a line that isn't UTF-8.
+fn add_bytes(out: &mut Draft, line: &[u8], column: usize) {
+    if line.len() <= SHOWN || column <= SHOWN {
+        return out.add(format_args!("    {}\n", Bytes(line, SHOWN)));
+    }
+    let from = column.saturating_sub(SHOWN / 2).min(line.len());
+    out.add(format_args!("    ...{}\n", Bytes(&line[from..], SHOWN)));
+}
+
+/// Tells that the file isn't TOML, and if it is known where its reader stopped: the line, the column and why, the line's text, and
+/// what was likely meant.
+pub(crate) fn tell_not_toml(out: &mut Draft, text: &[u8], error: Option<Error>) {
+    let Some((error, span)) = error.and_then(|error| error.span().map(|span| (error, span))) else {
+        return out.add("The file is not TOML.\n");
+    };
+    let (line, column) = position_of(text, span.start);
+    out.add(format_args!(
+        "The file is not TOML: line {line}, column {column}: {}.\n",
+        Bytes(error.message().as_bytes(), 100)
+    ));
+    let line = line.saturating_sub(1);
+    let Some(bytes) = line_at(text, line).map(|bytes| bytes.trim_ascii_end()) else {
+        return;
+    };
+    match std::str::from_utf8(bytes) {
+        Ok(shown) => add_excerpt(out, shown, column),
+        Err(_) => add_bytes(out, bytes, column),
+    }
+    match std::str::from_utf8(text) {
+        Ok(text) => add_hint(out, text, line, span.start, error.message()),
+        Err(_) => out.add("The file is not UTF-8: save it as plain text in UTF-8.\n"),
+    }
+}
