@@ -18,7 +18,7 @@ fn tell_others(out: &mut Draft, inputs: &Inputs<'_>, doc: Doc<'_>) {
     if let (Some(cert), Ok(_)) = (CertText::of(inputs), doc.top) {
         add_differences(out, doc, cert);
     }
-    out.add("Have plan make a new one, or give the units that it was made for.\n");
+    out.add("Have plan make a new certificate, or give the units that it was made for.\n");
 }
 
 /// Tells that the order of a certificate doesn't name each unit once.

@@ -41,7 +41,10 @@ fn gone_text(alloc: Global, path: &str, others: &[(usize, &[u8])]) -> Result<Str
     let mut out = Draft::new(alloc);
     out.add(format_args!("What stood at {path} had {lines} that the text of the units has not:\n"));
     add_lines(&mut out, others);
-    out.add("What of them is still needed has to be written into that text.\n");
+    let them = if others.len() == 1 { "it" } else { "them" };
+    out.add(format_args!(
+        "What of {them} is still needed has to be written into the text of the units.\n"
+    ));
     out.finish()
 }
 

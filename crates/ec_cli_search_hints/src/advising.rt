@@ -177,7 +177,7 @@ impl Search<'_> {
     fn add_unasked(self, out: &mut Draft) {
         out.add(match self.asked {
             Asked::Whole | Asked::Most =>
-                "With --out PATH its certificate is written, and the command resume --cert PATH goes on with that.\n",
+                "With --out PATH the certificate of this search is written, and the command resume --cert PATH goes on with it.\n",
             Asked::Part =>
                 "With --out PATH its certificate is written, and the command merge merges it with the others.\n",
             Asked::Merged =>

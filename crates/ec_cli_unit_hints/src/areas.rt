@@ -42,7 +42,7 @@ pub fn unset_areas(alloc: Global, units: &[u8]) -> Result<String, AllocError> {
     let mut out = Draft::new(alloc);
     if let Some(first) = first_of(doc) {
         out.add(format_args!(
-            "Addresses out_at or in_at are not given, first of {first}.\nOutputs are then taken to begin at 0x1000, inputs at 0x2000, where few devices have them.\nThe description of a device (ESI) has these addresses, as StartAddress of its sync managers.\n"
+            "Some slaves have no out_at or no in_at: the first is {first}.\nOutputs are then taken to begin at 0x1000, inputs at 0x2000, where few devices have them.\nThe description of a device (ESI) has these addresses, as StartAddress of its sync managers.\n"
         ));
     }
     out.finish()

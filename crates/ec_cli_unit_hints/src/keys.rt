@@ -93,11 +93,30 @@ fn are_slaves(word: &str, kind: Kind) -> bool {
         || (kind.has("unit") && front.eq_ignore_ascii_case("slave"))
 }
 
+/// Whether a unit has slaves, and no line begins the first of them: they stand in braces.
+fn has_inline_slaves(doc: Doc<'_>, unit: Option<usize>) -> bool {
+    let Some(number) = unit else {
+        return false;
+    };
+    !doc.slaves(unit).is_empty() && header_line(doc, number, Some(0)).is_none()
+}
+
 /// What is told of a key that isn't known at a spot, and belongs to a table of another kind. Where one that begins a unit stands in a
 /// slave, and the unit has it already, a further unit isn't begun.
 fn place_of(doc: Doc<'_>, word: &str, spot: Spot) -> Option<&'static str> {
     if are_slaves(word, Kind::at(spot)) {
         return Some("A slave begins with [[unit.slave]], below the [[unit]] that it belongs to.\n");
+    }
+    if has_inline_slaves(doc, spot.unit) {
+        match spot.slave {
+            None if SLAVE.has(word) => return Some(
+                "It is a key of a slave, within the { } of the slave that it belongs to.\n",
+            ),
+            Some(_) if UNIT.has(word) => return Some(
+                "It is a key of a unit, outside the { } of its slaves.\n",
+            ),
+            _ => {}
+        }
     }
     let kinds = [SLAVE, UNIT, TOP];
     let kind = kinds.iter().find(|kind| kind.has(word))?;
@@ -276,7 +295,7 @@ pub(crate) fn tell_type(out: &mut Draft, doc: Doc<'_>, spot: Spot, key: Key) {
     out.add(format_args!("{key} is {}.\n", Shown(value)));
     match hex_at(doc, spot, key) {
         Some(digits) if matches!(value, Value::Float(_)) => out.add(format_args!(
-            "A whole number is needed, without a point or an exponent; one of base 16 has 0x in front: write 0x{digits}.\n"
+            "A whole number is needed, without a point or an exponent. If it is of base 16, write 0x{digits}.\n"
         )),
         _ => out.add(type_of(key, value)),
     }

@@ -15,15 +15,15 @@ fn marked_in(line: &str) -> Option<(&str, &'static str, &str)> {
     let base = value
         .rsplit(|letter: char| !letter.is_ascii_digit())
         .next()?;
-    let mark = match base {
-        "16" => "0x",
-        "8" => "0o",
-        "2" => "0b",
+    let (mark, radix) = match base {
+        "16" => ("0x", 16),
+        "8" => ("0o", 8),
+        "2" => ("0b", 2),
         _ => return None,
     };
     let mut words = comment.split(|letter: char| !letter.is_ascii_alphanumeric() && letter != '_');
     let digits = words.next()?;
-    let is_digit = |letter: char| letter.is_ascii_hexdigit();
+    let is_digit = |letter: char| letter.to_digit(radix).is_some();
     let is_number = digits.starts_with(is_digit)
         && digits
             .chars()

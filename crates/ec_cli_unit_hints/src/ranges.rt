@@ -91,20 +91,22 @@ impl Area {
         self.at.saturating_add(self.bytes)
     }
 
-    /// Adds that it lies where registers are. One of four digits may be meant in base 16, unless it stands so in the text.
+    /// Adds that it lies where registers are. One of four digits may be meant in base 16, unless it stands so in the text, and one that is a
+    /// base, as 16, may be read of a number behind `16#`.
     fn add_registers(self, out: &mut Draft, text: &str) {
         let Area { key, at, bytes } = self;
-        if is_hex_in(text, at) {
+        let is_hex = is_hex_in(text, at);
+        let is_asked = !is_hex && bytes > 0 && (1000..DIGITAL_OUTPUTS).contains(&at);
+        if is_hex {
             out.add(format_args!(
                 "{key} is {at}, below 4096 (0x1000), where a slave has registers.\n"
             ));
         } else {
             out.add(format_args!("{key} = {at} is below 4096, where a slave has registers.\n"));
-            if (1000..DIGITAL_OUTPUTS).contains(&at) && bytes > 0 {
-                out.add(format_args!("Is {at} of base 16? Then write {key} = 0x{at}.\n"));
-            }
         }
-        if bytes > 0 {
+        if is_asked {
+            out.add(format_args!("Is {at} of base 16? Then write {key} = 0x{at}.\n"));
+        } else if bytes > 0 && !matches!(at, 2 | 8 | 16) {
             out.add(REGISTERS);
         }
     }

@@ -126,7 +126,8 @@ pub(crate) fn other_base(value: &str) -> Option<&str> {
     let is_hex = digits.contains(is_digit)
         && digits.chars().all(|letter| letter.is_ascii_hexdigit());
     let has_letter = digits.contains(|letter: char| letter.is_ascii_alphabetic());
-    Some(digits).filter(|_| is_hex && (is_marked || has_letter))
+    let is_binary = value.starts_with("0b");
+    Some(digits).filter(|_| is_hex && (is_marked || (has_letter && !is_binary)))
 }
 
 /// The digits of a number of base 16 at which the reader stopped, as TOML doesn't write it; in a list or within braces more stands behind it.
@@ -151,10 +152,15 @@ fn has_measure(value: &str) -> bool {
     behind.len() < value.len() && !value.starts_with('0') && is_letters(behind.trim_start())
 }
 
+/// What is told of an address with letters behind it.
+const ADDRESS: &str = "A number has no letters behind it; one of base 16 has 0x in front.\n";
+
 /// What is told of a number with a unit of measure behind some text that ends with its key.
 fn measure_of(key: &str) -> &'static str {
     if key.ends_with("_bytes") {
         BYTES
+    } else if key.ends_with("station") || key.ends_with("_at") {
+        ADDRESS
     } else {
         MEASURE
     }
@@ -168,7 +174,8 @@ const COUNTS: [&str; 6] = ["tick_ns", "slots", "period", "phase", "slot", "_byte
 
 /// What was likely meant by something that is no value: of a name that it has no quotes, of an address a number of base 16.
 fn hint_of_value(stop: Stop<'_>) -> &'static str {
-    let value = before_comment(stop.rest);
+    let rest = before_comment(stop.rest);
+    let value = rest.split([',', '}', ']']).next().unwrap_or("").trim();
     let before = stop.line.strip_suffix(stop.rest).unwrap_or("").trim_end();
     let key = before.strip_suffix('=').unwrap_or("").trim_end();
     let is_count = COUNTS.iter().any(|count| key.ends_with(*count));
@@ -206,9 +213,10 @@ fn is_unseen(letter: char) -> bool {
     has_no_width || (letter.is_control() && letter != '\r')
 }
 
-/// Whether a character, no blank, isn't one of a keyboard's: a dash or an equals sign that only looks plain, say.
+/// Whether a character, no blank, is likely none that was meant: a dash or an equals sign that only looks plain, say, or a letter that isn't
+/// a Latin one.
 pub(crate) fn is_strange(letter: char) -> bool {
-    !letter.is_ascii() && !letter.is_alphabetic()
+    !letter.is_ascii() && (!letter.is_alphabetic() || letter > '\u{24f}')
 }
 
 /// Whether braces are open behind a text.
@@ -240,7 +248,7 @@ fn hint_of_twice(stop: Stop<'_>) -> &'static str {
 
 /// Whether a line is a comment of another language, or has one behind its value.
 fn has_other_comment(stop: Stop<'_>, word: &str) -> bool {
-    let is_begun = |text: &str| ["/*", "<!--", "--", ";"]
+    let is_begun = |text: &str| ["/*", "(*", "<!--", "--", ";"]
         .iter()
         .any(|mark| text.starts_with(*mark));
     let behind = before_comment(stop.rest);

@@ -104,7 +104,9 @@ fn add_level(page: &mut Draft, most: u64, level: u64) {
     } else {
         page.add("So no plan is better.");
     }
-    page.add(" The checker of ecplan did not refuse the certificate of this plan.</p>\n");
+    page.add(
+        " The checker of ecplan did not refuse the certificate of this plan. Where that shows less, the level is\nby the bytes of the units alone.</p>\n",
+    );
 }
 
 /// Adds what is proved of the plan.

@@ -38,8 +38,9 @@ th,td{padding:.1em .35em}
 </head>
 <body>
 <h1>Plan of an EtherCAT line</h1>
-<p>In which tick and in which frame each unit of the line travels, and where its process bytes lie. ecplan made this page.
-Times are those of the bytes on the wire, 80 ns each.</p>
+<p>In which tick and in which frame each unit of the line travels, and where its process bytes lie. ecplan, a planner for EtherCAT
+frames, made this page of a unit text, which names the slaves. Units that travel in one datagram are a group. A certificate is a proof of
+a plan that a checker takes. Times are those of the bytes on the wire, 80 ns each.</p>
 ";
 
 /// What stands before the table of the plan's numbers.
@@ -86,7 +87,8 @@ for each slave with outputs, and 1 for each slave with inputs.</p>
 pub(crate) const SLAVES: &str = "</tbody></table></div>
 <h2>Slaves</h2>
 <p>In file order, numbered from 0. The start frames of ecplan find each slave by its position: where they are sent, the order on
-the cable has to be this one, with no other device, as a coupler, before or between the slaves. The record of the outputs is written
+the cable has to be this one, and no other device, as a coupler, may be on it. Where the unit text gives no out_at or in_at, 0x1000 and
+0x2000 stand as the address in the slave, where few devices have their data. The record of the outputs is written
 to 0x0600 of the slave, that of the inputs to 0x0610. The last column is the working counter of the slave's group.</p>
 <div class=\"wide\"><table>
 <thead><tr><th>Slave</th><th>Unit</th><th>Station</th><th>Data</th><th>Bytes</th><th>Logical address</th>\

@@ -4,8 +4,8 @@
 pub(crate) const HEAD: &str = "/* A plan of ecplan: tables for an EtherCAT master, in C99.
  *
  * Version 1 of these tables. Lengths and offsets are bytes, times are ns or ticks.
- * Places in a table are counted from 0. Numbers are the host's; on the wire they have
- * their lowest byte first. INTEGRATING.md of ecplan says how to use the tables, and
+ * Places in a table are counted from 0. Numbers are the host's; those of EtherCAT go with
+ * their lowest byte first. fmmu and ecplan_start_bytes are bytes as they are sent. INTEGRATING.md of ecplan says how to use the tables, and
  * FORMATS.md, \"Bytes of a frame\", how a frame is made.
  */
 ";
@@ -37,8 +37,8 @@ struct ecplan_slave {
     uint32_t in_offset;  /* bytes from the begin of the image to its inputs */
     uint16_t out_bytes;  /* bytes of its outputs */
     uint16_t in_bytes;   /* bytes of its inputs */
-    uint16_t out_at;     /* physical start address of its outputs, as of its sync manager */
-    uint16_t in_at;      /* physical start address of its inputs, as of its sync manager */
+    uint16_t out_at;     /* physical start address of its outputs: 0x1000 where the text gives none */
+    uint16_t in_at;      /* physical start address of its inputs: 0x2000 where the text gives none */
     uint8_t fmmu[32];    /* its two FMMU records, as they are written to 0x0600 */
 };
 
@@ -51,7 +51,7 @@ pub(crate) const GROUP: &str = "};
 /* A group: the units that share one logical read-write datagram (LRW). It travels in
  * tick T, counted from 0, where T % period is phase. */
 struct ecplan_group {
-    uint8_t slot;     /* its frame in a tick */
+    uint8_t slot;     /* its slot: in a tick each slot that carries something has a frame */
     uint16_t period;  /* ticks */
     uint16_t phase;   /* ticks */
     uint32_t address; /* logical address */
