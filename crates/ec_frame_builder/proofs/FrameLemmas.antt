@@ -1,7 +1,7 @@
 -- The frames of a tick, slot by slot, and their bytes on the wire.
-use Rattle.std.proofs.Common.{◌≡◌, ℕ, zero, suc, ◌+◌, ◌-◌, ◌<◌, ◌≤◌, Bool, true, false, cond, max, List, [], ◌∷◌, ◌++◌, length, length-append, map, filter, take, drop, get_or, sum_by, All, refl, sym, ap, ◌∙◌, subst, inl, inr, arith, add-zero, zero-add, add-one, ◌||◌, ◌==◌, Option, Some, None, MatchOption}
-use Rattle.std.specs.List.{list_any, flat_map, range_with_len}
-use Rattle.std.proofs.lemmas.Bool.{true≢false, false≢true, cases_Bool, or_left, or_right, or_parts, cond-true, cond-false}
+use Rattle.std.proofs.Common.{◌≡◌, ℕ, zero, suc, ◌+◌, ◌-◌, ◌<◌, ◌≤◌, Bool, true, false, cond, max, List, [], ◌∷◌, ◌++◌, length, length-append, length-take, map, filter, take, drop, get_or, sum_by, refl, sym, ap, ◌∙◌, subst, inl, inr, arith, add-zero, zero-add, add-one, ◌||◌, ◌==◌, Option, Some, None, MatchOption}
+use Rattle.std.specs.List.{flat_map, range_with_len}
+use Rattle.std.proofs.lemmas.Bool.{true≢false, cases_Bool, cases_lt, or_left, or_right, cond-true, cond-false}
 use Rattle.std.proofs.lemmas.List.{length-take-le, length-drop}
 use Rattle.std.proofs.lemmas.List.Sums.{sum_by-cons, sum_by_push}
 use Rattle.std.proofs.lemmas.List.Elements.{All-head, All-tail, All-filter}
@@ -9,8 +9,8 @@ use Rattle.ec_units.specs.declared.slave.Place.{Place}
 use Rattle.ec_units.specs.declared.unit.Unit.{Unit as SyncUnit}
 use Rattle.ec_units.specs.Load.{loads_of}
 use Rattle.ec_units.specs.Views.{unit_view}
-use Rattle.ec_loads.specs.Cost.{plan_items, payload, is_busy, sum_below, slot_cost, tick_cost}
-use Rattle.ec_frames.specs.Written.{total_of, written}
+use Rattle.ec_loads.specs.Cost.{plan_items, payload, sum_below, slot_cost, tick_cost}
+use Rattle.ec_frames.specs.Written.{total_of}
 use Rattle.ec_frames.proofs.WrittenReads.{length-written}
 use Rattle.ec_fmmu.specs.declared.group.Group.{Group}
 use Rattle.ec_fmmu.specs.Seats.{seats_of}
@@ -35,6 +35,17 @@ data-length bytes (g ∷ gs) h =
     let b = length-append (data_of bytes g) (flat_map (data_of bytes) gs) in
     omega (arith, a, b, own, rest)
 
+-- the data of one more group have room beside those before
+pub data-room : (bytes : List ℕ) (groups : List Group) (i : ℕ) (d : Group) → i < length groups → length (flat_map (data_of bytes) (take i groups)) + (get_or groups i d).len ≤ total_of (map datagram_of groups)
+data-room bytes [] i d l = absurd (omega (arith, l))
+data-room bytes (g ∷ gs) zero d l = let s = sum_by-cons (λ d. d.len + 12) (datagram_of g) (map datagram_of gs) in omega (arith, s)
+data-room bytes (g ∷ gs) (suc i) d l =
+    let s = sum_by-cons (λ d. d.len + 12) (datagram_of g) (map datagram_of gs) in
+    let a = length-append (data_of bytes g) (flat_map (data_of bytes) (take i gs)) in
+    let own = length-take g.len (drop (g.start - 65536) bytes) in
+    let rest = data-room bytes gs i d (omega (arith, l)) in
+    omega (arith, s, a, own, rest)
+
 pub length-frame : (bytes : List ℕ) (groups : List Group) → GroupsWithin (length bytes) groups → length (frame_of groups bytes) ≡ max 60 (total_of (map datagram_of groups) + 16)
 unfolding frame_of
 length-frame bytes groups h = length-written (map datagram_of groups) (flat_map (data_of bytes) groups) (data-length bytes groups h)
@@ -49,6 +60,13 @@ none-carried t s (g ∷ gs) h =
           let e = ap length (cond-false (goes t s g) (g ∷ filter (goes t s) gs) (filter (goes t s) gs) b) in
           let rest = none-carried t s gs (sym e ∙ h) in
           (λ i. b i || rest i)
+    ]
+
+pub carried-some : (t s : ℕ) (groups : List Group) → carries groups t s ≡ true → 0 < length (going groups t s)
+carried-some t s groups h =
+    elim (cases_lt 0 (length (going groups t s))) [
+      | inl l ↦ l
+      | inr l ↦ absurd (true≢false (sym h ∙ none-carried t s groups (omega (arith, l))))
     ]
 
 pub some-carried : (t s : ℕ) (groups : List Group) → 0 < length (going groups t s) → carries groups t s ≡ true

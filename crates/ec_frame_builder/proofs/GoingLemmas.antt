@@ -1,9 +1,9 @@
 -- The groups that travel in a slot in a tick are those of the units that do, so their datagrams are its payload.
-use Rattle.std.proofs.Common.{◌≡◌, ◌⊎◌, ℕ, zero, suc, ◌+◌, ◌*◌, ◌<◌, ◌≤◌, ◌%◌, ◌==◌, ◌&&◌, ◌||◌, Bool, true, false, cond, List, [], ◌∷◌, ◌++◌, Some, length, map, filter, get_or, sum_by, count_by, All, refl, sym, ap, ◌∙◌, subst, inl, inr, arith}
+use Rattle.std.proofs.Common.{◌≡◌, ℕ, suc, ◌+◌, ◌*◌, ◌<◌, ◌≤◌, ◌==◌, ◌&&◌, ◌||◌, Bool, true, false, cond, List, [], ◌∷◌, ◌++◌, length, map, filter, get_or, sum_by, count_by, All, refl, sym, ap, ◌∙◌, subst, inl, inr, arith}
 use Rattle.std.specs.List.{list_any}
-use Rattle.std.proofs.lemmas.Bool.{true≢false, false≢true, cases_Bool, and_from, and_parts, and_left, or_cases, or_from, or_left, or_right, eq-eqb, eqb-true, cond-true, cond-false, false_from_ne_true}
-use Rattle.std.proofs.lemmas.List.Sums.{sum_by-cons, sum_by-append}
-use Rattle.std.proofs.lemmas.List.Elements.{All-nil, All-head, All-tail, All-append, All-cons}
+use Rattle.std.proofs.lemmas.Bool.{true≢false, false≢true, cases_Bool, and_from, and_parts, or_cases, or_left, or_right, eq-eqb, eqb-true, cond-true, cond-false, false_from_ne_true}
+use Rattle.std.proofs.lemmas.List.Sums.{sum_by-cons}
+use Rattle.std.proofs.lemmas.List.Elements.{All-nil, All-head, All-tail, All-cons}
 use Rattle.ec_hyper.specs.Travel.{travels}
 use Rattle.ec_units.specs.declared.slave.Place.{Place}
 use Rattle.ec_units.specs.declared.slave.Slave.{Slave}
@@ -11,14 +11,14 @@ use Rattle.ec_units.specs.declared.unit.Unit.{Unit as SyncUnit}
 use Rattle.ec_units.specs.Load.{load_of, loads_of}
 use Rattle.ec_units.specs.Views.{slave_view, unit_view}
 use Rattle.ec_loads.specs.declared.item.Item.{Item}
-use Rattle.ec_loads.specs.Cost.{item, items, plan_items, is_sent, group, same_group, carried, groups, different, payload}
+use Rattle.ec_loads.specs.Cost.{item, plan_items, is_sent, group, same_group, carried, groups, different, payload}
 use Rattle.ec_frames.specs.Written.{total_of}
 use Rattle.ec_fmmu.specs.declared.group.Group.{Group}
 use Rattle.ec_fmmu.specs.declared.seat.Key.{Key}
 use Rattle.ec_fmmu.specs.declared.seat.Seat.{Seat}
 use Rattle.ec_fmmu.specs.Order.{is_same}
 use Rattle.ec_fmmu.specs.Seats.{key_numbers, seat, slave_seats, key_at, seats_from, seats_of, size}
-use Rattle.ec_fmmu.specs.Layout.{group_numbers, bytes_in, IsGroup, AreGroups}
+use Rattle.ec_fmmu.specs.Layout.{group_numbers, AreGroups}
 use Rattle.ec_fmmu.proofs.OrderLemmas.{same_is, same_self}
 use Rattle.ec_fmmu.proofs.SumLemmas.{once, sum-agree, sum-add, sum-filter, sum-none, any-append}
 use Rattle.ec_fmmu.proofs.AddressLemmas.{bytes-group}

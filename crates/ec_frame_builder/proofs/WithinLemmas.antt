@@ -1,6 +1,6 @@
 -- What a layout gives to the frames: groups and records within the image.
-use Rattle.std.proofs.Common.{◌≡◌, ℕ, zero, suc, ◌+◌, ◌<◌, ◌≤◌, Bool, true, false, cond, List, [], ◌∷◌, length, map, get_or, take, count_by, All, refl, sym, ap, ◌∙◌, subst, inl, inr, arith}
-use Rattle.std.specs.List.{list_any, range_with_len}
+use Rattle.std.proofs.Common.{◌≡◌, ℕ, ◌+◌, ◌<◌, ◌≤◌, true, cond, List, [], ◌∷◌, length, map, get_or, take, All, sym, ap, ◌∙◌, subst, inl, inr, arith}
+use Rattle.std.specs.List.{list_any}
 use Rattle.std.proofs.lemmas.Bool.{false≢true, or_cases, cases_eq, eq-eqb, ne_eqb}
 use Rattle.std.proofs.lemmas.List.{get_or_default, take_all}
 use Rattle.std.proofs.lemmas.List.Sums.{count_by-le-length}
@@ -8,7 +8,6 @@ use Rattle.std.proofs.lemmas.List.FromFn.{fill_by_all}
 use Rattle.std.proofs.lemmas.List.Elements.{All-nil, All-head, All-tail, All-cons, All-map}
 use Rattle.ec_units.specs.declared.slave.Place.{Place}
 use Rattle.ec_units.specs.declared.unit.Unit.{Unit as SyncUnit}
-use Rattle.ec_units.specs.declared.units.Units.{Units}
 use Rattle.ec_units.specs.Load.{load_of, loads_of}
 use Rattle.ec_units.specs.Views.{unit_view}
 use Rattle.ec_loads.specs.declared.item.Item.{Item}
@@ -16,16 +15,15 @@ use Rattle.ec_loads.specs.Cost.{item, plan_items}
 use Rattle.ec_fmmu.specs.declared.fmmu.Fmmu.{Fmmu}
 use Rattle.ec_fmmu.specs.declared.group.Group.{Group}
 use Rattle.ec_fmmu.specs.declared.seat.Seat.{Seat}
-use Rattle.ec_fmmu.specs.declared.mapping.Mapping.{Mapping}
 use Rattle.ec_fmmu.specs.Order.{is_before, is_same}
 use Rattle.ec_fmmu.specs.Seats.{seats_of, AreKept}
 use Rattle.ec_fmmu.specs.Layout.{inputs, outputs, process_byte, process_bytes, address_of, total_of, group_numbers, Fills, AreGroups}
-use Rattle.ec_fmmu.specs.Mappings.{unused, fmmu_for, records_of, IsLayout}
+use Rattle.ec_fmmu.specs.Mappings.{unused, fmmu_for, records_of}
 use Rattle.ec_fmmu.proofs.OrderLemmas.{same_is}
 use Rattle.ec_fmmu.proofs.SeatLemmas.{units_kept}
 use Rattle.ec_fmmu.proofs.AddressLemmas.{address-input}
 use Rattle.ec_fmmu.proofs.LegalLemmas.{item_numbers}
-use Rattle.ec_frame_builder.specs.Frames.{IsLayoutFor, is_input, sent_byte, sent}
+use Rattle.ec_frame_builder.specs.Frames.{is_input, sent_byte, sent}
 use Rattle.ec_frame_builder.specs.Within.{IsWithin, AreWithin, GroupsWithin}
 use Rattle.ec_frame_builder.proofs.GoingLemmas.{units-any}
 

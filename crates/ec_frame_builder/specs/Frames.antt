@@ -1,5 +1,5 @@
 -- The frames of a tick.
-use Rattle.std.specs.Prelude.{◌≡◌, ℕ, ◌+◌, ◌-◌, ◌<◌, ◌≤◌, ◌==◌, ◌&&◌, nat_lt, nat_le, Bool, if◌then◌else◌, List, length, map, filter, take, drop, sum_by, get_or, All}
+use Rattle.std.specs.Prelude.{ℕ, ◌+◌, ◌-◌, ◌==◌, ◌&&◌, nat_lt, nat_le, Bool, if◌then◌else◌, List, length, map, filter, take, drop, get_or}
 use Rattle.std.specs.List.{flat_map, range_with_len, list_any}
 use Rattle.ec_hyper.specs.Travel.{travels}
 use Rattle.ec_units.specs.declared.slave.Place.{Place}

@@ -1,5 +1,5 @@
 -- What lies within an image.
-use Rattle.std.specs.Prelude.{◌≡◌, ℕ, ◌+◌, ◌<◌, ◌≤◌, List, All}
+use Rattle.std.specs.Prelude.{◌≡◌, ℕ, ◌+◌, ◌≤◌, List, All}
 use Rattle.ec_fmmu.specs.declared.fmmu.Fmmu.{Fmmu}
 use Rattle.ec_fmmu.specs.declared.group.Group.{Group}
 

@@ -1,6 +1,6 @@
 //! The frames of a tick.
 
-ghost use Rattle.std.specs.Prelude.{◌≡◌, ◌≢◌, ℕ, ◌+◌, ◌<◌, ◌≤◌, ◌++◌, List, [], ◌∷◌, true, false, max, length, map, filter, sum_by, All, IfOk, OnOk, MatchOption};
+ghost use Rattle.std.specs.Prelude.{◌≡◌, ℕ, ◌+◌, ◌<◌, ◌≤◌, ◌++◌, List, [], ◌∷◌, true, false, length, map, filter, sum_by, All, IfOk, OnOk, MatchOption, OnErr};
 ghost use Rattle.std.specs.List.{flat_map, range_with_len, list_any};
 ghost use Rattle.ec_units.specs.declared.slave.Place.{Place};
 ghost use Rattle.ec_units.specs.Load.{loads_of};
@@ -10,18 +10,22 @@ ghost use Rattle.ec_frame_builder.specs.Frames.{HasLayout, IsLayoutFor, goes, go
 ghost use Rattle.ec_frame_builder.specs.Within.{GroupsWithin};
 
 use crate::image::sent_of;
+use arrayvec::ArrayVec;
 use ec_fmmu::{FIRST_ADDRESS, Group, Mapping};
-use ec_frames::{Command, Datagram, Frame, build};
+use ec_frames::{Command, Datagram, Frame, rebuild};
 use ec_hyper::Hyper;
 use ec_units::Units;
 use std::alloc::{AllocError, Global};
+
+/// The data of a frame's datagrams, which take 1,498 bytes at most with 12 more each (ETG.1000.4, clause 5.4).
+type Data = ArrayVec<u8, 1498>;
 
 /// Whether a group travels in this tick in this slot.
 fn is_going(group: &Group, tick: u32, slot: u8) -> bool
     requires { 1 ≤ group.now.period }
     ensures { result ≡ goes tick slot group.now }
 {
-    Hyper::active(group.period, group.phase, tick) && group.slot == slot
+    group.slot == slot && Hyper::active(group.period, group.phase, tick)
 }
 
 /// The groups that travel in this tick in this slot, by period and phase.
@@ -54,32 +58,65 @@ fn datagrams_of(alloc: Global, groups: &[Group]) -> Result<Vec<Datagram>, AllocE
 }
 
 /// The bytes of the groups in what is sent, one group after the other.
-fn data_bytes(alloc: Global, groups: &[Group], bytes: &[u8]) -> Result<Vec<u8>, AllocError>
-    requires { GroupsWithin (length bytes.now) groups.now }
-    ensures { IfOk result (λ v. v.items ≡ flat_map (data_of bytes.now) groups.now) }
+fn data_bytes(groups: &[Group], bytes: &[u8]) -> Data
+    requires within { GroupsWithin (length bytes.now) groups.now }
+    requires room { total_of (map datagram_of groups.now) ≤ 1498 }
+    ensures { result.items ≡ flat_map (data_of bytes.now) groups.now }
 {
-    let mut data = Vec::new(alloc);
+    let mut data = Data::new();
     for group in groups {
         let at = (group.start - FIRST_ADDRESS) as usize;
-        data.extend_from_slice(&bytes[at..at + usize::from(group.len)])?;
+        let done = data.try_extend_from_slice(&bytes[at..at + usize::from(group.len)]);
+        prove!(done.is_ok());
     }
-    Ok(data)
+    data
 }
 
-/// The frame of these groups, of which there is one.
-fn frame_of(alloc: Global, groups: &[Group], bytes: &[u8]) -> Result<Frame, AllocError>
+/// Writes the frame of these groups, of which there is one, in place of what is there.
+fn write_groups(
+    alloc: Global,
+    frame: &mut Frame,
+    groups: &[Group],
+    bytes: &[u8],
+) -> Result<(), AllocError>
     requires some { 0 < length groups.now }
     requires within { GroupsWithin (length bytes.now) groups.now }
     requires room { total_of (map datagram_of groups.now) ≤ 1498 }
-    ensures bytes { IfOk result (λ frame. frame.items ≡ frame_in groups.now bytes.now) }
-    ensures len { IfOk result (λ frame. length frame.items ≡ max 60 (total_of (map datagram_of groups.now) + 16)) }
+    ensures frame { OnOk result (frame.new.items ≡ frame_in groups.now bytes.now) }
+    ensures same { OnErr result (frame.new ≡ frame.old) }
 {
     let list = datagrams_of(alloc, groups)?;
-    let data = data_bytes(alloc, groups, bytes)?;
-    match build(&list, &data) {
-        Ok(frame) => Ok(frame),
+    let data = data_bytes(groups, bytes);
+    match rebuild(frame, &list, &data) {
+        Ok(()) => Ok(()),
         Err(_) => unreachable!(),
     }
+}
+
+/// Writes the frame of a slot in a tick in place of what is there: that of [`tick_frames`]. The slot carries something then. `sent` is
+/// what [`sent_of`] gives of the image.
+///
+/// # Errors
+///
+/// `AllocError` where memory ran out. The frame is left as it is.
+pub fn rewrite_frame(
+    alloc: Global,
+    frame: &mut Frame,
+    units: &Units,
+    mapping: &Mapping,
+    sent: &[u8],
+    tick: u32,
+    slot: u8,
+) -> Result<(), AllocError>
+    requires layout { HasLayout units.now mapping.now }
+    requires sent { length sent.now ≡ mapping.now.total }
+    requires slot { slot < units.now.slots }
+    requires carried { carries mapping.now.groups tick slot ≡ true }
+    ensures frame { OnOk result (frame.new.items ≡ frame_in (going mapping.now.groups tick slot) sent.now) }
+    ensures same { OnErr result (frame.new ≡ frame.old) }
+{
+    let there = going_of(alloc, mapping.groups.as_slice(), tick, slot)?;
+    write_groups(alloc, frame, there.as_slice(), sent)
 }
 
 /// The frame of a slot in this tick, if it carries something.
@@ -100,7 +137,8 @@ fn slot_frame(
     if list.is_empty() {
         return Ok(None);
     }
-    let frame = frame_of(alloc, list, bytes)?;
+    let mut frame = Frame::new();
+    write_groups(alloc, &mut frame, list, bytes)?;
     Ok(Some(frame))
 }
 

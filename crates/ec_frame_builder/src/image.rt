@@ -44,12 +44,12 @@ fn clear_pair(bytes: &mut [u8], pair: &[Fmmu])
     }
 }
 
-/// The bytes of the image that are sent: its outputs, and 0 for each input.
-pub(crate) fn sent_of(
-    alloc: Global,
-    fmmus: &[[Fmmu; 2]],
-    image: &[u8],
-) -> Result<Vec<u8>, AllocError>
+/// The bytes of the image that are sent: its outputs, and 0 for each input of these FMMU records. The records lie within the image.
+///
+/// # Errors
+///
+/// `AllocError` where memory ran out.
+pub fn sent_of(alloc: Global, fmmus: &[[Fmmu; 2]], image: &[u8]) -> Result<Vec<u8>, AllocError>
     requires { AreWithin (length image.now) fmmus.now }
     ensures { IfOk result (λ v. v.items ≡ sent fmmus.now image.now) }
 {

@@ -6,5 +6,6 @@ mod frames;
 mod image;
 mod start;
 
-pub use frames::{busy_slots, tick_frames};
+pub use frames::{busy_slots, rewrite_frame, tick_frames};
+pub use image::sent_of;
 pub use start::start_frames;

@@ -13,4 +13,4 @@ pub use command::{
 };
 pub use laws::{law_one_reading, law_written_is_read};
 pub use reading::{FrameFault, Parsed, View, Views, datagrams, parse};
-pub use writing::{BuildFault, Datagram, Frame, build};
+pub use writing::{BuildFault, Datagram, Frame, build, rebuild};

@@ -1,4 +1,4 @@
-ghost use Rattle.std.specs.Prelude.{◌≡◌, ◌+◌, ◌≤◌, ◌++◌, ◌↔◌, length, min, max, nat_lt, sum_by, false, IfOk, IfNone, IsOk, Some};
+ghost use Rattle.std.specs.Prelude.{◌≡◌, ◌+◌, ◌≤◌, ◌++◌, ◌↔◌, length, min, max, nat_lt, sum_by, false, IfOk, IfNone, IsOk, OnOk, OnErr, Some};
 ghost use Rattle.std.specs.List.{list_any};
 ghost use Rattle.std.specs.Result.{result_err};
 ghost use Rattle.byteorder.specs.Endian.{little_bytes};
@@ -168,19 +168,41 @@ fn pad(frame: &mut Frame)
     }
 }
 
+/// Writes the frame of these datagrams in place of what is there.
 #[tactic(auto, unfolding(crate::specs::Written::written))]
-fn frame_of(list: &[Datagram], bytes: &[u8]) -> Frame
+fn write(frame: &mut Frame, list: &[Datagram], bytes: &[u8])
     requires given { sum_by (λ d. d.len) list.now ≡ length bytes.now }
     requires room { total_of list.now ≤ 1498 }
     requires short { list_any (λ d. nat_lt 1486 d.len) list.now ≡ false }
-    ensures { result.items ≡ written list.now bytes.now }
+    ensures { frame.new.items ≡ written list.now bytes.now }
 {
-    let mut frame = Frame::new();
-    put(&mut frame, &ETHERNET_HEADER);
-    put_u16(&mut frame, total_to_2000(list) + TYPE_DATAGRAMS);
-    put_datagrams(&mut frame, list, bytes);
-    pad(&mut frame);
-    frame
+    frame.clear();
+    put(frame, &ETHERNET_HEADER);
+    put_u16(frame, total_to_2000(list) + TYPE_DATAGRAMS);
+    put_datagrams(frame, list, bytes);
+    pad(frame);
+}
+
+/// Writes the frame of these datagrams, which is that of [`build`], in place of what is there.
+///
+/// # Errors
+///
+/// Those of [`build`]. The frame is left as it is.
+pub fn rebuild(frame: &mut Frame, list: &[Datagram], bytes: &[u8]) -> Result<(), BuildFault>
+    requires { sum_by (λ d. d.len) list.now ≡ length bytes.now }
+    ensures ok { OnOk result (frame.new.items ≡ written list.now bytes.now) }
+    ensures len { OnOk result (length frame.new.items ≡ max 60 (total_of list.now + 16)) }
+    ensures fault { (f : BuildFault) → (result ≡ Err f) ↔ HasBuildFault f list.now }
+    ensures same { OnErr result (frame.new ≡ frame.old) }
+    ensures built { AreBuildable list.now → IsOk result }
+{
+    match fault_of(list) {
+        Some(fault) => Err(fault),
+        None => {
+            write(frame, list, bytes);
+            Ok(())
+        }
+    }
 }
 
 /// The frame of these datagrams (ETG.1000.4, clauses 5.3 and 5.4), with `bytes` as
@@ -197,8 +219,9 @@ pub fn build(list: &[Datagram], bytes: &[u8]) -> Result<Frame, BuildFault>
     ensures fault { (f : BuildFault) → (result ≡ Err f) ↔ HasBuildFault f list.now }
     ensures built { AreBuildable list.now → IsOk result }
 {
-    match fault_of(list) {
-        Some(fault) => Err(fault),
-        None => Ok(frame_of(list, bytes)),
+    let mut frame = Frame::new();
+    match rebuild(&mut frame, list, bytes) {
+        Ok(()) => Ok(frame),
+        Err(fault) => Err(fault),
     }
 }

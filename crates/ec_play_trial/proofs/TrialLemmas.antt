@@ -3,12 +3,12 @@ use Rattle.std.proofs.Common.{◌≡◌, ℕ, suc, ◌+◌, ◌<◌, Bool, true,
 use Rattle.std.specs.List.{range_with_len}
 use Rattle.std.proofs.lemmas.List.{map-append, drop_more}
 use Rattle.std.proofs.lemmas.List.Sums.{sum_by-cons}
-use Rattle.arrayvec.specs.ArrayVec.{ArrayVec}
 use Rattle.ec_frame_text.specs.Captures.{frame_record}
 use Rattle.ec_units.specs.declared.units.Units.{Units}
 use Rattle.ec_fmmu.specs.declared.mapping.Mapping.{Mapping}
 use Rattle.ec_frame_builder.proofs.FrameLemmas.{range-one, busy-yes, busy-no}
 use Rattle.ec_slave.specs.Journey.{passed, arrived}
+use Rattle.ec_player.specs.Boxes.{Boxed, bytes_in}
 use Rattle.ec_player.specs.Sent.{Sent, tick_sents, ticks_sents}
 use Rattle.ec_player.specs.Lines.{bytes_of, slaves_after}
 use Rattle.ec_player.specs.declared.faults.Wrong.{Wrong}
@@ -41,28 +41,28 @@ ticks_step us m image first now old tick t e had h =
     ∙ ap (map (tick_at us m image first)) (sym (range-one t))
 
 -- what is left of frames, and of what came back
-pub pairs_step : (trips : List Trip) (backs : List (ArrayVec ℕ)) (i ns : ℕ) (dt : Trip) (db : ArrayVec ℕ) → i < length trips → i < length backs
-    → pairs ns (map sent_in (drop i trips)) (map (λ frame. frame.items) (drop i backs))
-    ≡ frame_record ns (get_or trips i dt).frame.items ++ (frame_record (ns + passing (sent_in (get_or trips i dt))) (get_or backs i db).items
-    ++ pairs (ns + passing (sent_in (get_or trips i dt))) (map sent_in (drop (i + 1) trips)) (map (λ frame. frame.items) (drop (i + 1) backs)))
+pub pairs_step : (trips : List Trip) (backs : List Boxed) (i ns : ℕ) (dt : Trip) (db : Boxed) → i < length trips → i < length backs
+    → pairs ns (map sent_in (drop i trips)) (bytes_in (drop i backs))
+    ≡ frame_record ns (get_or trips i dt).frame.value.items ++ (frame_record (ns + passing (sent_in (get_or trips i dt))) (get_or backs i db).value.items
+    ++ pairs (ns + passing (sent_in (get_or trips i dt))) (map sent_in (drop (i + 1) trips)) (bytes_in (drop (i + 1) backs)))
 pairs_step trips backs i ns dt db l k =
-    λ j. pairs ns (map sent_in (drop_more trips i dt l j)) (map (λ (frame : ArrayVec ℕ). frame.items) (drop_more backs i db k j))
+    λ j. pairs ns (map sent_in (drop_more trips i dt l j)) (bytes_in (drop_more backs i db k j))
 
 -- a frame more with what came back of it
-pub pairs_more : (trips : List Trip) (backs : List (ArrayVec ℕ)) (i ns then : ℕ) (t : Trip) (b : ArrayVec ℕ) (old one two all sent back : List ℕ) → i < length trips → length backs ≡ length trips
-    → t ≡ get_or trips i t → b ≡ get_or backs i b → sent ≡ t.frame.items → back ≡ b.items → then ≡ ns + passing (sent_in t)
+pub pairs_more : (trips : List Trip) (backs : List Boxed) (i ns then : ℕ) (t : Trip) (b : Boxed) (old one two all sent back : List ℕ) → i < length trips → length backs ≡ length trips
+    → t ≡ get_or trips i t → b ≡ get_or backs i b → sent ≡ t.frame.value.items → back ≡ b.value.items → then ≡ ns + passing (sent_in t)
     → one ≡ old ++ frame_record ns sent → two ≡ one ++ frame_record then back
-    → old ++ pairs ns (map sent_in (drop i trips)) (map (λ frame. frame.items) (drop i backs)) ≡ all
-    → two ++ pairs then (map sent_in (drop (i + 1) trips)) (map (λ frame. frame.items) (drop (i + 1) backs)) ≡ all
+    → old ++ pairs ns (map sent_in (drop i trips)) (bytes_in (drop i backs)) ≡ all
+    → two ++ pairs then (map sent_in (drop (i + 1) trips)) (bytes_in (drop (i + 1) backs)) ≡ all
 pairs_more trips backs i ns then t b old one two all sent back l each et eb es ek when e1 e2 had =
-    let items = λ (frame : ArrayVec ℕ). frame.items in
-    let later = pairs then (map sent_in (drop (i + 1) trips)) (map items (drop (i + 1) backs)) in
+    let items = λ (held : Boxed). held.value.items in
+    let later = pairs then (map sent_in (drop (i + 1) trips)) (bytes_in (drop (i + 1) backs)) in
     let k : i < length backs = omega (arith, l, each) in
     (λ j. (e2 ∙ ap (λ w. w ++ frame_record then back) e1) j ++ later)
     ∙ append_assoc (old ++ frame_record ns sent) (frame_record then back) later
     ∙ append_assoc old (frame_record ns sent) (frame_record then back ++ later)
-    ∙ (λ j. old ++ (frame_record ns ((es ∙ ap (λ (w : Trip). w.frame.items) et) j) ++ (frame_record ((when ∙ ap (λ (w : Trip). ns + passing (sent_in w)) et) j) ((ek ∙ ap items eb) j)
-    ++ pairs ((when ∙ ap (λ (w : Trip). ns + passing (sent_in w)) et) j) (map sent_in (drop (i + 1) trips)) (map items (drop (i + 1) backs)))))
+    ∙ (λ j. old ++ (frame_record ns ((es ∙ ap (λ (w : Trip). w.frame.value.items) et) j) ++ (frame_record ((when ∙ ap (λ (w : Trip). ns + passing (sent_in w)) et) j) ((ek ∙ ap items eb) j)
+    ++ pairs ((when ∙ ap (λ (w : Trip). ns + passing (sent_in w)) et) j) (map sent_in (drop (i + 1) trips)) (bytes_in (drop (i + 1) backs)))))
     ∙ ap (λ w. old ++ w) (sym (pairs_step trips backs i ns t b l k))
     ∙ had
 

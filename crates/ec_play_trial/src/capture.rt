@@ -1,6 +1,7 @@
 //! The frames of a play as a capture file.
 
 ghost use Rattle.std.specs.Prelude.{◌≡◌, ◌+◌, ◌*◌, ◌≤◌, ◌++◌, length, map, sum_by, IfOk, OnOk};
+ghost use Rattle.ec_player.specs.Boxes.{bytes_in};
 ghost use Rattle.ec_player.specs.Trips.{sent_in};
 ghost use Rattle.ec_play_trial.specs.Rounds.{round_in};
 ghost use Rattle.ec_play_trial.specs.Trials.{tick_in};
@@ -9,8 +10,7 @@ ghost use Rattle.ec_play_trial.specs.Captures.{passing, pairs, first_tick, ticks
 use crate::tick::Tick;
 use crate::trial::Trial;
 use ec_frame_text::{capture_head, push_record};
-use ec_frames::Frame;
-use ec_player::Trip;
+use ec_player::{BoxedFrame, Trip};
 use ec_units::Units;
 use ec_wire::ns_of;
 use std::alloc::{AllocError, Global};
@@ -32,12 +32,12 @@ fn push_round(
     file: &mut Vec<u8>,
     start: u64,
     trips: &[Trip],
-    backs: &[Frame],
+    backs: &[BoxedFrame],
 ) -> Result<u64, AllocError>
     requires each { length backs.now ≡ length trips.now }
     requires few { length trips.now ≤ 769 }
     requires soon { start ≤ 1100000000000 }
-    ensures records { OnOk result (file.new.items ≡ file.old.items ++ pairs start (map sent_in trips.now) (map (λ frame. frame.items) backs.now)) }
+    ensures records { OnOk result (file.new.items ≡ file.old.items ++ pairs start (map sent_in trips.now) (bytes_in backs.now)) }
     ensures after { IfOk result (λ ns. ns ≡ start + sum_by passing (map sent_in trips.now)) }
     ensures most { IfOk result (λ ns. ns ≤ start + 123040 * length trips.now) }
 {

@@ -38,7 +38,7 @@ fn try_tick(
     ensures tick { IfOk result (λ t. tick_in t ≡ tick_of line.old (tick_sents units.now mapping.now image.now tick)) }
     ensures line { OnOk result (line.new ≡ slaves_after handed_on left line.old (tick_sents units.now mapping.now image.now tick)) }
 {
-    let trips = tick_trips(alloc, units, mapping, image, tick)?;
+    let trips = tick_trips(alloc, &mut Vec::new(alloc), units, mapping, image, tick)?;
     let round = send(alloc, line, trips)?;
     let row = row_of(alloc, round.trips.as_slice(), round.backs.as_slice())?;
     let wants = wants_of(alloc, round.trips.as_slice())?;

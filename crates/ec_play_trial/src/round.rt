@@ -2,13 +2,12 @@
 
 ghost use Rattle.std.specs.Prelude.{◌≡◌, length};
 
-use ec_frames::Frame;
-use ec_player::Trip;
+use ec_player::{BoxedFrame, Trip};
 
 /// Frames as they are sent, each with the working counters that are wanted of its datagrams, and as they come back.
 #[derive(Drop)]
 pub struct Round {
     pub trips: Vec<Trip>,
-    pub backs: Vec<Frame>,
+    pub backs: Vec<BoxedFrame>,
     pub ghost each: { length backs.items ≡ length trips.items },
 }

@@ -6,7 +6,7 @@ ghost use Rattle.ec_player.specs.Trips.{sent_in};
 ghost use Rattle.ec_play_trial.specs.Rounds.{round_in, round_of};
 
 use crate::round::Round;
-use ec_player::{Trip, pass_all};
+use ec_player::{Trip, boxed, pass_all};
 use ec_slave::Pass;
 use std::alloc::{AllocError, Global};
 
@@ -21,8 +21,10 @@ pub(crate) fn send<X: Pass>(
     ensures slaves { OnOk result (slaves.new ≡ slaves_after X.out X.next slaves.old (map sent_in trips.items)) }
 {
     let mut backs = Vec::new(alloc);
+    let mut spare = Vec::new(alloc);
     for trip in trips.as_slice() {
-        let back = pass_all(slaves, &trip.frame);
+        let mut back = boxed(alloc, &mut spare, &trip.frame)?;
+        pass_all(slaves, &mut back);
         backs.push(back)?;
     }
     Ok(Round { trips, backs })

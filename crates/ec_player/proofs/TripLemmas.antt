@@ -1,17 +1,17 @@
 -- What the code sends is what is to be sent.
-use Rattle.std.proofs.Common.{◌≡◌, ℕ, zero, suc, ◌+◌, ◌≤◌, ◌==◌, cond, List, [], ◌∷◌, ◌++◌, length, map, filter, refl, sym, ap, ◌∙◌, arith}
+use Rattle.std.proofs.Common.{◌≡◌, ℕ, suc, ◌<◌, ◌≤◌, ◌==◌, cond, List, [], ◌∷◌, ◌++◌, length, map, filter, All, refl, sym, ap, ◌∙◌, arith}
 use Rattle.std.specs.List.{range_with_len, AllByRecursion}
 use Rattle.std.proofs.lemmas.Bool.{ne_eqb}
 use Rattle.std.proofs.lemmas.List.{length-map}
+use Rattle.std.proofs.lemmas.List.FromFn.{get_or-range_with_len, length-range_with_len}
 use Rattle.std.proofs.lemmas.List.Sums.{length-filter, count_by-le-length}
 use Rattle.ec_fmmu.specs.declared.fmmu.Fmmu.{Fmmu}
 use Rattle.ec_fmmu.specs.declared.group.Group.{Group}
-use Rattle.ec_fmmu.specs.declared.mapping.Mapping.{Mapping}
-use Rattle.ec_frame_builder.specs.Frames.{carries, slot_frame}
+use Rattle.ec_frame_builder.specs.Frames.{carries}
 use Rattle.ec_frame_builder.specs.Start.{StartFrame, roll_call, namings, mapping_frames, start_list, start_bytes}
 use Rattle.ec_player.specs.declared.faults.Stage.TheVariants as stage
-use Rattle.ec_player.specs.Sent.{Sent, start_sent, slot_sent}
-use Rattle.ec_player.specs.Trips.{starts_from, slots_from}
+use Rattle.ec_player.specs.Sent.{Sent, start_sent}
+use Rattle.ec_player.specs.Trips.{starts_from}
 
 -- start frames that are wanted with the counter 1
 abbrev Ones : List StartFrame → Type 0
@@ -40,20 +40,19 @@ starts-are ss ps =
     ap (λ w. record { stage = stage.Start; bytes = start_bytes (roll_call (length ss)); wants = length ss ∷ [] } ∷ w)
     (starts-ones 0 (length ss) fs (ones-namings 0 ss (mapping_frames ss ps) (ones-mappings ss ps)))
 
-pub slots-are : (m : Mapping) (image : List ℕ) (t : ℕ) (slots : List ℕ) → slots_from m.groups t slots (map (slot_frame m image t) slots) ≡ map (slot_sent m image t) slots
-slots-are m image t [] = refl
-slots-are m image t (s ∷ ss) = ap (λ w. slot_sent m image t s ∷ w) (slots-are m image t ss)
-
-length-range : (a n : ℕ) → length (range_with_len a n) ≡ n
-length-range a zero = refl
-length-range a (suc n) = ap suc (length-range (a + 1) n)
+-- numbers below n
+pub range-below : (n : ℕ) → All (λ s. s < n) (range_with_len 0 n)
+range-below n = λ k d l.
+    let e = get_or-range_with_len 0 n k d (let long = length-range_with_len 0 n in omega (arith, l, long)) in
+    let long = length-range_with_len 0 n in
+    omega (arith, e, l, long)
 
 -- at most so many as there are slots
 pub few-slots : (groups : List Group) (t n : ℕ) → length (filter (carries groups t) (range_with_len 0 n)) ≤ n
 few-slots groups t n =
     let a = length-filter (carries groups t) (range_with_len 0 n) in
     let b = count_by-le-length (carries groups t) (range_with_len 0 n) in
-    omega (arith, a, b, length-range 0 n)
+    omega (arith, a, b, length-range_with_len 0 n)
 
 -- there are as many start frames as were built
 pub as-many : {T F : Type 0} (g : T → Sent) (f : F → List ℕ) (ts : List T) (bs : List F) (fs : List StartFrame) → map g ts ≡ map start_sent fs → map f bs ≡ map start_bytes fs → length ts ≡ length bs

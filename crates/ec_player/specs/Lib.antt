@@ -1,4 +1,5 @@
 pub mod Sent
+pub mod Boxes
 pub mod Trips
 pub mod Faults
 pub mod Images

@@ -6,9 +6,11 @@ ghost use Rattle.ec_frames.specs.EntryViews.{entry};
 ghost use Rattle.ec_frames.specs.Reading.{Entry};
 ghost use Rattle.ec_frame_builder.specs.Frames.{covers};
 ghost use Rattle.ec_frame_builder.specs.Within.{IsWithin, AreWithin};
+ghost use Rattle.ec_player.specs.Boxes.{bytes_in};
 ghost use Rattle.ec_player.specs.Faults.{entries_of};
 ghost use Rattle.ec_player.specs.Images.{byte_in, last_byte, all_entries, byte_after};
 
+use crate::boxes::BoxedFrame;
 use crate::judging::read;
 use ec_fmmu::{FIRST_ADDRESS, Fmmu};
 use ec_frames::{Frame, Parsed, View, datagrams};
@@ -53,10 +55,10 @@ fn bring_frame(came: &mut [u8], frame: &Frame)
 
 /// Puts what came with frames at its logical addresses, of which the first, 0x00010000, is that of byte 0 of `came`. What lies
 /// outside of it is left out.
-pub fn bring(came: &mut [u8], frames: &[Frame])
+pub fn bring(came: &mut [u8], frames: &[BoxedFrame])
     ensures len { length came.new ≡ length came.old }
     ensures bytes { (k : ℕ) → k < length came.old → get_or came.new k 0
-        ≡ unwrap_or (last_byte (65536 + k) (all_entries (map (λ frame. frame.items) frames.now))) (get_or came.old k 0) }
+        ≡ unwrap_or (last_byte (65536 + k) (all_entries (bytes_in frames.now))) (get_or came.old k 0) }
 {
     for frame in frames {
         bring_frame(came, frame);
@@ -64,7 +66,7 @@ pub fn bring(came: &mut [u8], frames: &[Frame])
 }
 
 /// Copies the bytes from one place up to another, where there are some.
-pub(crate) fn copy_range(image: &mut [u8], came: &[u8], from: usize, to: usize)
+fn copy_range(image: &mut [u8], came: &[u8], from: usize, to: usize)
     requires { length came.now ≡ length image.old }
     ensures { (k : ℕ) → get_or image.new k 0 ≡ (if nat_le from k && nat_lt k to then get_or came.now k 0 else get_or image.old k 0) }
 {

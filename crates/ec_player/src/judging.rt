@@ -1,20 +1,18 @@
 //! A frame that came back is judged by the frame that was sent.
 
-ghost use Rattle.std.specs.Prelude.{◌≡◌, ℕ, ◌+◌, ◌≤◌, if◌then◌else◌, [], length, map, get_or};
+ghost use Rattle.std.specs.Prelude.{◌≡◌, ◌↔◌, ℕ, ◌+◌, ◌<◌, ◌≤◌, true, false, [], length, map, get_or};
 ghost use Rattle.ec_frames.specs.Parsing.{frame_read};
 ghost use Rattle.ec_frames.specs.EntryViews.{entry};
 ghost use Rattle.ec_slave.specs.Requests.{row_of};
 ghost use Rattle.ec_slave.specs.Step.{extent, is_raised};
 ghost use Rattle.ec_player.specs.Sent.{Sent};
-ghost use Rattle.ec_player.specs.Faults.{is_open, may_change, is_reply_of, is_reply as is_reply_in, first_wrong as first_wrong_in, wrong_fault as wrong_fault_of, fault_of};
+ghost use Rattle.ec_player.specs.Faults.{is_open, is_reply_of, is_reply as is_reply_in, first_wrong as first_wrong_in, wrong_fault as wrong_fault_of, fault_of};
 
 use crate::faults::{Stage, Wrong};
-use crate::images::copy_range;
 use ec_frames::{
     AddressKind, Command, Frame, FrameFault, Parsed, View, address_kind, datagrams, parse,
 };
 use ec_outcome::PlayFault;
-use ec_slave::copy_of;
 
 /// What a frame is read as.
 pub(crate) fn read(frame: &[u8]) -> Result<Parsed<'_>, FrameFault>
@@ -33,46 +31,47 @@ fn has_position(command: Command) -> bool
     }
 }
 
-/// Copies what a slave may change in a datagram that begins at `at`.
-fn copy_open(frame: &mut [u8], back: &[u8], at: usize, view: &View<'_>)
-    requires same { length back.now ≡ length frame.old }
-    requires room { at + length (entry view.now).bytes + 12 ≤ 65535 }
-    ensures len { length frame.new ≡ length frame.old }
-    ensures bytes { (k : ℕ) → get_or frame.new k 0 ≡ (if is_open at (entry view.now) k then get_or back.now k 0 else get_or frame.old k 0) }
+/// Whether two frames of one length have the same bytes from one place up to another, as far as they go.
+fn are_same(sent: &[u8], back: &[u8], from: usize, to: usize) -> bool
+    requires { length back.now ≡ length sent.now }
+    ensures { (result ≡ true) ↔ ((k : ℕ) → from ≤ k → k < to → get_or back.now k 0 ≡ get_or sent.now k 0) }
 {
-    if has_position(view.command) {
-        copy_range(frame, back, at + 2, at + 4);
-    }
-    copy_range(frame, back, at + 10, at + 12 + view.bytes.len());
+    let end = to.min(sent.len());
+    end <= from || sent[from..end] == back[from..end]
 }
 
-/// A frame as it was sent, but for what a slave may change in its datagrams, which is as it came back.
-fn replied(parsed: &Parsed<'_>, sent: &Frame, back: &[u8]) -> Frame
-    requires short { extent parsed.now ≤ 2047 }
-    requires same { length back.now ≡ length sent.now.items }
-    ensures len { length result.items ≡ length sent.now.items }
-    ensures bytes { (k : ℕ) → get_or result.items k 0 ≡ (if may_change 16 parsed.now k then get_or back.now k 0 else get_or sent.now.items k 0) }
+/// Whether a datagram that begins at `at` came back with all that no slave may change in it.
+fn is_kept(sent: &[u8], back: &[u8], at: usize, view: &View<'_>) -> bool
+    requires same { length back.now ≡ length sent.now }
+    requires room { at + length (entry view.now).bytes + 12 ≤ 65535 }
+    ensures { (result ≡ true) ↔ ((k : ℕ) → at ≤ k → k < at + (length (entry view.now).bytes + 12) → is_open at (entry view.now) k ≡ false →
+        get_or back.now k 0 ≡ get_or sent.now k 0) }
 {
-    let mut frame = copy_of(sent);
-    let mut views = datagrams(parsed);
-    let mut at = 16;
-    'datagrams: while let Some(view) = views.next() {
-        copy_open(frame.as_mut_slice(), back, at, &view);
-        at += view.bytes.len() + 12;
-    }
-    frame
+    let address = if has_position(view.command) { 4 } else { 2 };
+    are_same(sent, back, at, at + 2) && are_same(sent, back, at + address, at + 10)
 }
 
 /// Whether what came back is a reply to a frame with these datagrams.
 #[tactic(auto, unfolding(crate::specs::Faults::is_reply_of))]
-fn is_reply_to(parsed: &Parsed<'_>, sent: &Frame, back: &[u8]) -> bool
+fn is_reply_to(parsed: &Parsed<'_>, sent: &[u8], back: &[u8]) -> bool
     requires { extent parsed.now ≤ 2047 }
-    ensures { result ≡ is_reply_of parsed.now sent.now.items back.now }
+    ensures { result ≡ is_reply_of parsed.now sent.now back.now }
 {
     if back.len() != sent.len() {
         return false;
     }
-    replied(parsed, sent, back).as_slice() == back
+    if !are_same(sent, back, 0, 16) {
+        return false;
+    }
+    let mut views = datagrams(parsed);
+    let mut at = 16;
+    'datagrams: while let Some(view) = views.next() {
+        if !is_kept(sent, back, at, &view) {
+            return false;
+        }
+        at += view.bytes.len() + 12;
+    }
+    are_same(sent, back, at, sent.len())
 }
 
 /// Whether two frames are one.
@@ -88,7 +87,7 @@ fn is_reply(sent: &Frame, back: &[u8]) -> bool
     ensures { result ≡ is_reply_in sent.now.items back.now }
 {
     match read(sent.as_slice()) {
-        Ok(parsed) => is_reply_to(&parsed, sent, back),
+        Ok(parsed) => is_reply_to(&parsed, sent.as_slice(), back),
         Err(_) => is_same(sent.as_slice(), back),
     }
 }

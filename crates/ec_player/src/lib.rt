@@ -2,6 +2,7 @@
 //! (own profile, after ETG.1000.4, clause 5.4).
 #![tactic(auto)]
 
+mod boxes;
 mod faults;
 mod images;
 mod journeys;
@@ -10,9 +11,10 @@ mod playing;
 mod rows;
 mod trips;
 
+pub use boxes::{BoxedFrame, boxed, keep_backs, keep_trips};
 pub use ec_frame_builder::{start_frames, tick_frames};
 pub use ec_outcome::PlayFault;
-pub use ec_slave::{Pass, SlaveBox, copy_of};
+pub use ec_slave::{Pass, SlaveBox};
 pub use faults::{Stage, Wrong};
 pub use images::{bring, image_of};
 pub use journeys::{judge_trip, pass_all};

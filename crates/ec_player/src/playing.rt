@@ -9,6 +9,7 @@ ghost use Rattle.ec_loads.specs.Cost.{plan_items, tick_cost};
 ghost use Rattle.ec_frame_builder.specs.Frames.{HasLayout, IsLayoutFor};
 ghost use Rattle.ec_frame_builder.specs.Start.{starts_of};
 ghost use Rattle.ec_player.specs.Sent.{start_sents, tick_sents, ticks_sents, all_sents};
+ghost use Rattle.ec_player.specs.Boxes.{bytes_in};
 ghost use Rattle.ec_player.specs.Faults.{entries_of, first_fault};
 ghost use Rattle.ec_player.specs.Images.{last_byte, all_entries, image_after};
 ghost use Rattle.ec_player.specs.Lines.{came_back, slaves_after, AreRight, IsMemory};
@@ -16,6 +17,7 @@ ghost use Rattle.ec_player.specs.Trips.{sent_in};
 ghost use Rattle.ec_player.specs.Rows.{counters_of, row_of as row_in, rows_of};
 ghost use Rattle.ec_player.specs.Plays.{IsAnswer};
 
+use crate::boxes::{BoxedFrame, keep_backs, keep_trips};
 use crate::images::{bring, image_of};
 use crate::journeys::travel;
 use crate::judging::read;
@@ -60,8 +62,8 @@ fn push_counters(counters: &mut Vec<u16>, frame: &Frame) -> Result<(), AllocErro
 }
 
 /// The working counters of frames.
-fn counters_of_frames(alloc: Global, frames: &[Frame]) -> Result<Counters, AllocError>
-    ensures { IfOk result (λ counters. counters ≡ counters_of (map (λ frame. frame.items) frames.now)) }
+fn counters_of_frames(alloc: Global, frames: &[BoxedFrame]) -> Result<Counters, AllocError>
+    ensures { IfOk result (λ counters. counters ≡ counters_of (bytes_in frames.now)) }
 {
     let mut counters = Vec::new(alloc);
     for frame in frames {
@@ -87,9 +89,9 @@ fn wire_bytes(trips: &[Trip]) -> u64
 /// # Errors
 ///
 /// `AllocError` where memory ran out.
-pub fn row_of(alloc: Global, trips: &[Trip], backs: &[Frame]) -> Result<TickRow, AllocError>
+pub fn row_of(alloc: Global, trips: &[Trip], backs: &[BoxedFrame]) -> Result<TickRow, AllocError>
     requires { length trips.now ≤ 8 }
-    ensures { IfOk result (λ row. row ≡ row_in (map sent_in trips.now) (map (λ frame. frame.items) backs.now)) }
+    ensures { IfOk result (λ row. row ≡ row_in (map sent_in trips.now) (bytes_in backs.now)) }
 {
     let counters = counters_of_frames(alloc, backs)?;
     Ok(TickRow {
@@ -99,9 +101,11 @@ pub fn row_of(alloc: Global, trips: &[Trip], backs: &[Frame]) -> Result<TickRow,
     })
 }
 
-/// Plays a tick: sends its frames, of which the first has this number, and notes the inputs that come back.
+/// Plays a tick: sends its frames, of which the first has this number, and notes the inputs that come back. It takes boxes from those
+/// to spare and puts them back.
 fn play_tick<X: Pass>(
     alloc: Global,
+    spare: &mut Vec<BoxedFrame>,
     units: &Units,
     mapping: &Mapping,
     image: &[u8],
@@ -124,18 +128,21 @@ fn play_tick<X: Pass>(
     ensures fault { IfErr result (λ f. IsMemory f
         ⊎ (first_fault number (tick_sents units.now mapping.now image.now tick) (came_back X.out X.next slaves.old (tick_sents units.now mapping.now image.now tick)) ≡ Some f)) }
 {
-    let Ok(trips) = tick_trips(alloc, units, mapping, image, tick) else {
+    let Ok(trips) = tick_trips(alloc, spare, units, mapping, image, tick) else {
         return Err(PlayFault::OutOfMemory);
     };
-    let backs = match travel(alloc, slaves, trips.as_slice(), number) {
+    let backs = match travel(alloc, spare, slaves, trips.as_slice(), number) {
         Ok(backs) => backs,
         Err(fault) => return Err(fault),
     };
     bring(came, backs.as_slice());
-    match row_of(alloc, trips.as_slice(), backs.as_slice()) {
-        Ok(row) => Ok(row),
-        Err(_) => Err(PlayFault::OutOfMemory),
-    }
+    let row = match row_of(alloc, trips.as_slice(), backs.as_slice()) {
+        Ok(row) => row,
+        Err(_) => return Err(PlayFault::OutOfMemory),
+    };
+    let _kept = keep_trips(spare, trips);
+    let _kept = keep_backs(spare, backs);
+    Ok(row)
 }
 
 /// What is known of ticks that were played: what is told of each, and for each byte of the image what came last.
@@ -172,10 +179,12 @@ fn play_ticks<X: Pass>(
         return Err(PlayFault::OutOfMemory);
     };
     let mut rows = Vec::new(alloc);
+    let mut spare = Vec::new(alloc);
     let mut number = from;
     for tick in 0..ticks {
         let row = match play_tick(
             alloc,
+            &mut spare,
             units,
             mapping,
             image,
@@ -227,7 +236,7 @@ fn play_line<X: Pass>(
     let Ok(trips) = start_trips(alloc, units, mapping) else {
         return Err(PlayFault::OutOfMemory);
     };
-    match travel(alloc, slaves, trips.as_slice(), 0) {
+    match travel(alloc, &mut Vec::new(alloc), slaves, trips.as_slice(), 0) {
         Ok(_) => {}
         Err(fault) => return Err(fault),
     }

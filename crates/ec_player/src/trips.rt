@@ -1,20 +1,18 @@
 //! What is sent: the start frames, and the frames of a tick.
 
-ghost use Rattle.std.specs.Prelude.{◌≡◌, ℕ, ◌+◌, ◌<◌, ◌≤◌, ◌==◌, List, [], ◌∷◌, length, map, filter, All, IfOk, if◌then◌else◌};
-ghost use Rattle.ec_fmmu.specs.declared.group.Group.{Group};
-ghost use Rattle.ec_units.specs.Together.{stations_of};
-ghost use Rattle.ec_frame_builder.specs.Frames.{HasLayout, goes, going};
-ghost use Rattle.ec_player.specs.Sent.{Sent, start_sents, tick_sents};
+ghost use Rattle.std.specs.Prelude.{◌≡◌, ℕ, ◌<◌, ◌≤◌, ◌==◌, true, [], ◌∷◌, length, map, All, IfOk, if◌then◌else◌};
+ghost use Rattle.ec_frame_builder.specs.Frames.{HasLayout, going, carries};
+ghost use Rattle.ec_player.specs.Sent.{start_sents, tick_sents};
 ghost use Rattle.ec_player.specs.declared.faults.Stage.TheVariants as stage;
-ghost use Rattle.ec_player.specs.Trips.{sent_in, starts_from, slots_from};
+ghost use Rattle.ec_player.specs.Trips.{sent_in, starts_from, slot_from};
 
+use crate::boxes::{BoxedFrame, any_box, boxed};
 use crate::faults::Stage;
 use crate::rows::Counters;
 use ec_fmmu::{Group, Mapping};
-use ec_frame_builder::{busy_slots, start_frames, tick_frames};
+use ec_frame_builder::{busy_slots, rewrite_frame, sent_of, start_frames};
 use ec_frames::Frame;
 use ec_hyper::Hyper;
-use ec_slave::copy_of;
 use ec_units::Units;
 use std::alloc::{AllocError, Global};
 
@@ -22,7 +20,7 @@ use std::alloc::{AllocError, Global};
 #[derive(Drop)]
 pub struct Trip {
     pub stage: Stage,
-    pub frame: Frame,
+    pub frame: BoxedFrame,
     pub wants: Counters,
 }
 
@@ -33,7 +31,7 @@ fn wants_of(alloc: Global, groups: &[Group], tick: u32, slot: u8) -> Result<Coun
 {
     let mut wants = Vec::new(alloc);
     for group in groups {
-        if Hyper::active(group.period, group.phase, tick) && group.slot == slot {
+        if group.slot == slot && Hyper::active(group.period, group.phase, tick) {
             wants.push(group.counter)?;
         }
     }
@@ -61,9 +59,10 @@ fn start_trip(alloc: Global, frame: &Frame, i: usize, slaves: u16) -> Result<Tri
     ensures { IfOk result (λ trip. sent_in trip ≡ record { stage = stage.Start; bytes = frame.now.items; wants = (if i == 0 then slaves else 1) ∷ [] }) }
 {
     let wants = one_counter(alloc, start_want(i, slaves))?;
+    let frame = boxed(alloc, &mut Vec::new(alloc), frame)?;
     Ok(Trip {
         stage: Stage::Start,
-        frame: copy_of(frame),
+        frame,
         wants,
     })
 }
@@ -96,52 +95,64 @@ fn trips_of_start(alloc: Global, frames: &[Frame], slaves: u16) -> Result<Vec<Tr
     Ok(trips)
 }
 
-/// The frame of a slot in a tick.
+/// The frame of a slot in a tick, which carries something in it, in a box of those to spare if there is one.
 fn slot_trip(
     alloc: Global,
-    groups: &[Group],
-    frame: &Frame,
+    spare: &mut Vec<BoxedFrame>,
+    units: &Units,
+    mapping: &Mapping,
+    sent: &[u8],
     tick: u32,
     slot: u8,
 ) -> Result<Trip, AllocError>
-    requires { All (λ g. 1 ≤ g.period) groups.now }
-    ensures { IfOk result (λ trip. sent_in trip ≡ record { stage = stage.Tick tick slot; bytes = frame.now.items; wants = map (λ g. g.counter) (going groups.now tick slot) }) }
+    requires layout { HasLayout units.now mapping.now }
+    requires sent { length sent.now ≡ mapping.now.total }
+    requires slot { slot < units.now.slots }
+    requires carried { carries mapping.now.groups tick slot ≡ true }
+    ensures { IfOk result (λ trip. sent_in trip ≡ slot_from mapping.now.groups sent.now tick slot) }
 {
-    let wants = wants_of(alloc, groups, tick, slot)?;
+    let wants = wants_of(alloc, mapping.groups.as_slice(), tick, slot)?;
+    let mut frame = any_box(alloc, spare)?;
+    rewrite_frame(alloc, &mut frame, units, mapping, sent, tick, slot)?;
     Ok(Trip {
         stage: Stage::Tick { tick, slot },
-        frame: copy_of(frame),
+        frame,
         wants,
     })
 }
 
-/// The frames of slots in a tick, each with its counters.
+/// The frames of slots in a tick, each of which carries something, with their counters.
 fn trips_of_slots(
     alloc: Global,
-    groups: &[Group],
-    frames: &[Frame],
+    spare: &mut Vec<BoxedFrame>,
+    units: &Units,
+    mapping: &Mapping,
+    sent: &[u8],
     tick: u32,
     slots: &[u8],
 ) -> Result<Vec<Trip>, AllocError>
-    requires periods { All (λ g. 1 ≤ g.period) groups.now }
-    requires each { length frames.now ≡ length slots.now }
-    ensures { IfOk result (λ v. map sent_in v.items ≡ slots_from groups.now tick slots.now (map (λ frame. frame.items) frames.now)) }
+    requires layout { HasLayout units.now mapping.now }
+    requires sent { length sent.now ≡ mapping.now.total }
+    requires below { All (λ s. s < units.now.slots) slots.now }
+    requires carried { All (λ s. carries mapping.now.groups tick s ≡ true) slots.now }
+    ensures { IfOk result (λ v. map sent_in v.items ≡ map (slot_from mapping.now.groups sent.now tick) slots.now) }
 {
-    let mut trips = Vec::new(alloc);
-    for i in 0..slots.len() {
-        let trip = slot_trip(alloc, groups, &frames[i], tick, slots[i])?;
+    let mut trips = Vec::with_capacity(alloc, slots.len())?;
+    for slot in slots {
+        let trip = slot_trip(alloc, spare, units, mapping, sent, tick, *slot)?;
         trips.push(trip)?;
     }
     Ok(trips)
 }
 
-/// The frames of a tick, by slot, with their working counters.
+/// The frames of a tick, by slot, with their working counters, in boxes of those to spare as far as there are some.
 ///
 /// # Errors
 ///
 /// `AllocError` where memory ran out.
 pub fn tick_trips(
     alloc: Global,
+    spare: &mut Vec<BoxedFrame>,
     units: &Units,
     mapping: &Mapping,
     image: &[u8],
@@ -153,8 +164,15 @@ pub fn tick_trips(
     ensures few { IfOk result (λ v. length v.items ≤ 8) }
 {
     let slots = busy_slots(alloc, units, mapping, tick)?;
-    let frames = tick_frames(alloc, units, mapping, image, tick)?;
-    let groups = mapping.groups.as_slice();
-    let trips = trips_of_slots(alloc, groups, frames.as_slice(), tick, slots.as_slice())?;
+    let sent = sent_of(alloc, mapping.fmmus.as_slice(), image)?;
+    let trips = trips_of_slots(
+        alloc,
+        spare,
+        units,
+        mapping,
+        sent.as_slice(),
+        tick,
+        slots.as_slice(),
+    )?;
     Ok(trips)
 }

@@ -3,7 +3,8 @@ use Rattle.std.specs.Prelude.{◌≡◌, ℕ, List, [], ◌∷◌, IfSome}
 use Rattle.rtrb.specs.Ends.{SameRing}
 use Rattle.rtrb.specs.Ring.{received, all_sent, SameConsumer}
 use Rattle.ec_slave.specs.Journey.{outs, final}
-use Rattle.ec_player_threads.specs.Frames.{Link, bytes_in}
+use Rattle.ec_player.specs.Boxes.{bytes_in}
+use Rattle.ec_player_threads.specs.Frames.{Link}
 use Rattle.ec_player_threads.specs.declared.carrying.Back.{Back}
 use Rattle.ec_player_threads.specs.declared.carrying.Carried.{Carried}
 

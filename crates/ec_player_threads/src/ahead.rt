@@ -5,14 +5,13 @@ ghost use Rattle.rtrb.specs.Ring.{sent as sent_by, SameProducer};
 ghost use Rattle.ec_frame_builder.specs.Frames.{HasLayout};
 ghost use Rattle.ec_player.specs.Sent.{tick_sents};
 ghost use Rattle.ec_player.specs.Lines.{bytes_of};
-ghost use Rattle.ec_player_threads.specs.Frames.{bytes_in};
+ghost use Rattle.ec_player.specs.Boxes.{bytes_in};
 ghost use Rattle.ec_player_threads.specs.IsAhead.{sents_in, IsAhead};
 
-use crate::boxes::BoxedFrame;
 use crate::rounds::send_all;
 use crate::seats::Seat;
 use ec_fmmu::Mapping;
-use ec_player::{Trip, tick_trips};
+use ec_player::{BoxedFrame, Trip, tick_trips};
 use ec_units::Units;
 use rtrb::Producer;
 use std::alloc::{AllocError, Global};
@@ -84,7 +83,7 @@ impl Ahead {
         ensures tick { OnOk result (self.new.tick ≡ self.old.tick + 1) }
         ensures frames { OnOk result (self.new.frames ≤ self.old.frames + 8) }
     {
-        let trips = tick_trips(alloc, units, mapping, image, self.tick)?;
+        let trips = tick_trips(alloc, spare, units, mapping, image, self.tick)?;
         send_all(rt, alloc, first, spare, seat, trips.as_slice())?;
         self.frames += trips.len() as u32;
         self.tick += 1;

@@ -4,10 +4,10 @@ ghost use Rattle.std.specs.Prelude.{◌≡◌, ◌<◌, [], ◌∷◌, ◌++◌,
 ghost use Rattle.rtrb.specs.Ends.{SameRing};
 ghost use Rattle.rtrb.specs.Ring.{sent, received, all_sent, known_free, SameProducer, SameConsumer};
 ghost use Rattle.ec_slave.specs.Journey.{outs, final};
-ghost use Rattle.ec_player_threads.specs.Frames.{bytes_in};
+ghost use Rattle.ec_player.specs.Boxes.{bytes_in};
 
-use crate::boxes::BoxedFrame;
 use crate::seats::{Seat, is_over};
+use ec_player::BoxedFrame;
 use ec_slave::Pass;
 use rtrb::{Consumer, Finished, Producer};
 use std::snapshot::Snapshot;

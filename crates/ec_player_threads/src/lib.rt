@@ -3,7 +3,6 @@
 #![tactic(auto)]
 
 mod ahead;
-mod boxes;
 mod carrying;
 mod laws;
 mod line;

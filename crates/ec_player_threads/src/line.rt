@@ -4,14 +4,14 @@ ghost use Rattle.std.specs.Prelude.{◌≡◌, ◌⊎◌, [], ◌++◌, ℕ, Lis
 ghost use Rattle.rtrb.specs.Ring.{sent as sent_by, received, all_sent, SameConsumer};
 ghost use Rattle.ec_slave.specs.Journey.{line_outs, line_finals};
 ghost use Rattle.ec_player.specs.Lines.{IsMemory};
-ghost use Rattle.ec_player_threads.specs.Frames.{Boxed, bytes_in, IsFront};
+ghost use Rattle.ec_player.specs.Boxes.{Boxed, bytes_in};
+ghost use Rattle.ec_player_threads.specs.Frames.{IsFront};
 ghost use Rattle.ec_player_threads.specs.Threads.{Linked};
 ghost use Rattle.ec_player_threads.specs.Plays.{IsLack};
 
-use crate::boxes::BoxedFrame;
 use crate::carrying::{Back, Carried, carry};
 use crate::seats::{Seat, is_over};
-use ec_player::PlayFault;
+use ec_player::{BoxedFrame, PlayFault};
 use ec_slave::Pass;
 use rtrb::{Consumer, Finished, Producer, RingBuffer};
 use std::alloc::Global;

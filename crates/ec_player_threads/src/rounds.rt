@@ -5,12 +5,13 @@ ghost use Rattle.rtrb.specs.Ring.{sent as sent_by, received, SameProducer, SameC
 ghost use Rattle.ec_player.specs.Faults.{first_fault};
 ghost use Rattle.ec_player.specs.Lines.{bytes_of, IsMemory};
 ghost use Rattle.ec_player.specs.Trips.{sent_in};
-ghost use Rattle.ec_player_threads.specs.Frames.{Boxed, bytes_in};
+ghost use Rattle.ec_player.specs.Boxes.{Boxed, bytes_in};
 ghost use Rattle.ec_player_threads.specs.Rounds.{IsRound, IsStopped};
 
-use crate::boxes::{BoxedFrame, boxed, opened};
 use crate::seats::{Seat, is_over};
-use ec_player::{PlayFault, TickRow, Trip, bring, judge_trip, row_of};
+use ec_player::{
+    BoxedFrame, PlayFault, TickRow, Trip, boxed, bring, judge_trip, keep_backs, row_of,
+};
 use rtrb::{Consumer, Producer};
 use std::alloc::{AllocError, Global};
 use std::sync::Wait;
@@ -169,12 +170,11 @@ pub(crate) fn play_tick<R: Wait>(
         Ok(backs) => backs,
         Err(fault) => return Err(fault),
     };
-    let Ok(frames) = opened(alloc, spare, backs) else {
-        return Err(PlayFault::OutOfMemory);
+    bring(came, backs.as_slice());
+    let row = match row_of(alloc, due, backs.as_slice()) {
+        Ok(row) => row,
+        Err(_) => return Err(PlayFault::OutOfMemory),
     };
-    bring(came, frames.as_slice());
-    match row_of(alloc, due, frames.as_slice()) {
-        Ok(row) => Ok(row),
-        Err(_) => Err(PlayFault::OutOfMemory),
-    }
+    let _kept = keep_backs(spare, backs);
+    Ok(row)
 }

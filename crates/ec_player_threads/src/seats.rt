@@ -3,8 +3,8 @@
 ghost use Rattle.std.specs.Prelude.{◌≡◌};
 ghost use Rattle.rtrb.specs.Ring.{received, SameConsumer};
 
-use crate::boxes::BoxedFrame;
 use crossbeam_utils::CachePadded;
+use ec_player::BoxedFrame;
 use rtrb::Consumer;
 use std::alloc::{AllocError, Global};
 use std::sync::Wait;

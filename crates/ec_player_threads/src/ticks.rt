@@ -6,15 +6,15 @@ ghost use Rattle.ec_frame_builder.specs.Frames.{HasLayout};
 ghost use Rattle.ec_slave.specs.Journey.{journey};
 ghost use Rattle.ec_player.specs.Sent.{start_sents, all_sents};
 ghost use Rattle.ec_player.specs.Lines.{bytes_of, came_back, AreRight, IsMemory};
-ghost use Rattle.ec_player_threads.specs.Frames.{bytes_in, IsFront};
+ghost use Rattle.ec_player.specs.Boxes.{bytes_in};
+ghost use Rattle.ec_player_threads.specs.Frames.{IsFront};
 ghost use Rattle.ec_player_threads.specs.Rounds.{ArePlayed, IsLinePlayed, IsFirstFault};
 
 use crate::ahead::Ahead;
-use crate::boxes::BoxedFrame;
 use crate::rounds::{play_tick, send_all, take_all};
 use crate::seats::Seat;
 use ec_fmmu::Mapping;
-use ec_player::{PlayFault, Rows, TickRow, image_of, start_trips};
+use ec_player::{BoxedFrame, PlayFault, Rows, TickRow, image_of, keep_trips, start_trips};
 use ec_slave::Pass;
 use ec_units::Units;
 use rtrb::{Consumer, Producer};
@@ -95,6 +95,7 @@ fn play_ticks<X: Pass, R: Wait>(
             Err(fault) => return Err(fault),
         };
         number += row.frames;
+        let _kept = keep_trips(spare, due);
         let Ok(()) = rows.push(row) else {
             return Err(PlayFault::OutOfMemory);
         };

@@ -16,4 +16,4 @@ mod stretch;
 pub use fmmu::{Direction, Fmmu, Fmmus};
 pub use laws::{law_mapped_bytes, law_same_journey, law_what_passes};
 pub use request::Request;
-pub use slave::{Pass, SlaveBox, copy_of};
+pub use slave::{Pass, SlaveBox, refill};

@@ -31,6 +31,8 @@ pub trait Pass {
 #[derive(Drop)]
 pub struct SlaveBox {
     memory: Vec<u8>,
+    /// Room for a frame as it arrives.
+    arriving: Frame,
 }
 
 impl Model for SlaveBox {
@@ -48,14 +50,16 @@ fn zeros(alloc: Global, count: usize) -> Result<Vec<u8>, AllocError>
     Vec::from_elem(alloc, 0u8, count)
 }
 
-/// A frame with the same bytes (own profile).
-pub fn copy_of(frame: &Frame) -> Frame
-    ensures { result.items ≡ frame.now.items }
+/// Puts these bytes in place of those of a frame.
+pub fn refill(frame: &mut Frame, bytes: &[u8])
+    requires { length bytes.now ≤ 1514 }
+    ensures { frame.new.items ≡ bytes.now }
 {
-    let mut copy = Frame::new();
-    let done = copy.try_extend_from_slice(frame.as_slice());
+    frame.truncate(bytes.len());
+    let (over, behind) = bytes.split_at(frame.len());
+    frame.as_mut_slice().copy_from_slice(over);
+    let done = frame.try_extend_from_slice(behind);
     prove!(done.is_ok());
-    copy
 }
 
 impl SlaveBox {
@@ -68,7 +72,10 @@ impl SlaveBox {
         ensures { IfOk result (λ s. s ≡ replicate 65536 0) }
     {
         let memory = zeros(alloc, SIZE)?;
-        Ok(SlaveBox { memory })
+        Ok(SlaveBox {
+            memory,
+            arriving: Frame::new(),
+        })
     }
 
     /// The byte at this address of its memory.
@@ -90,8 +97,8 @@ impl SlaveBox {
         ensures memory { self.new ≡ memory_after self.old frame.old.items }
         ensures frame { frame.new.items ≡ frame_after self.old frame.old.items }
     {
-        let arriving = copy_of(frame);
-        if let Ok(parsed) = parse(arriving.as_slice()) {
+        refill(&mut self.arriving, frame.as_slice());
+        if let Ok(parsed) = parse(self.arriving.as_slice()) {
             step_datagrams(self.memory.as_mut_slice(), frame.as_mut_slice(), &parsed);
         }
     }

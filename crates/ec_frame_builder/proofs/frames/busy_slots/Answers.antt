@@ -1,8 +1,5 @@
 use Rattle.std.proofs.Common.{ℕ, ◌≤◌, List, Vec, Global, All, sym, ap, ◌∙◌, subst, refl}
-use Rattle.ec_units.specs.Views.{unit_view}
 use Rattle.ec_fmmu.specs.declared.group.Group.{Group}
-use Rattle.ec_fmmu.specs.Seats.{seats_of}
-use Rattle.ec_fmmu.specs.Layout.{total_of}
 use Rattle.ec_frame_builder.specs.Frames.{carries}
 use Rattle.ec_frame_builder.proofs.FrameLemmas.{busy-yes, busy-no}
 use Rattle.ec_frame_builder.proofs.WithinLemmas.{groups-within}

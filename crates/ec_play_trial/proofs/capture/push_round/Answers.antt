@@ -1,4 +1,5 @@
-use Rattle.std.proofs.Common.{◌≡◌, ◌+◌, length, sym, ap, ◌∙◌, arith}
+use Rattle.std.proofs.Common.{◌≡◌, ℕ, ◌+◌, length, sym, ap, ◌∙◌, arith}
+use Rattle.arrayvec.specs.ArrayVec.{ArrayVec}
 use Rattle.ec_player.specs.declared.trips.Trip.{Trip}
 use Rattle.ec_player.specs.Trips.{sent_in}
 use Rattle.ec_play_trial.specs.Captures.{passing}
@@ -11,7 +12,9 @@ loop-i-preserved c =
     let i = c.loop-i.i in
     let trip = c.index-trips-i.result in
     let inv = c.loop-i.invariant in
-    let same : c.as_slice-sent.result.now ≡ trip.frame.items = c.as_slice-sent.ensures.value ∙ sym (ap (λ (t : Trip). t.frame.items) c.index-trips-i.is) in
+    let items = λ (frame : ArrayVec ℕ). frame.items in
+    let same : c.as_slice-sent.result.now ≡ trip.frame.value.items =
+    c.as_slice-sent.ensures.value ∙ ap items c.deref.ensures ∙ sym (ap (λ (t : Trip). t.frame.value.items) c.index-trips-i.is) in
     let bytes = ap length same in
     let took : c.passing_ns-ns.result ≡ passing (sent_in trip) = omega (arith, c.passing_ns-ns.ensures, bytes) in
     let rest = time_step trips i trip c.loop-i-test.true in
@@ -20,5 +23,5 @@ loop-i-preserved c =
       most = omega (arith, inv.most, c.passing_ns-ns.ensures, c.as_slice-sent.ensures.fits);
       after = omega (arith, inv.after, rest, here, took);
       records = pairs_more trips c.args.backs.now i c.loop-i.ns _ trip c.index-backs-i.result c.loop-i.file.items c.push_record.new.file.items c.push_record-in-loop-i.new.file.items _ c.as_slice-sent.result.now c.as_slice.result.now
-          c.loop-i-test.true c.requires.each c.index-trips-i.is c.index-backs-i.is same c.as_slice.ensures.value (ap (λ w. c.loop-i.ns + w) took) c.in_ok-push_record.ensures c.in_ok-push_record-2.ensures inv.records;
+          c.loop-i-test.true c.requires.each c.index-trips-i.is c.index-backs-i.is same (c.as_slice.ensures.value ∙ ap items c.deref-in-loop-i.ensures) (ap (λ w. c.loop-i.ns + w) took) c.in_ok-push_record.ensures c.in_ok-push_record-2.ensures inv.records;
     }

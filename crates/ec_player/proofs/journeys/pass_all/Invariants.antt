@@ -7,6 +7,6 @@ invariant-loop-i g l =
     let out = g.X.Pass.out in
     let next = g.X.Pass.next in
     record {
-      frame : through out next (drop l.i l.slaves) l.back.items ≡ through out next l.fn.slaves l.frame.items;
-      slaves : take l.i l.slaves ++ passed out next (drop l.i l.slaves) l.back.items ≡ passed out next l.fn.slaves l.frame.items;
+      frame : through out next (drop l.i l.slaves) l.frame.items ≡ through out next l.initial.slaves l.initial.frame.items;
+      slaves : take l.i l.slaves ++ passed out next (drop l.i l.slaves) l.frame.items ≡ passed out next l.initial.slaves l.initial.frame.items;
     }

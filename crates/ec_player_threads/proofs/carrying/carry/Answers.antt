@@ -1,7 +1,7 @@
 use Rattle.std.proofs.Common.{rules, ℕ, List, ◌≡◌, ◌∙◌, ◌++◌, ◌∷◌, [], ap, sym}
 use Rattle.rtrb.specs.Ring.{sent, received}
 use Rattle.ec_slave.specs.Journey.{outs, final}
-use Rattle.ec_player_threads.specs.Frames.{Boxed, bytes_in}
+use Rattle.ec_player.specs.Boxes.{Boxed, bytes_in}
 use Rattle.ec_player_threads.proofs.LinkLemmas.{map-push}
 use Rattle.ec_player_threads.proofs.PassLemmas.{outs-push, final-push}
 use Rattle.ec_player_threads.proofs.carrying.carry.Goals as goal

@@ -1,7 +1,7 @@
 use Rattle.std.proofs.Common.{◌≡◌}
 use Rattle.rtrb.specs.Ring.{sent, received, SameProducer, SameConsumer}
 use Rattle.ec_slave.specs.Journey.{outs, final}
-use Rattle.ec_player_threads.specs.Frames.{bytes_in}
+use Rattle.ec_player.specs.Boxes.{bytes_in}
 use Rattle.ec_player_threads.proofs.carrying.carry.Given as goal
 
 abbrev pub invariant-loop : goal.invariant-loop

@@ -3,7 +3,7 @@ use Rattle.std.proofs.lemmas.List.{map-append}
 use Rattle.std.specs.declared.thread.PromisedHandle.{PromisedHandle}
 use Rattle.rtrb.specs.Ring.{received}
 use Rattle.ec_slave.specs.Journey.{line_outs}
-use Rattle.ec_player_threads.specs.Frames.{Boxed, bytes_in}
+use Rattle.ec_player.specs.Boxes.{Boxed, bytes_in}
 use Rattle.ec_player_threads.specs.declared.carrying.Back.{Back}
 use Rattle.ec_player_threads.specs.declared.carrying.Carried.{Carried}
 use Rattle.ec_player_threads.proofs.LinkLemmas.{linked-from, linked-to, on_ok_map}

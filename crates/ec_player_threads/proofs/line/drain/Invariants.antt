@@ -1,5 +1,5 @@
 use Rattle.std.proofs.Common.{◌≡◌, ◌++◌, List}
-use Rattle.ec_player_threads.specs.Frames.{Boxed}
+use Rattle.ec_player.specs.Boxes.{Boxed}
 use Rattle.rtrb.specs.Ring.{received, SameConsumer}
 use Rattle.ec_player_threads.proofs.line.drain.Given as goal
 

@@ -5,7 +5,7 @@ use Rattle.std.specs.Vec.Iter.{into_iter_items}
 use Rattle.rtrb.specs.Ends.{SameRing}
 use Rattle.rtrb.specs.Ring.{received, all_sent, known_items}
 use Rattle.ec_slave.specs.Journey.{outs, line_outs, line_finals}
-use Rattle.ec_player_threads.specs.Frames.{bytes_in}
+use Rattle.ec_player.specs.Boxes.{bytes_in}
 use Rattle.ec_player_threads.specs.Threads.{Linked}
 use Rattle.ec_player_threads.specs.declared.carrying.Carried.{Carried}
 use Rattle.ec_player_threads.specs.declared.carrying.Back.{Back}

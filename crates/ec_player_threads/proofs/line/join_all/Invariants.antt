@@ -2,7 +2,7 @@ use Rattle.std.proofs.Common.{◌≡◌, ◌++◌, map}
 use Rattle.std.specs.Vec.Iter.{into_iter_items}
 use Rattle.rtrb.specs.Ring.{all_sent}
 use Rattle.ec_slave.specs.Journey.{line_outs, line_finals}
-use Rattle.ec_player_threads.specs.Frames.{bytes_in}
+use Rattle.ec_player.specs.Boxes.{bytes_in}
 use Rattle.ec_player_threads.specs.Threads.{Linked}
 use Rattle.ec_player_threads.proofs.line.join_all.Given as goal
 

@@ -2,7 +2,8 @@ use Rattle.std.proofs.Common.{ℕ, List, refl, ap, ◌∙◌, subst}
 use Rattle.std.proofs.lemmas.List.{length-map}
 use Rattle.rtrb.specs.Ring.{sent, received}
 use Rattle.ec_slave.specs.Journey.{line_outs, line_finals}
-use Rattle.ec_player_threads.specs.Frames.{Boxed, bytes_in, IsFront}
+use Rattle.ec_player.specs.Boxes.{Boxed, bytes_in}
+use Rattle.ec_player_threads.specs.Frames.{IsFront}
 use Rattle.ec_player_threads.proofs.LinkLemmas.{same_ring-back, linked-from, linked-to}
 use Rattle.ec_player_threads.proofs.JoinLemmas.{all-came, joined, failed}
 use Rattle.ec_player_threads.proofs.playing.play_in.Goals as goal

@@ -2,7 +2,7 @@ use Rattle.std.proofs.Common.{◌≡◌, ◌≤◌, ◌++◌, take, map, length}
 use Rattle.rtrb.specs.Ring.{sent, SameProducer}
 use Rattle.ec_player.specs.Lines.{bytes_of}
 use Rattle.ec_player.specs.Trips.{sent_in}
-use Rattle.ec_player_threads.specs.Frames.{bytes_in}
+use Rattle.ec_player.specs.Boxes.{bytes_in}
 use Rattle.ec_player_threads.proofs.rounds.send_all.Given as goal
 
 abbrev pub invariant-loop : goal.invariant-loop

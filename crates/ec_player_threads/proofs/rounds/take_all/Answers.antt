@@ -3,7 +3,7 @@ use Rattle.std.proofs.Common.{rules, ◌++◌, length, map, refl, sym, ap, ◌�
 use Rattle.rtrb.specs.Ring.{received}
 use Rattle.ec_player.specs.Faults.{first_fault}
 use Rattle.ec_player.specs.Trips.{sent_in}
-use Rattle.ec_player_threads.specs.Frames.{bytes_in}
+use Rattle.ec_player.specs.Boxes.{bytes_in}
 use Rattle.ec_player_threads.proofs.FrontLemmas.{none_yet}
 use Rattle.ec_player_threads.proofs.rounds.take_all.Goals as goal
 

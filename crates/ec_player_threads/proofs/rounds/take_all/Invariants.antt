@@ -2,7 +2,7 @@ use Rattle.std.proofs.Common.{◌≡◌, ◌≤◌, ◌++◌, None, map, length,
 use Rattle.rtrb.specs.Ring.{received, SameConsumer}
 use Rattle.ec_player.specs.Faults.{first_fault}
 use Rattle.ec_player.specs.Trips.{sent_in}
-use Rattle.ec_player_threads.specs.Frames.{bytes_in}
+use Rattle.ec_player.specs.Boxes.{bytes_in}
 use Rattle.ec_player_threads.proofs.rounds.take_all.Given as goal
 
 abbrev pub invariant-loop : goal.invariant-loop

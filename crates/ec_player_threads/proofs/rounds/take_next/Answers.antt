@@ -2,7 +2,7 @@ use Rattle.std.proofs.Common.{◌≡◌, ◌+◌, ◌<◌, ℕ, List, length, ma
 use Rattle.arrayvec.specs.ArrayVec.{ArrayVec}
 use Rattle.ec_player.specs.Faults.{first_fault, fault_of}
 use Rattle.ec_player.specs.Trips.{sent_in}
-use Rattle.ec_player_threads.specs.Frames.{Boxed, bytes_in}
+use Rattle.ec_player.specs.Boxes.{Boxed, bytes_in}
 use Rattle.ec_player_threads.proofs.FrontLemmas.{fault-next}
 use Rattle.ec_player_threads.proofs.rounds.take_next.Goals as goal
 

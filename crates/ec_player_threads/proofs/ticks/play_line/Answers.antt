@@ -7,7 +7,7 @@ use Rattle.ec_player.specs.Sent.{Sent, start_sents}
 use Rattle.ec_player.specs.Lines.{bytes_of}
 use Rattle.ec_player.specs.Trips.{sent_in}
 use Rattle.ec_player.proofs.TickLemmas.{either}
-use Rattle.ec_player_threads.specs.Frames.{bytes_in}
+use Rattle.ec_player.specs.Boxes.{bytes_in}
 use Rattle.ec_player_threads.specs.Rounds.{IsStopped}
 use Rattle.ec_player_threads.proofs.RoundLemmas.{start-stopped}
 use Rattle.ec_player_threads.proofs.JoinLemmas.{line-played}

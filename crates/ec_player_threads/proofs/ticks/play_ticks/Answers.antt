@@ -7,7 +7,7 @@ use Rattle.ec_player.specs.Sent.{Sent, start_sents, tick_sents, all_sents}
 use Rattle.ec_player.specs.Lines.{came_back}
 use Rattle.ec_player.specs.Trips.{sent_in}
 use Rattle.ec_player.proofs.TickLemmas.{number-more, either}
-use Rattle.ec_player_threads.specs.Frames.{Boxed, bytes_in}
+use Rattle.ec_player.specs.Boxes.{Boxed, bytes_in}
 use Rattle.ec_player_threads.specs.declared.ahead.Ahead.{Ahead}
 use Rattle.ec_player_threads.specs.Rounds.{IsRound, IsStopped, ArePlayed}
 use Rattle.ec_player_threads.proofs.LinkLemmas.{same_ring-trans}

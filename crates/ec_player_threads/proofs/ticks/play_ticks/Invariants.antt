@@ -2,7 +2,7 @@ use Rattle.std.proofs.Common.{◌≡◌, ◌+◌, ◌*◌, ◌≤◌, List, ◌+
 use Rattle.rtrb.specs.Ring.{sent, received, SameProducer, SameConsumer}
 use Rattle.ec_player.specs.Sent.{start_sents, ticks_sents}
 use Rattle.ec_player.specs.Lines.{came_back}
-use Rattle.ec_player_threads.specs.Frames.{bytes_in}
+use Rattle.ec_player.specs.Boxes.{bytes_in}
 use Rattle.ec_player_threads.specs.Rounds.{ArePlayed}
 use Rattle.ec_player_threads.specs.IsAhead.{IsAhead}
 use Rattle.ec_player_threads.proofs.ticks.play_ticks.Given as goal

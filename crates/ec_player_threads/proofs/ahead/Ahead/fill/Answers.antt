@@ -1,6 +1,6 @@
 use Rattle.std.proofs.Common.{◌∙◌, arith}
 use Rattle.rtrb.specs.Ring.{sent}
-use Rattle.ec_player_threads.specs.Frames.{bytes_in}
+use Rattle.ec_player.specs.Boxes.{bytes_in}
 use Rattle.ec_player_threads.proofs.LinkLemmas.{same_ring-trans}
 use Rattle.ec_player_threads.proofs.WindowLemmas.{ahead-count}
 use Rattle.ec_player_threads.proofs.ahead.Ahead.fill.Goals as goal

@@ -1,6 +1,6 @@
 use Rattle.std.proofs.Common.{◌<◌, ◌+◌, ◌*◌, ◌-◌, ◌≤◌, ℕ}
 use Rattle.rtrb.specs.Ring.{sent, SameProducer}
-use Rattle.ec_player_threads.specs.Frames.{bytes_in}
+use Rattle.ec_player.specs.Boxes.{bytes_in}
 use Rattle.ec_player_threads.specs.IsAhead.{IsAhead}
 use Rattle.ec_player_threads.proofs.ahead.Ahead.fill.Given as goal
 

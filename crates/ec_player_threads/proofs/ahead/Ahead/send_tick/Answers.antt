@@ -2,7 +2,7 @@ use Rattle.std.proofs.Common.{◌++◌, map, ap, ◌∙◌, refl, arith}
 use Rattle.rtrb.specs.Ring.{sent}
 use Rattle.ec_player.specs.Lines.{bytes_of}
 use Rattle.ec_player.specs.Trips.{sent_in}
-use Rattle.ec_player_threads.specs.Frames.{bytes_in}
+use Rattle.ec_player.specs.Boxes.{bytes_in}
 use Rattle.ec_player_threads.proofs.WindowLemmas.{ahead-more}
 use Rattle.ec_player_threads.proofs.ahead.Ahead.send_tick.Goals as goal
 

@@ -10,13 +10,13 @@ moved copy frame ds e h = subst (λ (x : List ℕ). ReadsAs x ds) e h
 
 pub step_datagrams-requires-clause-room : goal.step_datagrams-requires-clause-room
 step_datagrams-requires-clause-room c =
-    let arriving : c.as_slice.result.now ≡ c.args.frame.now.items = c.as_slice.ensures.value ∙ c.copy_of-arriving.ensures in
+    let arriving : c.as_slice-2.result.now ≡ c.args.frame.now.items = c.as_slice-2.ensures.value ∙ c.refill.ensures ∙ c.as_slice.ensures.value in
     let fits = extent_fits c.args.frame.now.items c.in-Ok.parsed (moved _ _ c.in-Ok.parsed arriving ((c.in-Ok.ensures.ok c.in-Ok.parsed).0 refl)) in
     omega (arith, fits, ap length c.as_mut_slice-in-Ok.ensures.value)
 
 pub returns-in-Ok-clause-memory : goal.returns-in-Ok-clause-memory
 returns-in-Ok-clause-memory c =
-    let arriving : c.as_slice.result.now ≡ c.args.frame.now.items = c.as_slice.ensures.value ∙ c.copy_of-arriving.ensures in
+    let arriving : c.as_slice-2.result.now ≡ c.args.frame.now.items = c.as_slice-2.ensures.value ∙ c.refill.ensures ∙ c.as_slice.ensures.value in
     let reads = moved _ _ c.in-Ok.parsed arriving ((c.in-Ok.ensures.ok c.in-Ok.parsed).0 refl) in
     let memory : c.as_mut_slice.result.now ≡ c.args.self.now = c.as_mut_slice.ensures.value ∙ c.self.view_is in
     let frame : c.as_mut_slice-in-Ok.result.now ≡ c.args.frame.now.items = c.as_mut_slice-in-Ok.ensures.value in
@@ -27,7 +27,7 @@ returns-in-Ok-clause-memory c =
 
 pub returns-in-Ok-clause-frame : goal.returns-in-Ok-clause-frame
 returns-in-Ok-clause-frame c =
-    let arriving : c.as_slice.result.now ≡ c.args.frame.now.items = c.as_slice.ensures.value ∙ c.copy_of-arriving.ensures in
+    let arriving : c.as_slice-2.result.now ≡ c.args.frame.now.items = c.as_slice-2.ensures.value ∙ c.refill.ensures ∙ c.as_slice.ensures.value in
     let reads = moved _ _ c.in-Ok.parsed arriving ((c.in-Ok.ensures.ok c.in-Ok.parsed).0 refl) in
     let memory : c.as_mut_slice.result.now ≡ c.args.self.now = c.as_mut_slice.ensures.value ∙ c.self.view_is in
     let frame : c.as_mut_slice-in-Ok.result.now ≡ c.args.frame.now.items = c.as_mut_slice-in-Ok.ensures.value in
@@ -38,10 +38,10 @@ returns-in-Ok-clause-frame c =
 
 pub returns-in_default-clause-memory : goal.returns-in_default-clause-memory
 returns-in_default-clause-memory c =
-    let arriving : c.as_slice.result.now ≡ c.args.frame.now.items = c.as_slice.ensures.value ∙ c.copy_of-arriving.ensures in
-    sym (ap (λ s. s.0) (step_unread c.args.self.now c.args.frame.now.items c.in_default.field-0 (rw arriving at ((c.in_default.ensures.fault c.in_default.field-0).0 refl))))
+    let arriving : c.as_slice-2.result.now ≡ c.args.frame.now.items = c.as_slice-2.ensures.value ∙ c.refill.ensures ∙ c.as_slice.ensures.value in
+    c.self.view_is ∙ sym (ap (λ s. s.0) (step_unread c.args.self.now c.args.frame.now.items c.in_default.field-0 (rw arriving at ((c.in_default.ensures.fault c.in_default.field-0).0 refl))))
 
 pub returns-in_default-clause-frame : goal.returns-in_default-clause-frame
 returns-in_default-clause-frame c =
-    let arriving : c.as_slice.result.now ≡ c.args.frame.now.items = c.as_slice.ensures.value ∙ c.copy_of-arriving.ensures in
+    let arriving : c.as_slice-2.result.now ≡ c.args.frame.now.items = c.as_slice-2.ensures.value ∙ c.refill.ensures ∙ c.as_slice.ensures.value in
     sym (ap (λ s. s.1) (step_unread c.args.self.now c.args.frame.now.items c.in_default.field-0 (rw arriving at ((c.in_default.ensures.fault c.in_default.field-0).0 refl))))

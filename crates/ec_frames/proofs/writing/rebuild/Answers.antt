@@ -2,7 +2,7 @@ use Rattle.std.proofs.Common.{rules, ◌≡◌, Some, None, length, sym, ap, ◌
 use Rattle.ec_frames.specs.declared.writing.BuildFault.{BuildFault}
 use Rattle.ec_frames.proofs.BuildFaults.{fault_has, has_fault, buildable_none}
 use Rattle.ec_frames.proofs.WrittenReads.{length-written}
-use Rattle.ec_frames.proofs.writing.build.Goals as goal
+use Rattle.ec_frames.proofs.writing.rebuild.Goals as goal
 
 pub returns-in-Some-clause-fault : goal.returns-in-Some-clause-fault
 returns-in-Some-clause-fault c = λ f. (
@@ -16,7 +16,7 @@ returns-in-Some-clause-built c = λ h.
     absurd (cc (same))
 
 pub returns-in-None-clause-len : goal.returns-in-None-clause-len
-returns-in-None-clause-len c = ap length c.frame_of.ensures ∙ length-written c.args.list.now c.args.bytes.now c.requires
+returns-in-None-clause-len c = ap length c.write.ensures ∙ length-written c.args.list.now c.args.bytes.now c.requires
 
 pub returns-in-None-clause-fault : goal.returns-in-None-clause-fault
 returns-in-None-clause-fault c = λ f. (
