@@ -5,10 +5,10 @@
  *                                  so many ms; with 0 ticks it sends the start frames alone
  *     master --no-start ..         the same without the start frames, which were sent, or of which something else does the work
  *
- * SIGINT and SIGTERM end it. plan.h is what `ecplan frames --header plan.h` writes. The status is 0 where all came back right, 1 where
+ * SIGINT and SIGTERM end it. plan.h, of a folder of -I, is what `ecplan frames --header` writes. The status is 0 where all came back right, 1 where
  * something did not, and 2 where it can't begin or can't write what it tells. */
 #define _GNU_SOURCE
-#include "plan.h"
+#include <plan.h>
 #include <arpa/inet.h>
 #include <errno.h>
 #include <linux/if_packet.h>
@@ -18,10 +18,14 @@
 #include <stdio.h>
 #include <stdlib.h>
 #include <string.h>
+#include <sys/prctl.h>
 #include <sys/socket.h>
 #include <time.h>
 #include <unistd.h>
 
+#if ECPLAN_VERSION != 1
+#error "the header is of another version than this master reads"
+#endif
 #if ECPLAN_TICK_NS < ECPLAN_BUSIEST_NS
 #error "the plan does not fit: the frames of its busiest tick take longer than a tick"
 #endif
@@ -229,14 +233,23 @@ static size_t receive_own(int sock, uint8_t *frame, int64_t until, int is_ending
     }
 }
 
-/* Sets the outputs of a frame and sends it. Where it can't be sent, other than for a full queue, the run ends behind this tick. */
-static void send_frame(int sock, uint8_t *frame, const struct ecplan_frame *planned, unsigned index, unsigned long tick)
+/* Sets the outputs of all groups of a tick. Then none of their inputs has come yet. */
+static void set_tick(const struct ecplan_tick *tick, unsigned long number)
 {
-    for (unsigned i = 0; i < planned->groups; i++) {
-        unsigned group = ecplan_sent[planned->first + i];
-        set_outputs(group, tick);
-        is_fresh[group] = 0;
-    }
+    for (int is_set = 0; is_set < 2; is_set++)
+        for (unsigned k = 0; k < tick->frames; k++)
+            for (unsigned i = 0; i < ecplan_frames[tick->first + k].groups; i++) {
+                unsigned group = ecplan_sent[ecplan_frames[tick->first + k].first + i];
+                if (is_set)
+                    is_fresh[group] = 0;
+                else
+                    set_outputs(group, number);
+            }
+}
+
+/* Makes a frame and sends it. Where it can't be sent, other than for a full queue, the run ends behind this tick. */
+static void send_frame(int sock, uint8_t *frame, const struct ecplan_frame *planned, unsigned index)
+{
     if (0 <= send(sock, frame, make(frame, planned, index, 0), 0)) {
         sent++;
         return;
@@ -261,8 +274,9 @@ static void send_tick(int sock, unsigned long number, struct under_way *way)
     way->tick = &ecplan_ticks[number % ECPLAN_TICKS];
     way->first = (unsigned)(number * ECPLAN_SLOTS), way->next = 0;
     memset(way->has_come, 0, sizeof way->has_come);
+    set_tick(way->tick, number);
     for (unsigned k = 0; k < way->tick->frames; k++)
-        send_frame(sock, way->frames[k], &ecplan_frames[way->tick->first + k], (way->first + k) & 0xff, number);
+        send_frame(sock, way->frames[k], &ecplan_frames[way->tick->first + k], (way->first + k) & 0xff);
     way->due = sent - before;
 }
 
@@ -364,6 +378,7 @@ int main(int count, char **words)
     if (status != 0)
         return ended(status);
     signal(SIGINT, stop), signal(SIGTERM, stop);
+    prctl(PR_SET_TIMERSLACK, 1UL, 0UL, 0UL, 0UL); /* else each sleep may end 50 us late */
     static struct under_way way;
     int64_t begin = now();
     unsigned long number = 0;
