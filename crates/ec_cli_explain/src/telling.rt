@@ -4,15 +4,18 @@ use crate::paths::{tell_read, tell_write};
 use ec_cli_cert_hints::{tell_cert, tell_check, tell_no_plan};
 use ec_cli_refusals::Refusal;
 use ec_cli_spots::{Doc, Inputs};
-use ec_cli_unit_hints::{add_marked, tell_illegal, tell_large, tell_no_place, tell_units};
+use ec_cli_toml_hints::{add_marked, tell_large, tell_not_toml};
+use ec_cli_unit_hints::{tell_illegal, tell_no_place, tell_units};
 use ec_outcome::{PlayFault, SolveFault};
 use ec_text_builder::Draft;
+use ec_unit_text::UnitFault;
 use std::alloc::{AllocError, Global};
 
 /// Tells what is refused, of units that are this document.
 fn tell(out: &mut Draft, inputs: &Inputs<'_>, doc: Doc<'_>, refusal: Refusal) {
     match refusal {
-        Refusal::Unit(fault) => tell_units(out, inputs.units, doc, fault),
+        Refusal::Unit(UnitFault::NotToml) => tell_not_toml(out, inputs.units, doc.top.err()),
+        Refusal::Unit(fault) => tell_units(out, doc, fault),
         Refusal::Illegal(illegal) => tell_illegal(out, doc, illegal),
         Refusal::TooLarge => tell_large(out, doc.text),
         Refusal::NoPlace(unit) => tell_no_place(out, doc, unit),

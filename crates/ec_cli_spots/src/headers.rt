@@ -43,6 +43,17 @@ pub fn line_named(doc: Doc<'_>, name: &str) -> Option<usize> {
     None
 }
 
+/// The first line, from 1, that begins a table within a key of the top, as `[[units.slave]]` does within `units`.
+pub fn line_within(doc: Doc<'_>, name: &str) -> Option<usize> {
+    for (index, line) in doc.text.lines().enumerate() {
+        let rest = name_of(line).strip_prefix(name).unwrap_or("");
+        if line.trim_start().starts_with('[') && rest.trim_start().starts_with('.') {
+            return Some(index.saturating_add(1));
+        }
+    }
+    None
+}
+
 /// The first line, from 1, that begins a unit or a slave.
 pub fn first_header(doc: Doc<'_>) -> Option<usize> {
     let at = doc.text.lines().position(|line| header_of(line).is_some())?;

@@ -4,14 +4,17 @@
 mod headers;
 mod illegal;
 mod inputs;
+mod kinds;
 mod label;
 mod lines;
 mod periods;
 mod quoted;
+mod written;
 
-pub use headers::{Header, first_header, header_line, header_of, line_named, name_of};
+pub use headers::{Header, first_header, header_line, header_of, line_named, line_within, name_of};
 pub use illegal::add_illegal;
 pub use inputs::{Doc, Fields, Inputs, bytes_of, slave_bytes};
+pub use kinds::{Kind, SLAVE, TOP, UNIT};
 pub use label::{AtLine, In, Named, Pair};
 pub use lines::{line_at, position_of};
 pub use periods::{are_coprime, has_period, ticks_of};
@@ -19,3 +22,4 @@ pub use quoted::{
     Bytes, CertName, Coded, Letter, PIECE, PathPiece, Quoted, Shown, Word, is_shown, is_told_whole,
     quoted_path,
 };
+pub use written::{before_comment, is_digit, is_strange, other_base, uncommented};

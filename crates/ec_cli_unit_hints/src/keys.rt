@@ -1,63 +1,14 @@
 //! Keys that are of another type, or not known.
 
 use crate::nearest::nearest;
-use crate::slips::{before_comment, other_base};
 use ec_cli_spots::{
-    AtLine, Doc, Fields, In, Quoted, Shown, first_header, header_line, header_of, line_named,
-    name_of,
+    AtLine, Doc, Fields, In, Kind, Quoted, SLAVE, Shown, TOP, UNIT, before_comment, first_header,
+    header_line, header_of, line_named, line_within, name_of, other_base,
 };
 use ec_text_builder::Draft;
 use ec_unit_text::{Key, Spot};
 use std::alloc::AllocError;
 use toml::Value;
-
-/// A kind of table: its keys, how they are told, and what is told of one of them that stands in another table.
-#[derive(Clone, Copy)]
-pub(crate) struct Kind {
-    pub keys: &'static [Key],
-    told: &'static str,
-    astray: &'static str,
-}
-
-const TOP: Kind = Kind {
-    keys: &[Key::TickNs, Key::Slots, Key::Unit],
-    told: "The keys at the top of the file are tick_ns, slots and unit.\n",
-    astray: "It stands at the top of the file, above the first [[unit]].\n",
-};
-
-pub(crate) const UNIT: Kind = Kind {
-    keys: &[Key::Name, Key::Period, Key::Slave, Key::Phase, Key::Slot],
-    told: "The keys of a unit are name, period, slave, phase and slot.\n",
-    astray: "It is a key of a unit, between its line [[unit]] and its first [[unit.slave]].\n",
-};
-
-pub(crate) const SLAVE: Kind = Kind {
-    keys: &[
-        Key::Station,
-        Key::OutBytes,
-        Key::InBytes,
-        Key::Area(false),
-        Key::Area(true),
-    ],
-    told: "The keys of a slave are station, out_bytes, in_bytes, out_at and in_at.\n",
-    astray: "It is a key of a slave, below a line [[unit.slave]].\n",
-};
-
-impl Kind {
-    /// That of the table at a spot.
-    pub(crate) fn at(spot: Spot) -> Kind {
-        match (spot.unit, spot.slave) {
-            (Some(_), Some(_)) => SLAVE,
-            (Some(_), None) => UNIT,
-            (None, _) => TOP,
-        }
-    }
-
-    /// Whether a word is a key of such a table.
-    pub(crate) fn has(self, word: &str) -> bool {
-        self.keys.iter().any(|key| word == key.as_str())
-    }
-}
 
 /// What a key says, and what it takes.
 pub(crate) fn meaning(key: Key) -> &'static str {
@@ -93,6 +44,18 @@ fn are_slaves(word: &str, kind: Kind) -> bool {
         || (kind.has("unit") && front.eq_ignore_ascii_case("slave"))
 }
 
+/// Whether a line begins slaves within a word that isn't known at the top of the file, as `[[units.slave]]` does, and none begins a unit
+/// by that word, where units are begun as they have to be.
+fn begins_slaves(doc: Doc<'_>, word: &str) -> bool {
+    for line in doc.text.lines() {
+        let (front, rest) = name_of(line).split_once('.').unwrap_or(("", ""));
+        if front == word && rest == "slave" {
+            return doc.top().has(Key::Unit) && line_named(doc, word).is_none();
+        }
+    }
+    false
+}
+
 /// Whether a unit has slaves, and no line begins the first of them: they stand in braces.
 fn has_inline_slaves(doc: Doc<'_>, unit: Option<usize>) -> bool {
     let Some(number) = unit else {
@@ -104,7 +67,7 @@ fn has_inline_slaves(doc: Doc<'_>, unit: Option<usize>) -> bool {
 /// What is told of a key that isn't known at a spot, and belongs to a table of another kind. Where one that begins a unit stands in a
 /// slave, and the unit has it already, a further unit isn't begun.
 fn place_of(doc: Doc<'_>, word: &str, spot: Spot) -> Option<&'static str> {
-    if are_slaves(word, Kind::at(spot)) {
+    if are_slaves(word, Kind::at(spot)) || (spot.unit.is_none() && begins_slaves(doc, word)) {
         return Some("A slave begins with [[unit.slave]], below the [[unit]] that it belongs to.\n");
     }
     if has_inline_slaves(doc, spot.unit) {
@@ -175,7 +138,8 @@ fn unbegun_slave(doc: Doc<'_>, word: &str, spot: Spot) -> Option<usize> {
 /// which key was meant, if that isn't there.
 pub(crate) fn add_unknown(out: &mut Draft, doc: Doc<'_>, word: &str, spot: Spot) {
     let kind = Kind::at(spot);
-    let line = AtLine(line_named(doc, word).filter(|_| spot.unit.is_none()));
+    let at = line_named(doc, word).or_else(|| line_within(doc, word));
+    let line = AtLine(at.filter(|_| spot.unit.is_none()));
     out.add(format_args!("the key {}{line} is not known there.\n", Quoted(word)));
     if spot.slave.is_none() && is_name(doc.unit(spot.unit), word) {
         return add_meant(out, word, Key::Name);
@@ -189,7 +153,9 @@ pub(crate) fn add_unknown(out: &mut Draft, doc: Doc<'_>, word: &str, spot: Spot)
         return out.add(place);
     }
     match nearest(doc.alloc, word, kind.keys) {
-        Ok(Some(key)) if !doc.table(spot).has(key) => add_meant(out, word, key),
+        Ok(Some(key)) if key == Key::Unit || !doc.table(spot).has(key) => {
+            add_meant(out, word, key);
+        }
         Ok(_) => out.add(kind.told),
         Err(_) => out.give_up(),
     }

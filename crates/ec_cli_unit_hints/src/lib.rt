@@ -3,19 +3,14 @@
 
 mod areas;
 mod keys;
-mod marked;
 mod missing;
-mod mixed;
 mod nearest;
 mod periods;
 mod places;
 mod ranges;
-mod slips;
-mod syntax;
 mod telling;
 mod units;
 
 pub use areas::unset_areas;
-pub use marked::{add_marked, misread};
 pub use places::{tell_illegal, tell_no_place};
-pub use telling::{tell_large, tell_units};
+pub use telling::tell_units;

@@ -1,7 +1,7 @@
 //! Keys that are missing: where they stand, or what stands in their place.
 
-use crate::keys::{Kind, add_meant, add_unknown, meaning, meant_for, unknown_in};
-use ec_cli_spots::{Doc, In, Named, Quoted, header_line};
+use crate::keys::{add_meant, add_unknown, meaning, meant_for, unknown_in};
+use ec_cli_spots::{Doc, In, Kind, Named, Quoted, header_line};
 use ec_text_builder::Draft;
 use ec_unit_text::{Key, Spot};
 

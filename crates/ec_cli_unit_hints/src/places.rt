@@ -37,7 +37,7 @@ pub(crate) fn tell_range(out: &mut Draft, doc: Doc<'_>, spot: Spot) {
         ", but with its period its phase is 0 to {last_phase}, and with the slots of the file its slot is 0 to {last_slot}.\n"
     ));
     out.add(
-        "Write one of these; or take phase and slot of all units out, and plan --places PATH finds places for them.\n",
+        "Write one of these; or take phase and slot of this unit out: plan --places PATH finds places for all units.\n",
     );
     if unit.number(Key::Slot).unwrap_or(0) > last_slot {
         add_more_slots(out, doc);

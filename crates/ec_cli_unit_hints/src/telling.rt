@@ -1,7 +1,7 @@
 //! What is told of each fault of a unit text.
 
 use crate::ranges::{PERIOD, SLAVE_BYTES, SLOTS, STATION, TICK, tell_area, tell_range};
-use crate::{keys, missing, periods, places, syntax, units};
+use crate::{keys, missing, periods, places, units};
 use ec_cli_spots::Doc;
 use ec_text_builder::Draft;
 use ec_unit_text::{Spot, UnitFault};
@@ -12,13 +12,13 @@ const TOP: Spot = Spot {
     slave: None,
 };
 
-/// Tells a fault of the unit text.
-pub fn tell_units(out: &mut Draft, text: &[u8], doc: Doc<'_>, fault: UnitFault) {
+/// Tells a fault of the unit text; where that isn't TOML, no more than that.
+pub fn tell_units(out: &mut Draft, doc: Doc<'_>, fault: UnitFault) {
     match fault {
         UnitFault::OutOfMemory => out.add(
             "Memory ran out: nothing is said of the units. Run it with more memory; a search also with fewer nodes.\n",
         ),
-        UnitFault::NotToml => syntax::tell_not_toml(out, text, doc.top.err()),
+        UnitFault::NotToml => out.add("The file is not TOML.\n"),
         UnitFault::Missing(spot, key) => missing::tell_missing(out, doc, spot, key),
         UnitFault::WrongType(spot, key) => keys::tell_type(out, doc, spot, key),
         UnitFault::UnknownKey(spot) => keys::tell_unknown(out, doc, spot),
@@ -43,14 +43,5 @@ pub fn tell_units(out: &mut Draft, text: &[u8], doc: Doc<'_>, fault: UnitFault) 
         UnitFault::TickRange => tell_range(out, doc, TOP, TICK),
         UnitFault::PlaceRange(spot) => places::tell_range(out, doc, spot),
         UnitFault::PlaceHalf(spot) => places::tell_half(out, doc, spot),
-    }
-}
-
-/// Tells that a text, which begins so, is too large for one of units, and what it is where that is seen.
-pub fn tell_large(out: &mut Draft, text: &str) {
-    out.add("The unit text is too large: at most 1048576 bytes are read.");
-    match syntax::kind_of(text) {
-        Some(kind) => out.add(format_args!("\n{kind}")),
-        None => out.add(" Is it the right file?\n"),
     }
 }

@@ -1,7 +1,8 @@
 //! Units and slaves that are too many, too big, or have what another one has.
 
-use crate::slips::is_strange;
-use ec_cli_spots::{Coded, Doc, Fields, In, Letter, Named, bytes_of, is_shown, slave_bytes};
+use ec_cli_spots::{
+    Coded, Doc, Fields, In, Letter, Named, bytes_of, is_shown, is_strange, slave_bytes,
+};
 use ec_text_builder::Draft;
 use ec_unit_text::{Key, Spot};
 use ec_units::is_name_byte;

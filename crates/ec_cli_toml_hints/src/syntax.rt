@@ -1,45 +1,15 @@
 //! A unit text that isn't TOML: where its reader stopped, and what was likely meant.
 
 use crate::mixed::add_mixed;
-use crate::slips::{Stop, add_likely, is_strange};
-use ec_cli_spots::{Bytes, Coded, Letter, line_at, position_of};
+use crate::others::kind_of;
+use crate::slips::{Stop, add_likely};
+use ec_cli_spots::{Bytes, Coded, Letter, is_strange, line_at, position_of};
 use ec_text_builder::Draft;
 use std::fmt;
 use toml::de::Error;
 
 /// The most characters of a line that are shown.
 const SHOWN: usize = 120;
-
-/// Whether a text has one NUL in each of its first four pairs of bytes, as one in UTF-16 has whose letters are plain.
-fn is_wide(text: &str) -> bool {
-    let front = text.as_bytes().get(..8).unwrap_or(&[]);
-    !front.is_empty()
-        && front
-            .chunks_exact(2)
-            .all(|pair| (pair[0] == 0) != (pair[1] == 0))
-}
-
-/// What a text is that isn't one of units, as far as that is seen.
-pub(crate) fn kind_of(text: &str) -> Option<&'static str> {
-    let version = text.strip_prefix("ecplan ").unwrap_or("");
-    let front = text.trim_start_matches('\u{feff}').trim_start();
-    let kind = if version.starts_with(|letter: char| letter.is_ascii_digit()) {
-        "It is a certificate, and the file of the units is wanted here. A command that reads a certificate takes it behind --cert.\n"
-    } else if front.contains("<EtherCATInfo") {
-        "It is a device description (ESI). Have the engineering tool export the network (ENI), of which tools/units-from-eni of the sources makes a unit text.\n"
-    } else if front.starts_with("<?xml") || front.starts_with("<EtherCAT") {
-        "It is XML. Of the network description (ENI) of an engineering tool tools/units-from-eni of the sources makes a unit text.\n"
-    } else if front.starts_with("{\\rtf") {
-        "It is a text with formats: save it as plain text.\n"
-    } else if is_wide(text) {
-        "The file is UTF-16: save it as plain text in UTF-8.\n"
-    } else if text.contains('\r') && !text.contains('\n') {
-        "Its lines end with a carriage return alone: save it with line feeds.\n"
-    } else {
-        return None;
-    };
-    Some(kind)
-}
 
 /// Adds what was likely meant where the reader stopped with a message behind so many bytes, at a line, from 0.
 fn add_hint(out: &mut Draft, text: &str, line: usize, count: usize, message: &str) {
@@ -101,7 +71,7 @@ fn add_bytes(out: &mut Draft, line: &[u8], column: usize) {
 
 /// Tells that the file isn't TOML, and if it is known where its reader stopped: the line, the column and why, the line's text, and
 /// what was likely meant.
-pub(crate) fn tell_not_toml(out: &mut Draft, text: &[u8], error: Option<Error>) {
+pub fn tell_not_toml(out: &mut Draft, text: &[u8], error: Option<Error>) {
     let Some((error, span)) = error.and_then(|error| error.span().map(|span| (error, span))) else {
         return out.add("The file is not TOML.\n");
     };

@@ -1,7 +1,8 @@
 //! What was likely meant by a line of a unit text at which the TOML reader stopped.
 
-use crate::keys::{SLAVE, UNIT};
-use ec_cli_spots::{header_of, name_of};
+use ec_cli_spots::{
+    SLAVE, UNIT, before_comment, header_of, is_digit, is_strange, name_of, other_base, uncommented,
+};
 use ec_text_builder::Draft;
 
 /// Where the reader stopped.
@@ -38,19 +39,6 @@ const QUOTES: &str =
 /// How a line is written.
 const FORM: &str = "A line is key = value, or a header in brackets.\n";
 
-/// What stands in a line before the first # that is outside quotes.
-pub(crate) fn uncommented(line: &str) -> &str {
-    let mut quoted = false;
-    for (index, byte) in line.bytes().enumerate() {
-        match byte {
-            b'"' => quoted = !quoted,
-            b'#' if !quoted => return line.get(..index).unwrap_or(line),
-            _ => {}
-        }
-    }
-    line
-}
-
 /// Whether a line has an odd number of quotes before its comment.
 fn lacks_quote(line: &str) -> bool {
     uncommented(line).matches('"').count() % 2 == 1
@@ -61,11 +49,6 @@ fn has_slashes(line: &str) -> bool {
     uncommented(line)
         .split_once("//")
         .is_some_and(|(before, _)| !lacks_quote(before))
-}
-
-/// What stands in a line before its first #.
-pub(crate) fn before_comment(line: &str) -> &str {
-    line.split('#').next().unwrap_or("").trim()
 }
 
 /// Whether a character is a quote that TOML doesn't know.
@@ -85,11 +68,6 @@ fn has_curly(stop: Stop<'_>) -> bool {
     }
 }
 
-/// Whether a character is a digit of base 10.
-fn is_digit(letter: char) -> bool {
-    letter.is_ascii_digit()
-}
-
 /// Whether a value has digits, and nothing else but what is written between them.
 fn is_spaced_number(value: &str) -> bool {
     value.contains(is_digit)
@@ -105,29 +83,6 @@ fn has_zero(value: &str) -> bool {
         .strip_prefix('0')
         .unwrap_or("");
     behind.starts_with(is_digit)
-}
-
-/// The marks of base 16 in front of a number, in this language and in others.
-const MARKS: [&str; 8] = ["0x", "0X", "16#", "#x", "&H", "&h", "$", "x"];
-
-/// What is left of a value without the marks of base 16 in front of it and behind it.
-fn without_marks(value: &str) -> &str {
-    let bare = MARKS
-        .iter()
-        .find_map(|mark| value.strip_prefix(*mark))
-        .unwrap_or(value);
-    bare.strip_suffix(['h', 'H']).map_or(bare, str::trim_end)
-}
-
-/// The digits of a number of base 16 as TOML doesn't write it, as `1A00`, `0X3E9` and `3E9h` are.
-pub(crate) fn other_base(value: &str) -> Option<&str> {
-    let digits = without_marks(value);
-    let is_marked = digits.len() < value.len();
-    let is_hex = digits.contains(is_digit)
-        && digits.chars().all(|letter| letter.is_ascii_hexdigit());
-    let has_letter = digits.contains(|letter: char| letter.is_ascii_alphabetic());
-    let is_binary = value.starts_with("0b");
-    Some(digits).filter(|_| is_hex && (is_marked || (has_letter && !is_binary)))
 }
 
 /// The digits of a number of base 16 at which the reader stopped, as TOML doesn't write it; in a list or within braces more stands behind it.
@@ -211,12 +166,6 @@ fn is_unseen(letter: char) -> bool {
         '\u{ad}' | '\u{200b}'..='\u{200f}' | '\u{2060}' | '\u{feff}'
     );
     has_no_width || (letter.is_control() && letter != '\r')
-}
-
-/// Whether a character, no blank, is likely none that was meant: a dash or an equals sign that only looks plain, say, or a letter that isn't
-/// a Latin one.
-pub(crate) fn is_strange(letter: char) -> bool {
-    !letter.is_ascii() && (!letter.is_alphabetic() || letter > '\u{24f}')
 }
 
 /// Whether braces are open behind a text.

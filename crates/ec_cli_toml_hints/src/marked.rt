@@ -1,6 +1,6 @@
 //! Numbers of base 16, 8 and 2 as PLC programs write them. TOML takes the `#` for the begin of a comment, and reads `16#3E9` as 16.
 
-use crate::slips::uncommented;
+use ec_cli_spots::uncommented;
 use ec_text_builder::Draft;
 use std::alloc::{AllocError, Global};
 
