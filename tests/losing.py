@@ -5,6 +5,7 @@ Each function gives ways: a name, and what is called with a `Trial`. What a run 
 are written".
 """
 import os
+import re
 from functools import partial
 
 from trials import NOBODY, OTHER_GROUP, OTHER_USER, REFUSED_WRITE, Skipped, example
@@ -440,6 +441,10 @@ def of_longer_searches(outputs):
             try_older_that_says_more, longer, cert.rival)
     yield "plan --nodes 30 --out c, over that of plan --nodes 45, of the same value and level", partial(
         try_older_that_says_more, cert.rival, cert.fewer)
+    yield "plan --strong --nodes 1 --out c, over one by other rules of the same value and level", try_more_nodes_by_other_rules
+    for words in (["plan", "--nodes", "45"], ["plan", "--strong"]):
+        yield f"{' '.join(words)} --out c, over a proof of another line", partial(
+            try_cert_of_other_line, example("one-unit.cert"), words)
 
 
 def try_better_places(units, trial):
@@ -489,13 +494,59 @@ def try_alike_places(change, trial):
 
 
 def try_other_places(change, trial):
-    """Better places of a text that says something else on which costs stand, or is of other units, are replaced."""
+    """Better places of a text that says something else on which costs stand are replaced."""
     trial.put("units.toml", example("assembly-line.toml"))
     trial.run("plan", "--strong", "--places", "placed.toml", "units.toml")
     other = change(trial.get("placed.toml"))
     trial.put("placed.toml", other)
     done = trial.run("plan", "--nodes", "1", "--places", "placed.toml", "units.toml")
     trial.holds(done.code == 2 and trial.get("placed.toml") != other, f"status {done.code}: {done.said}")
+
+
+def try_other_line(trial):
+    """A text of another line stays, by the names of its units; one of which half have the same names doesn't."""
+    trial.put("units.toml", example("assembly-line.toml"))
+    trial.run("plan", "--strong", "--places", "placed.toml", "units.toml")
+    own = trial.get("placed.toml")
+    count = own.count(b'name = "')
+    for changed in (count // 2, count // 2 + 1):
+        other = own.replace(b'name = "', b'name = "x-', changed)
+        trial.put("placed.toml", other)
+        done = trial.run("plan", "--strong", "--places", "placed.toml", "units.toml")
+        if changed <= count // 2:
+            trial.holds(done.code == 0 and trial.get("placed.toml") == own, f"status {done.code}: {done.said}")
+        else:
+            trial.tells(done, "placed.toml", "holds a text of another line", "It is of another line")
+            trial.holds(done.code == 4 and trial.get("placed.toml") == other, f"status {done.code}: {done.said}")
+
+
+def try_cert_of_other_line(older, words, trial):
+    """A certificate of another line stays, also under a proof, and the new one lies beside it."""
+    trial.put("units.toml", example("assembly-line.toml"))
+    trial.put("c", older)
+    before = trial.seen()
+    alone = trial.run(*words, "units.toml")
+    done = trial.run(*words, "--out", "c", "units.toml")
+    trial.ends(done, 4, REFUSED_WRITE)
+    trial.tells(done, "c.part", "of another line", alone.text.split("\n")[0])
+    trial.left(before, {"c.part": trial.get("c.part")})
+
+
+def try_more_nodes_by_other_rules(trial):
+    """A certificate with as good a plan and level and more nodes stays, by whatever rules either is."""
+    trial.put("units.toml", example("assembly-line.toml"))
+    trial.run("plan", "--nodes", "300", "--out", "c", "units.toml")
+    trial.run("plan", "--strong", "--nodes", "1", "--out", "d", "units.toml")
+    shorter = trial.get("d")
+    level = re.search(rb"(?m)^level .*", shorter)[0]
+    values = [re.search(rb"(?m)^value .*", trial.get(path))[0] for path in ("c", "d")]
+    trial.holds(values[0] == values[1], f"two values: {values}")
+    trial.put("c", re.sub(rb"(?m)^level .*", level, trial.get("c")))
+    before = trial.seen()
+    done = trial.run("plan", "--strong", "--nodes", "1", "--out", "c", "units.toml")
+    trial.ends(done, 4, REFUSED_WRITE)
+    trial.tells(done, "c.part", "says more")
+    trial.left(before, {"c.part": shorter})
 
 
 def try_longer_text(trial):
@@ -515,9 +566,9 @@ def better_places(_outputs):
     for what, change in (("another station", lambda text: text.replace(b"station = 2001", b"station = 2999")),
                          ("another tick", lambda text: text.replace(b"tick_ns = ", b"tick_ns = 1"))):
         yield f"plan --places p, over better places with {what}", partial(try_alike_places, change)
-    for what, change in (("other names", lambda text: text.replace(b'name = "', b'name = "x-')),
-                         ("one slot more", lambda text: text.replace(b"slots = 1", b"slots = 2"))):
-        yield f"plan --places p, over better places with {what}", partial(try_other_places, change)
+    yield "plan --places p, over better places with one slot more", partial(
+        try_other_places, lambda text: text.replace(b"slots = 1", b"slots = 2"))
+    yield "plan --places p, over a text of another line", try_other_line
     yield "plan --places p, over better places with a text that is too long", try_longer_text
     yield "plan --places p, over better places of another text for the same units", partial(try_better_places, "units.toml")
     yield "plan --places p p, over better places of its own", partial(try_better_places, "placed.toml")

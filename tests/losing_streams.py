@@ -11,7 +11,7 @@ import time
 from functools import partial
 
 from losing_while import tells_plan
-from trials import REFUSED_WRITE, Skipped, example, has_stopped, shown, state_of
+from trials import REFUSED_WRITE, Skipped, has_stopped, shown, state_of
 
 # How long after its start a run's reader goes away, in ms.
 GONE_AFTER = (0, 0.5, 1, 1.5, 2, 2.5, 3, 4, 6, 10)
@@ -26,17 +26,16 @@ PLACING = ("fsync", "fdatasync", "chmod", "fchmod", "chown", "fchown", "lchown",
 
 
 class Writing:
-    """A run that writes files: its words, its files by name, and its output."""
+    """A run that writes files: its words, its files by name, its output, and the text that stands where its places go."""
 
-    def __init__(self, output, name, words, files):
-        self.output, self.name, self.words, self.files = output, name, words, files
+    def __init__(self, output, name, words, files, placed=b""):
+        self.output, self.name, self.words, self.files, self.placed = output, name, words, files, placed
 
     def put(self, trial):
         """Puts what it reads, and older files where it writes."""
         self.output.put(trial)
-        older = example("two-units-apart.toml")
         for name in self.files:
-            trial.put(name, self.output.older if name == "of-run" else older)
+            trial.put(name, self.output.older if name == "of-run" else self.placed)
 
 
 def writings_of(outputs):
@@ -45,7 +44,7 @@ def writings_of(outputs):
     cert, resumed, _capture, _picture, places, *_ = outputs
     for it in (cert, resumed):
         both = {"of-run": it.whole, "placed": places.whole}
-        runs.append(Writing(it, f"{it.name} and the places", it.line("of-run", "--places", "placed"), both))
+        runs.append(Writing(it, f"{it.name} and the places", it.line("of-run", "--places", "placed"), both, places.older))
     return runs
 
 

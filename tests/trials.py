@@ -263,6 +263,12 @@ def example(name):
         return file.read()
 
 
+def older_places(trial, units):
+    """The units with places, as a line had them that has one slot more now."""
+    placed = Output("", ["plan", "--nodes", "1"], "--places", units, b"").run_undisturbed(trial).whole
+    return re.sub(rb"(?m)^slots = (\d)", lambda found: b"slots = %d" % (int(found[1]) + 1), placed)
+
+
 def outputs_of(program, folder):
     """The files that jobs write, on small lines."""
     trial = Trial(program, folder)
@@ -280,7 +286,7 @@ def outputs_of(program, folder):
         Output("a certificate of a search that went on", resumed, "--out", twelve, older, short.whole),
         Output("a capture", ["frames"], "--pcap", line, made(["frames"], "--pcap", other).whole),
         Output("a picture", ["cost"], "--svg", line, made(["cost"], "--svg", other).whole),
-        Output("the places", ["plan"], "--places", twelve, other),
+        Output("the places", ["plan"], "--places", twelve, older_places(trial, twelve)),
         Output("a header", ["frames"], "--header", line, made(["frames"], "--header", other).whole),
         Output("a map", ["frames"], "--map", line, made(["frames"], "--map", other).whole),
         Output("a report", ["frames"], "--report", line, made(["frames"], "--report", other).whole),
@@ -298,7 +304,7 @@ def searches_of(program, folder):
     older = Output("", ["plan", "--nodes", "100"], "--out", units, b"").run_undisturbed(trial).whole
     outputs = [
         Output("the certificate of a search", words, "--out", units, older),
-        Output("the places of a search", words, "--places", units, example("two-units-apart.toml")),
+        Output("the places of a search", words, "--places", units, older_places(trial, units)),
     ]
     return [it.run_undisturbed(trial) for it in outputs]
 

@@ -83,6 +83,8 @@ pub enum KeepReason {
     Unreadable,
     /// Memory ran out over what it holds.
     TooLittleMemory,
+    /// It holds units of another line, or a certificate for them.
+    OtherLine,
     /// It holds a certificate of the same units that says more, and no proof.
     SaysMore,
     /// It holds a certificate of the same units with a higher level, whose plan costs more.
@@ -134,6 +136,9 @@ impl KeepReason {
             }
             KeepReason::TooLittleMemory => {
                 "Memory ran out over what it holds: give another path, or run it with more memory"
+            }
+            KeepReason::OtherLine => {
+                "It is of another line, by the names of its units: give another path, or take the file away first"
             }
             KeepReason::SaysMore => {
                 "It holds a certificate of the same units that says more: where check says that it is right, go on from it, else give another path"

@@ -2,14 +2,11 @@
 
 use crate::telling::tell;
 use ec_cli_explain::quoted_path;
-use ec_cli_files::read_file;
+use ec_cli_files::{MOST_HEAD, Others, names_in, others_by, read_file, unit_names};
 use ec_units::{Units, bytes_of};
 use std::alloc::{AllocError, Global};
 use std::fmt::Write as _;
 use std::rt::Files;
-
-/// Before its tree a certificate has at most so many bytes: those of 48 units and of their places.
-const MOST_HEAD: u64 = 8192;
 
 /// How the certificate of a search by the strong rules begins.
 const STRONG: &[u8] = b"ecplan 4\n";
@@ -70,17 +67,57 @@ fn unit_lines(alloc: Global, units: &Units) -> Result<String, AllocError> {
     Ok(lines)
 }
 
-/// That what is of other units is replaced, at the path of an option.
-fn others_text(alloc: Global, path: &str, what: &str, option: &str) -> Result<String, AllocError> {
+/// That what is of other units is replaced, at the path of an option, or stays, being of another line.
+fn others_text(
+    alloc: Global,
+    path: &str,
+    what: &str,
+    option: &str,
+    others: Others,
+) -> Result<String, AllocError> {
     let path = quoted_path(alloc, path)?;
-    format!(in alloc;
-        "{path} holds {what} of other units, and this run may put its own there: give another {option} to keep it.\n"
-    )
+    match others {
+        Others::Units => format!(in alloc;
+            "{path} holds {what} of other units, and this run may put its own there: give another {option} to keep it.\n"
+        ),
+        Others::Line => format!(in alloc;
+            "{path} holds {what} of another line, by the names of its units, and keeps it: give another {option}.\n"
+        ),
+    }
 }
 
 /// Tells, before a run that writes a unit text to a path, that one of other units stands there.
-pub fn tell_other_text<H: AllocGlobal + Eprint>(rt: &H, path: &str) {
-    tell(rt, others_text(rt.alloc(), path, "a text", "--places"));
+pub fn tell_other_text<H: AllocGlobal + Eprint>(rt: &H, path: &str, others: Others) {
+    tell(
+        rt,
+        others_text(rt.alloc(), path, "a text", "--places", others),
+    );
+}
+
+/// What is told of the certificate that begins so, at a path to which one for these units is written: nothing where it is for them.
+fn cert_text(
+    alloc: Global,
+    head: &Head,
+    path: &str,
+    units: &Units,
+) -> Result<Option<String>, AllocError> {
+    let lines = unit_lines(alloc, units)?;
+    let (these, those) = (names_in(alloc, &head.0)?, unit_names(alloc, units)?);
+    let others = others_by(these.as_slice(), those.as_slice());
+    // Of one that isn't written as a program writes it, as with CR LF, only the names are known.
+    let is_own = match head.rest() {
+        Some(rest) => rest.starts_with(lines.as_bytes()),
+        None => others == Others::Units,
+    };
+    if is_own {
+        return Ok(None);
+    }
+    let what = if head.is_proof() {
+        "a proof"
+    } else {
+        "a certificate"
+    };
+    Ok(Some(others_text(alloc, path, what, "--out", others)?))
 }
 
 /// Tells, before a run that writes a certificate to a path, that one of other units stands there, if one does.
@@ -88,15 +125,7 @@ pub fn tell_other_units<H: Files + AllocGlobal + Eprint>(rt: &H, path: &str, uni
     let Some(head) = Head::at(rt, path) else {
         return;
     };
-    let (Some(rest), Ok(lines)) = (head.rest(), unit_lines(rt.alloc(), units)) else {
-        return;
-    };
-    if !rest.starts_with(lines.as_bytes()) {
-        let what = if head.is_proof() {
-            "a proof"
-        } else {
-            "a certificate"
-        };
-        tell(rt, others_text(rt.alloc(), path, what, "--out"));
+    if let Ok(Some(text)) = cert_text(rt.alloc(), &head, path, units) {
+        tell(rt, Ok(text));
     }
 }

@@ -2,12 +2,12 @@
 
 use crate::costs::{Standing, are_alike, lacks_place, legal_cost, standing_at};
 use crate::lines::differ_in_places;
-use ec_cli_files::KeepReason;
+use ec_cli_files::{KeepReason, Others, others_by, unit_names};
 use ec_cli_refusals::Refusal;
 use ec_cli_text::placed_plan;
 use ec_loads::Plan;
 use ec_units::Units;
-use std::alloc::Global;
+use std::alloc::{AllocError, Global};
 use std::rt::Files;
 
 /// The places that are to be written, with the text of their units, and what became of the certificate of the same plan.
@@ -23,8 +23,23 @@ pub struct Placing<'a> {
     pub is_cert_kept: bool,
 }
 
+/// How units that stand differ from other ones.
+fn others_of(alloc: Global, held: &Units, units: &Units) -> Result<Others, AllocError> {
+    let (these, those) = (unit_names(alloc, held)?, unit_names(alloc, units)?);
+    Ok(others_by(these.as_slice(), those.as_slice()))
+}
+
+/// Why units that aren't the same as some others stay: they are of another line.
+fn reason_by_names(alloc: Global, held: &Units, units: &Units) -> Option<KeepReason> {
+    match others_of(alloc, held, units) {
+        Ok(Others::Units) => None,
+        Ok(Others::Line) => Some(KeepReason::OtherLine),
+        Err(_) => Some(KeepReason::TooLittleMemory),
+    }
+}
+
 /// Why the places of a plan aren't written over a unit text that stands. It lacks places, so that no plan made it, and differs from
-/// the units' text in more than places. Or its units have the same names, periods and bytes, and places that cost less, or as much where
+/// the units' text in more than places. Or it is of another line. Or its units have the same names, periods and bytes, and places that cost less, or as much where
 /// the certificate was left as it is, since they may be its plan's. Where it differs in places alone, cheaper ones are better, and ones that
 /// cost as much are as good, unless a certificate is to have the same plan.
 fn reason_by(
@@ -40,7 +55,7 @@ fn reason_by(
         return Some(KeepReason::HasLines).filter(|_| !is_same);
     }
     if !are_alike(held, units) {
-        return None;
+        return reason_by_names(alloc, held, units);
     }
     let own = match placed_plan(alloc, held) {
         Ok(own) => own,
@@ -78,12 +93,13 @@ pub fn reason_to_stay<F: Files>(
     }
 }
 
-/// Whether a unit text stands at a path in which each unit has a place, and which isn't one of these units (own profile).
-pub fn holds_others<F: Files>(files: &F, alloc: Global, path: &str, units: &Units) -> bool {
-    match standing_at(files, alloc, path) {
-        Ok(Some(Standing { units: held, .. })) => !lacks_place(&held) && !are_alike(&held, units),
-        _ => false,
+/// How the unit text that stands at a path differs from these units, if one stands there in which each unit has a place (own profile).
+pub fn others_at<F: Files>(files: &F, alloc: Global, path: &str, units: &Units) -> Option<Others> {
+    let Standing { units: held, .. } = standing_at(files, alloc, path).ok()??;
+    if lacks_place(&held) || are_alike(&held, units) {
+        return None;
     }
+    others_of(alloc, &held, units).ok()
 }
 
 /// The unit text that stands at a path, if one does that can be read (own profile).

@@ -3,7 +3,6 @@ use Rattle.std.specs.Prelude.{◌≡◌, ◌⊎◌, ℕ, ◌<◌, min, Option, S
 use Rattle.ec_loads.specs.Search.{IsAtMost, node_count}
 use Rattle.ec_cert.specs.IsBestPlan.{value_of}
 use Rattle.ec_cert.specs.Shapes.{CertView}
-use Rattle.ec_cert_merge.specs.Certs.{FitTogether}
 
 -- they are for the same slots and units
 abbrev pub AreForOneLine : CertView → CertView → Type 0
@@ -18,9 +17,8 @@ ShowsMore (Some l) level = level < l
 abbrev pub counted : CertView → ℕ
 counted c = min (node_count c.tree) 18446744073709551615
 
--- they are of one search, with the same value and the same level, and the older one has more nodes
+-- they have the same value and the same level, and the older one has more nodes
 pub record HasMoreNodes (older newer : CertView) : Type 0 where
-  pub fit : FitTogether older newer
   pub value : value_of older.best ≡ value_of newer.best
   pub level : older.level ≡ newer.level
   pub nodes : counted newer < counted older

@@ -9,8 +9,8 @@ ghost use Rattle.ec_cli_run.specs.Older.{AreForOneLine, HasMoreNodes, ShowsMore,
 use ec_cert::{Best, Cert, Tree, UnitLine, is_closed, node_count};
 use ec_cert_merge::misfit;
 use ec_cert_text::{CertFault, MOST_BYTES, read_cert};
-use ec_cli_files::{KeepReason, Whole};
-use std::alloc::Global;
+use ec_cli_files::{KeepReason, MOST_HEAD, Others, Whole, names_in, others_by};
+use std::alloc::{AllocError, Global};
 use std::io;
 use std::io::ErrorKind;
 use std::rt::Files;
@@ -68,12 +68,11 @@ fn cost_the_same(older: &Option<Best>, newer: &Option<Best>) -> bool
     }
 }
 
-/// Whether an older certificate is of the same search with the same value and level, and has more nodes.
+/// Whether an older certificate has the same value and level, and more nodes.
 fn has_more_nodes(older: &Cert, newer: &Cert) -> bool
     ensures { IsTrue result ↔ HasMoreNodes (cert_view older.now) (cert_view newer.now) }
 {
-    misfit(older, newer).is_none()
-        && cost_the_same(&older.best, &newer.best)
+    cost_the_same(&older.best, &newer.best)
         && older.level == newer.level
         && node_count(&newer.tree) < node_count(&older.tree)
 }
@@ -89,7 +88,7 @@ fn shows_more(older: Option<u64>, newer: u64) -> bool
 }
 
 /// Whether an older certificate says more for the same units than a newer one, which is no proof: it shows a higher level,
-/// has a plan that costs less, or is of the same search and has more nodes.
+/// has a plan that costs less, or says the same and has more nodes.
 fn says_more(older: &Cert, newer: &Cert) -> bool
     ensures { IsTrue result ↔ SaysMore (cert_view older.now) (cert_view newer.now) }
 {
@@ -156,22 +155,60 @@ fn reason_by(older: &Cert, newer: &Cert, is_part: bool) -> Option<KeepReason> {
     Some(why).filter(|_| says_more)
 }
 
-/// Why a certificate that stands at the path of a newer one makes no room for it: it says more for the same units, or has closed
-/// what the newer one leaves open, where that `is_part` of what both come from; or it can't be read, or not in this memory. None where
-/// nothing of it is lost (own profile).
+/// The names of the units of a certificate.
+fn names_of(alloc: Global, cert: &Cert) -> Result<Vec<&str>, AllocError> {
+    let mut names = Vec::new(alloc);
+    for line in cert.units.as_slice() {
+        names.push(line.name.as_str())?;
+    }
+    Ok(names)
+}
+
+/// Whether a certificate for another line stands at the path of a newer one. An error where what stands there can't be read.
+fn is_of_other_line<F: Files>(
+    alloc: Global,
+    whole: &Whole<'_, F>,
+    newer: &Cert,
+) -> io::Result<bool> {
+    let Some(front) = whole.standing(MOST_HEAD)? else {
+        return Ok(false);
+    };
+    let (these, those) = (names_in(alloc, &front)?, names_of(alloc, newer)?);
+    Ok(others_by(these.as_slice(), those.as_slice()) == Others::Line)
+}
+
+/// Why the certificate that stands at the path of a newer one stays. An error where it can't be read.
+fn reason_over<F: Files>(
+    alloc: Global,
+    whole: &Whole<'_, F>,
+    newer: &Cert,
+    is_part: bool,
+) -> io::Result<Option<KeepReason>> {
+    if is_of_other_line(alloc, whole, newer)? {
+        return Ok(Some(KeepReason::OtherLine));
+    }
+    if newer.level.is_none() {
+        return Ok(None);
+    }
+    match standing_cert(alloc, whole)? {
+        Some(older) => Ok(reason_by(&older, newer, is_part)),
+        None => Ok(None),
+    }
+}
+
+/// Why a certificate that stands at the path of a newer one makes no room for it: it is for another line; it says more for the same units,
+/// or has closed what the newer one leaves open, where that `is_part` of what both come from; or it can't be read, or not in this memory.
+/// None where nothing of it is lost (own profile).
 pub(crate) fn reason_to_stay<F: Files>(
     alloc: Global,
     whole: &Whole<'_, F>,
     newer: &Cert,
     is_part: bool,
 ) -> Option<KeepReason> {
-    if newer.level.is_none() {
-        return None;
-    }
-    match standing_cert(alloc, whole) {
-        Ok(Some(older)) => reason_by(&older, newer, is_part),
-        Ok(None) => None,
+    match reason_over(alloc, whole, newer, is_part) {
+        Ok(reason) => reason,
         Err(error) if error.kind() == ErrorKind::OutOfMemory => Some(KeepReason::TooLittleMemory),
+        Err(_) if newer.level.is_none() => None,
         Err(_) => Some(KeepReason::Unreadable),
     }
 }

@@ -3,7 +3,7 @@
 use ec_cli_command::Line;
 use ec_cli_files::{are_one, read_file};
 use ec_cli_paths::{tell_other_text, tell_other_units, tell_path};
-use ec_cli_places::{holds_others, unfit_text};
+use ec_cli_places::{others_at, unfit_text};
 use ec_unit_text::{MOST_BYTES, read_units};
 use ec_units::Units;
 use std::rt::Files;
@@ -25,10 +25,11 @@ pub(crate) fn other_cert<'a, H: Files>(rt: &H, line: &'a Line) -> Option<&'a str
 
 /// Tells, before a run, that a text can't have places, or that one of other units stands where it is to be written with them.
 fn tell_of_places<H: Files + AllocGlobal + Eprint>(rt: &H, text: &[u8], units: &Units, to: &str) {
-    match unfit_text(rt.alloc(), text, units) {
-        Some(why) => tell_path(rt, UNPLACEABLE, to, why),
-        None if holds_others(rt, rt.alloc(), to, units) => tell_other_text(rt, to),
-        None => {}
+    if let Some(why) = unfit_text(rt.alloc(), text, units) {
+        return tell_path(rt, UNPLACEABLE, to, why);
+    }
+    if let Some(others) = others_at(rt, rt.alloc(), to, units) {
+        tell_other_text(rt, to, others);
     }
 }
 
