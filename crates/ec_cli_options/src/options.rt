@@ -129,13 +129,13 @@ pub(crate) const ROWS: [Row; 24] = [
         "nodes",
         "N",
         &["plan"],
-        "The most nodes of the search tree to visit, 1 to 10000000; without it 1000000, with --minutes 10000000",
+        "The most nodes of the search tree to visit, 1 to 10000000; without it 1000000, or with --minutes 10000000, and with --out no more than its certificate has room for",
     ),
     (
         "nodes",
         "N",
         &["resume"],
-        "The most nodes to visit beside those of the certificate, 1 to 10000000; without it 1000000, with --minutes 10000000",
+        "The most nodes to visit beside those of the certificate, 1 to 10000000; without it 1000000, or with --minutes 10000000, and with --out no more than its certificate has room for",
     ),
     (
         "minutes",

@@ -74,9 +74,13 @@ fn takers_of(alloc: Global, option: &str) -> Result<String, AllocError> {
     Ok(text)
 }
 
-/// What is told of a word with dashes that a command doesn't have: which option of which commands was likely meant. None of a word
-/// that no option is like. Own profile.
-pub fn tip_of_option(alloc: Global, word: &str) -> Result<Option<String>, AllocError> {
+/// What is told of a word with dashes that a command doesn't have, or that stands before the command: which option of which commands was
+/// likely meant. None of a word that no option is like. Own profile.
+pub fn tip_of_option(
+    alloc: Global,
+    word: &str,
+    is_before: bool,
+) -> Result<Option<String>, AllocError> {
     let name = word.trim_start_matches('-');
     let name = meant_by(&OTHER_OPTIONS, name).unwrap_or(name);
     if name == "version" {
@@ -91,7 +95,12 @@ pub fn tip_of_option(alloc: Global, word: &str) -> Result<Option<String>, AllocE
         (" <", ">")
     };
     let takers = takers_of(alloc, name)?;
-    Ok(Some(format!(in alloc; "--{name}{open}{value}{close} is an option of {takers}")?))
+    let where_to = if is_before {
+        ": it stands behind the command"
+    } else {
+        ""
+    };
+    Ok(Some(format!(in alloc; "--{name}{open}{value}{close} is an option of {takers}{where_to}")?))
 }
 
 /// What is told of a word that is no command: which one was likely meant, or that a command stands before a path. None of another

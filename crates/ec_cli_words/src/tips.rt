@@ -16,6 +16,9 @@ const PART_TIP: &str = "a part is one word, as --part 1/3, and nodes stand behin
 /// What is told of a word that stands behind the path of the units.
 const PATH_TIP: &str = "one file of units is read; a path with spaces stands in quotes";
 
+/// How the text tells the usage where no command was read yet.
+const NO_COMMAND: &str = "Usage: ecplan <COMMAND>";
+
 /// What is told of a value that is no number.
 const NUMBER_TIP: &str = "a whole number is needed, in decimal digits alone";
 
@@ -43,7 +46,9 @@ fn tip_for(alloc: Global, kind: ErrorKind, text: &str) -> Result<Option<String>,
     let first = text.lines().next().unwrap_or("");
     let word = word_in(text).unwrap_or("");
     let tip = match kind {
-        ErrorKind::UnknownArgument if word.starts_with('-') => return tip_of_option(alloc, word),
+        ErrorKind::UnknownArgument if word.starts_with('-') => {
+            return tip_of_option(alloc, word, text.contains(NO_COMMAND));
+        }
         ErrorKind::UnknownArgument => tip_of_path(word, text),
         ErrorKind::InvalidSubcommand => return tip_of_command(alloc, word),
         ErrorKind::ValueValidation if first.ends_with(": invalid digit found in string") => {

@@ -79,14 +79,15 @@ impl Spot {
     }
 }
 
-/// Adds a line with another number behind its `=`; what follows the number stays.
+/// Adds a line with another number behind its `=`; all else of it stays.
 fn push_number(text: &mut String, line: &str, number: u16) -> Result<(), AllocError> {
     let Some((key, value)) = line.split_once('=') else {
         return text.push_str(line);
     };
-    let value = value.trim_start_matches([' ', '\t']);
-    let rest = value.trim_start_matches(|c: char| !matches!(c, ' ' | '\t' | '#' | '\r'));
-    write!(text, "{key}= {number}{rest}")
+    let bare = value.trim_start_matches([' ', '\t']);
+    let blanks = value.strip_suffix(bare).unwrap_or("");
+    let rest = bare.trim_start_matches(|c: char| !matches!(c, ' ' | '\t' | '#' | '\r'));
+    write!(text, "{key}={blanks}{number}{rest}")
 }
 
 /// Adds the line of a period, and behind it lines of a place, with the same blanks before them and the same end.

@@ -26,6 +26,10 @@ use std::{env, fs, io};
 const WAITING: &str =
     "ecplan waits for the units on standard input, up to an end of file (Ctrl-D); or name their file as a word.\n";
 
+/// What is told where a word isn't UTF-8, as a path may be.
+const NOT_UTF_8: &str =
+    "error: a word is not UTF-8\n\n  tip: rename the file, or send the units on standard input\n";
+
 /// The words after the program's name.
 fn words_of(rt: &HostRuntime) -> io::Result<Vec<String>> {
     let mut words = Vec::new(rt.alloc());
@@ -55,7 +59,7 @@ fn asked_by(rt: &HostRuntime) -> Result<Asked, LineFault>
     match words_of(rt) {
         Ok(words) => read_words(rt.alloc(), &words),
         Err(error) if error.kind() == ErrorKind::InvalidData => Err(LineFault::Refused {
-            text: String::from_str(rt.alloc(), "error: a word is not UTF-8\n")?,
+            text: String::from_str(rt.alloc(), NOT_UTF_8)?,
         }),
         Err(_) => Err(LineFault::Memory),
     }

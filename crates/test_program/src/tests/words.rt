@@ -351,6 +351,7 @@ const REFUSED: &str = " : requires a subcommand|\
     plan --svg p : unexpected argument '--svg'|\
     plan --workers 17 : <error: invalid value '17' for '--workers <N>': 17 is not in 1..=16\n\nFor more information, try '--help'.\n>|\
     plan --time 5 : <error: unexpected argument '--time' found\n\n  tip: --minutes <M> is an option of plan and resume\n\nUsage: ecplan plan [OPTIONS] [FILE]\n\nFor more information, try '--help'.\n>|\
+    --nodes 5 plan : tip: --nodes <N> is an option of plan and resume: it stands behind the command\n|\
     plan -j4 : tip: --workers <N> is an option of plan and resume\n|\
     plan -o p : tip: --out <PATH> is an option of plan, resume and merge\n|\
     check --cert p --out q : tip: --out <PATH> is an option of plan, resume and merge\n|\
@@ -391,12 +392,12 @@ const HELP: &str = "--help : Usage: ecplan <COMMAND>|\
     plan --help : Where to write the unit text again, with the places of the plan|\
     resume --help : Tell the progress on standard error also where that is no terminal|\
     plan --help : Usage: ecplan plan [OPTIONS] [FILE]|\
-    plan --help : without it 1000000, with --minutes 10000000|\
+    plan --help : without it 1000000, or with --minutes 10000000, and with --out no more than its certificate has room for|\
     plan --workers 1 --help : nodes of the search tree|\
     plan --help : How many workers search, 1 to 16|\
     check --help : Usage: ecplan check --cert <PATH> [FILE]|\
     resume --help : Usage: ecplan resume [OPTIONS] --cert <PATH> [FILE]|\
-    resume --help : without it 1000000, with --minutes 10000000|\
+    resume --help : without it 1000000, or with --minutes 10000000, and with --out no more than its certificate has room for|\
     resume --help : Go on only with the open leaves of part I of N|\
     merge --help : Usage: ecplan merge [OPTIONS] --cert <PATH> [FILE]|\
     merge --help : Where to write the merged certificate|\

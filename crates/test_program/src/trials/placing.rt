@@ -61,8 +61,8 @@ out_bytes = 4
 in_bytes = 0
 
 [[unit]]
-slot= 1# first
-\t'phase'  = 0 # near = far
+slot=1# first
+\t'phase'  =\t0 # near = far
 \"period\" = 60
 name = \"b\"
 slave = [{station = 2, out_bytes = 0, in_bytes = 1}]
