@@ -33,11 +33,13 @@ pub(crate) fn add_slaves(text: &mut Draft, seats: &[Seat<'_>]) {
     }
 }
 
-/// Adds a name for the place of each slave, by its station.
+/// Adds names for the place and the bytes of each slave, by its station.
 pub(crate) fn add_names(text: &mut Draft, seats: &[Seat<'_>]) {
     for (place, seat) in seats.iter().enumerate() {
-        let station = seat.station;
+        let (station, outputs, inputs) = (seat.station, seat.outputs.bytes, seat.inputs.bytes);
         text.add(format_args!("#define ECPLAN_SLAVE_{station} {place}\n"));
+        text.add(format_args!("#define ECPLAN_OUT_BYTES_{station} {outputs}\n"));
+        text.add(format_args!("#define ECPLAN_IN_BYTES_{station} {inputs}\n"));
     }
 }
 

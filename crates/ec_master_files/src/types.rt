@@ -23,7 +23,7 @@ pub(crate) const TYPES: &str = "
 
 /// What stands before the names of the slaves.
 pub(crate) const NAMES: &str = "
-/* The places of the slaves in ecplan_slaves, by their stations. */
+/* The places of the slaves in ecplan_slaves, and their bytes, by their stations. */
 ";
 
 /// What stands before the table of the slaves.
