@@ -5,8 +5,8 @@
  *                                  so many ms; with 0 ticks it sends the start frames alone
  *     master --no-start ..         the same without the start frames, which were sent, or of which something else does the work
  *
- * SIGINT and SIGTERM end it. plan.h, of a folder of -I, is what `ecplan frames --header` writes. The status is 0 where all came back right, 1 where
- * something did not, and 2 where it can't begin or can't write what it tells. */
+ * SIGINT and SIGTERM end it. plan.h, in a folder of -I, is what `ecplan frames --header plan.h` writes. The status is 0 where all came
+ * back right, 1 where something did not, and 2 where it can't begin or can't write what it tells. */
 #define _GNU_SOURCE
 #include <plan.h>
 #include <arpa/inet.h>
