@@ -1,7 +1,7 @@
 #!/usr/bin/env python3
 """A line of slaves behind an Ethernet interface, for tests of a master.
 
-    tests/line_of_slaves.py INTERFACE SLAVES [--away PLACE | --spoil lose|bend|swap|double] [--after FRAMES]
+    tests/line_of_slaves.py INTERFACE SLAVES [--away PLACE | --spoil lose|bend|swap|double|hold] [--after FRAMES]
 
 takes each EtherCAT frame that comes to the interface, passes it through so many slaves, one after the other, and sends it
 back. It is a model of its own, written from ETG.1000.4 alone: the frame (clause 5.3), datagrams, addressing and working
@@ -12,7 +12,8 @@ write by one slave (BRW, ARMW and FRMW pass).
 A slave has a small application: after each frame each byte of its inputs is the byte of its outputs at the same place, turned
 around at their end, and one more; of a slave without outputs it counts the reads. With --away the slave at PLACE, from 0,
 passes frames on and does nothing, once so many frames have come. With --spoil the frame after so many is lost, comes back with
-another address, behind the next one, or in place of the next one too.
+another address, behind the next one, or in place of the next one too; or with `hold` the HELD frames after so many come back all at
+once, behind the last of them.
 
 SIGTERM ends it. It then tells how many frames came, and of each slave the outputs that it holds and the inputs that were read
 last: `frames N`, `outputs STATION HEX`, `inputs STATION HEX`.
@@ -26,6 +27,7 @@ ETHERCAT = 0x88A4
 # Where the address of the first datagram stands.
 ADDRESS = 18
 MEMORY = 65536
+HELD = 80
 STATION, FMMUS, RECORD, RECORDS = 0x0010, 0x0600, 16, 4
 APRD, APWR, APRW, FPRD, FPWR, FPRW, BRD, BWR = 1, 2, 3, 4, 5, 6, 7, 8
 LRD, LWR, LRW = 10, 11, 12
@@ -212,9 +214,9 @@ def main():
     words.add_argument("slaves", type=int)
     words.add_argument("--away", type=int)
     words.add_argument("--after", type=int, default=0)
-    words.add_argument("--spoil", choices=("lose", "bend", "swap", "double"))
+    words.add_argument("--spoil", choices=("lose", "bend", "swap", "double", "hold"))
     told = words.parse_args()
-    slaves, count, behind = [Slave() for _ in range(told.slaves)], 0, None
+    slaves, count, behind, held = [Slave() for _ in range(told.slaves)], 0, None, []
     line = socket.socket(socket.AF_PACKET, socket.SOCK_RAW, socket.htons(ETHERCAT))
     line.bind((told.interface, ETHERCAT))
     signal.signal(signal.SIGTERM, end)
@@ -229,7 +231,11 @@ def main():
             if spoilt == "bend":
                 frame[ADDRESS] ^= 1
             is_left_out = told.spoil == "double" and count == told.after + 1
-            if spoilt in (None, "bend", "double") and not is_left_out:
+            if told.spoil == "hold" and 0 <= count - told.after < HELD:
+                held.append(frame)
+                for it in held if len(held) == HELD else []:
+                    line.send(it)
+            elif spoilt in (None, "bend", "double") and not is_left_out:
                 line.send(frame)
             if spoilt == "double":
                 line.send(frame)

@@ -26,8 +26,8 @@
 #if ECPLAN_VERSION != 1
 #error "the header is of another version than this master reads"
 #endif
-#if ECPLAN_TICK_NS < ECPLAN_BUSIEST_NS
-#error "the plan does not fit: the frames of its busiest tick take longer than a tick"
+#if ECPLAN_TICK_NS / 8 * 7 < ECPLAN_BUSIEST_NS
+#error "the plan does not fit: the frames of its busiest tick take longer than seven eighths of a tick, which this master waits"
 #endif
 
 enum { ETHERCAT = 0x88A4, FPWR = 5, LRW = 12, AHEAD = 16, HEAD = 10, TAIL = 2, LEAST = 60, MOST = 1514, START_MS = 1000, STOP_MS = 100 };
@@ -131,7 +131,7 @@ static size_t receive(int sock, uint8_t *frame, int64_t until, int is_ending)
             continue;
         if (found < 1)
             return 0;
-        ssize_t got = recv(sock, frame, MOST, MSG_TRUNC);
+        ssize_t got = recv(sock, frame, MOST, MSG_TRUNC | MSG_DONTWAIT);
         if (AHEAD + HEAD + TAIL <= got && got <= MOST) /* an error of the socket is no frame either */
             return (size_t)got;
         if (left < 0)
@@ -160,7 +160,7 @@ static int start(int sock, unsigned i)
         return perror("send"), 2;
     for (;;) {
         size_t got = receive(sock, back, until, 0);
-        if (got == 0)
+        if (got == 0 || until < now())
             return printf("start %u lost\n", i), 1;
         if (got != planned->bytes || !is_answer(back, frame))
             continue;
@@ -250,7 +250,7 @@ static void set_tick(const struct ecplan_tick *tick, unsigned long number)
 /* Makes a frame and sends it. Where it can't be sent, other than for a full queue, the run ends behind this tick. */
 static void send_frame(int sock, uint8_t *frame, const struct ecplan_frame *planned, unsigned index)
 {
-    if (0 <= send(sock, frame, make(frame, planned, index, 0), 0)) {
+    if (0 <= send(sock, frame, make(frame, planned, index, 0), MSG_DONTWAIT)) {
         sent++;
         return;
     }
@@ -259,37 +259,54 @@ static void send_frame(int sock, uint8_t *frame, const struct ecplan_frame *plan
         is_stopped = 1;
 }
 
-/* The frames of a tick as they were sent, the index of the first one, and what has come back of them. */
+/* The frames of a tick as they were sent, with one index, and what has come back of them. */
 struct under_way {
     const struct ecplan_tick *tick;
     uint8_t frames[ECPLAN_SLOTS][MOST], has_come[ECPLAN_SLOTS];
-    unsigned first, next;
+    unsigned index, next;
     unsigned long due;
 };
+
+/* Takes away what has come by now: it is of an older tick. Else a queue of old frames, once there, would stay. */
+static void drop_old(int sock)
+{
+    static uint8_t old[MOST];
+    for (ssize_t got; 0 <= (got = recv(sock, old, MOST, MSG_TRUNC | MSG_DONTWAIT));)
+        disordered += AHEAD + HEAD + TAIL <= got && got <= MOST && is_own(old);
+}
 
 /* Sends the frames of a tick. */
 static void send_tick(int sock, unsigned long number, struct under_way *way)
 {
     unsigned long before = sent;
     way->tick = &ecplan_ticks[number % ECPLAN_TICKS];
-    way->first = (unsigned)(number * ECPLAN_SLOTS), way->next = 0;
+    way->index = number & 0xff, way->next = 0;
     memset(way->has_come, 0, sizeof way->has_come);
     set_tick(way->tick, number);
+    drop_old(sock);
     for (unsigned k = 0; k < way->tick->frames; k++)
-        send_frame(sock, way->frames[k], &ecplan_frames[way->tick->first + k], (way->first + k) & 0xff);
+        send_frame(sock, way->frames[k], &ecplan_frames[way->tick->first + k], way->index);
     way->due = sent - before;
 }
 
-/* Takes a frame that came back: one of this tick, which its index tells, or one that is disordered. */
+/* Takes a frame that came back: one of this tick, which its index tells and its first address, or one that is disordered. */
 static void take_frame(struct under_way *way, const uint8_t *back, size_t got)
 {
-    unsigned k = (back[AHEAD + 1] - way->first) & 0xff;
-    int is_of_tick = k < way->tick->frames && !way->has_come[k];
-    disordered += !is_of_tick || k < way->next;
-    if (!is_of_tick)
+    unsigned k = 0, frames = way->tick->frames;
+    while (k < frames && memcmp(back + AHEAD + 2, way->frames[k] + AHEAD + 2, 4) != 0)
+        k++;
+    if (back[AHEAD + 1] != way->index || (k < frames && way->has_come[k])) {
+        disordered++;
         return;
+    }
+    way->due--;
+    if (k == frames) { /* none was sent with that address */
+        changed++;
+        return;
+    }
+    disordered += k < way->next;
     check(&ecplan_frames[way->tick->first + k], way->frames[k], back, got);
-    way->has_come[k] = 1, way->next = way->next < k + 1 ? k + 1 : way->next, way->due--;
+    way->has_come[k] = 1, way->next = way->next < k + 1 ? k + 1 : way->next;
 }
 
 /* Takes the frames that come back until a time; once the run is to end, what is under way comes soon, or not at all. */
@@ -339,20 +356,7 @@ static int64_t number_in(const char *word, int64_t least, int64_t most)
     return *word < '0' || '9' < *word || *end != 0 || errno != 0 || number < least || most < number ? -1 : number;
 }
 
-/* Sends the start frames one by one, and says what is wrong with an answer, as `start` does. */
-static int start_all(int sock)
-{
-    int status = 0;
-    for (unsigned i = 0; status == 0 && i < ECPLAN_STARTS; i++)
-        status = start(sock, i);
-    return status;
-}
-
-static void stop(int number)
-{
-    (void)number;
-    is_stopped = 1;
-}
+static void stop(int number) { (void)number, is_stopped = 1; }
 
 int main(int count, char **words)
 {
@@ -374,7 +378,9 @@ int main(int count, char **words)
         return perror(words[1]), 2;
     printf("plan %s tick_ns %d\n", ECPLAN_ID, ECPLAN_TICK_NS);
     fflush(stdout);
-    int status = is_started ? 0 : start_all(sock);
+    int status = 0;
+    for (unsigned i = 0; !is_started && status == 0 && i < ECPLAN_STARTS; i++) /* one by one */
+        status = start(sock, i);
     if (status != 0)
         return ended(status);
     signal(SIGINT, stop), signal(SIGTERM, stop);
