@@ -26,6 +26,13 @@ class Runs:
                               cwd=self.folder, check=False)
         return done.returncode, done.stdout.decode("ascii", "replace"), done.stderr.decode("ascii", "replace")
 
+    def held(self, path):
+        """What stands at a path: the bytes of a file, or that it is something else or nothing."""
+        at = self.at(path)
+        if os.path.isfile(at):
+            return self.read(path)
+        return "a folder" if os.path.isdir(at) else "a device" if os.path.exists(at) else "nothing"
+
     def write(self, name, text):
         with open(self.at(name), "w", encoding="ascii") as file:
             file.write(text)
