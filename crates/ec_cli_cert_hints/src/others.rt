@@ -53,6 +53,28 @@ fn is_like(doc: Doc<'_>, unit: usize, theirs: CertUnit<'_>) -> bool {
         && doc.unit(Some(unit)).number(Key::Period) == Some(theirs.period)
 }
 
+/// Whether a unit of the file is one of the certificate, wherever it stands there.
+fn has_like(doc: Doc<'_>, unit: usize, cert: CertText<'_>) -> bool {
+    let name = doc.unit(Some(unit)).text(Key::Name);
+    (0..cert.units).any(|at| {
+        cert_unit(cert, at).is_some_and(|theirs| name == Some(theirs.name)
+            && is_like(doc, unit, theirs))
+    })
+}
+
+/// Whether file and certificate have the same units, in whatever order.
+fn have_same_units(doc: Doc<'_>, cert: CertText<'_>) -> bool {
+    let count = doc.units().len();
+    count == cert.units && (0..count).all(|unit| has_like(doc, unit, cert))
+}
+
+/// The line of the certificate that says the slots, where the file says other ones.
+fn other_slots<'a>(doc: Doc<'_>, cert: CertText<'a>) -> Option<&'a str> {
+    let line = cert.line(1)?;
+    let slots = number_of(line.strip_prefix("slots "));
+    Some(line).filter(|_| slots != doc.top().number(Key::Slots))
+}
+
 /// Adds that a unit of the file is another than that of the certificate: one is new or gone, or each is elsewhere or has another name.
 fn add_other(out: &mut Draft, doc: Doc<'_>, unit: usize, cert: CertText<'_>, theirs: CertUnit<'_>) {
     let name = doc.unit(Some(unit)).text(Key::Name);
@@ -64,11 +86,19 @@ fn add_other(out: &mut Draft, doc: Doc<'_>, unit: usize, cert: CertText<'_>, the
         (is_new, _) => {
             let name = Quoted(theirs.name);
             out.add(format_args!("{ours} stands where the certificate has unit {name}.\n"));
-            if is_new && is_like(doc, unit, theirs) {
+            if is_new
+                && is_like(doc, unit, theirs)
+                && doc.units().len() == cert.units
+                && other_slots(doc, cert).is_none()
+            {
                 out.add(format_args!(
                     "If it is the same unit, write its new name into line {} of the certificate: its bytes and its period are the same.\n",
                     unit.saturating_add(3)
                 ));
+            } else if have_same_units(doc, cert) {
+                out.add(
+                    "The file has the units of the certificate, in another order: give them that order, if the cable has it.\n",
+                );
             }
         }
     }
@@ -111,26 +141,19 @@ fn add_first(out: &mut Draft, doc: Doc<'_>, cert: CertText<'_>) {
     }
 }
 
-/// Adds that the slots differ, if they do.
-fn add_slots(out: &mut Draft, doc: Doc<'_>, cert: CertText<'_>) {
-    let Some(line) = cert.line(1) else {
-        return;
-    };
-    let slots = doc.top().number(Key::Slots).unwrap_or(0);
-    if number_of(line.strip_prefix("slots ")) != Some(slots) {
+/// Adds what differs between the file's units and those of a certificate.
+pub(crate) fn add_differences(out: &mut Draft, doc: Doc<'_>, cert: CertText<'_>) {
+    let (ours, theirs) = (doc.units().len(), cert.units);
+    if let Some(line) = other_slots(doc, cert) {
+        let slots = doc.top().number(Key::Slots).unwrap_or(0);
         out.add(format_args!(
             "The file says slots = {slots}, the certificate {}.\n",
             Bytes(line.as_bytes(), 40)
         ));
     }
-}
-
-/// Adds what differs between the file's units and those of a certificate.
-pub(crate) fn add_differences(out: &mut Draft, doc: Doc<'_>, cert: CertText<'_>) {
-    let (ours, theirs) = (doc.units().len(), cert.units);
-    add_slots(out, doc, cert);
     if ours != theirs {
-        out.add(format_args!("The file has {ours} units, the certificate {theirs}.\n"));
+        let noun = if ours == 1 { "unit" } else { "units" };
+        out.add(format_args!("The file has {ours} {noun}, the certificate {theirs}.\n"));
     }
     add_first(out, doc, cert);
 }

@@ -22,11 +22,11 @@ fn is_ascii(path: Option<&str>) -> bool
     }
 }
 
-/// Whether the units and the paths that a refusal is told of are ASCII.
+/// Whether the units and the path that a refusal is told of are ASCII.
 fn are_ascii(inputs: &Inputs<'_>) -> bool
     ensures { IsTrue result ↔ AreAscii inputs.now }
 {
-    inputs.units.is_ascii() && is_ascii(inputs.cert_path) && is_ascii(inputs.out_path)
+    inputs.units.is_ascii() && is_ascii(inputs.cert_path)
 }
 
 /// Whether the paths of a certificate, of its units and of their places, if they are told, are ASCII.
@@ -57,7 +57,7 @@ fn laid_out(alloc: Global, text: &str, is_plain: bool) -> Result<String, AllocEr
 /// What a refusal means, in a few sentences for a person, each a line: which unit, slave, key, value or line of the
 /// certificate it is, where it stands in the file, what would be right, and what was likely meant.
 ///
-/// Whatever the inputs hold, the text has no control character but line feeds, and where the units and the paths are ASCII, it
+/// Whatever the inputs hold, the text has no control character but line feeds, and where the units and the path are ASCII, it
 /// has nothing but that: of another byte its number is told, as `\x1b`. A line has at most 160 columns, but for one that has a
 /// path alone; what is longer is cut. Where the inputs aren't those of the refusal, or are missing, less is told. Only want of
 /// memory is an error (own profile).

@@ -1,6 +1,6 @@
 //! Paths and streams that the system refuses.
 
-use ec_cli_spots::{Bytes, CertName, Inputs, PathPiece};
+use ec_cli_spots::{Bytes, CertName, Inputs};
 use ec_text_builder::Draft;
 
 /// Adds why the system refused, if that is known.
@@ -20,12 +20,9 @@ pub(crate) fn tell_read(out: &mut Draft, inputs: &Inputs<'_>) {
     add_reason(out, inputs);
 }
 
-/// Tells which path couldn't be written, and why.
+/// Tells that a file couldn't be written, and why.
 pub(crate) fn tell_write(out: &mut Draft, inputs: &Inputs<'_>) {
     out.add("The file cannot be written");
-    if let Some(path) = inputs.out_path {
-        out.add(format_args!(" to {}", PathPiece(path)));
-    }
     add_reason(out, inputs);
     out.add("Give a path in a folder that is there and can be written.\n");
 }

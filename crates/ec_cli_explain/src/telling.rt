@@ -49,6 +49,18 @@ fn tell(out: &mut Draft, inputs: &Inputs<'_>, doc: Doc<'_>, refusal: Refusal) {
     }
 }
 
+/// Whether a refusal hangs on what the units say.
+fn is_of_units(refusal: &Refusal) -> bool {
+    matches!(
+        refusal,
+        Refusal::Unit(_)
+            | Refusal::Illegal(_)
+            | Refusal::NoPlace(_)
+            | Refusal::Check(_)
+            | Refusal::CertHasNoPlan
+    )
+}
+
 /// What there is to tell of a refusal, in a few sentences, each a line. Names, keys, values and the letters of a line are quoted as they
 /// stand; of a control character and of another sign the bytes are told, as `\x1b`. Where the inputs aren't those of the refusal, or are
 /// missing, less is told. Only want of memory is an error (own profile).
@@ -59,13 +71,9 @@ pub(crate) fn remarks(
 ) -> Result<String, AllocError> {
     let text = String::from_utf8_lossy(alloc, inputs.units)?;
     let parsed = toml::table_from_slice(alloc, inputs.units);
-    let doc = Doc {
-        alloc,
-        text: text.as_str(),
-        top: parsed.as_ref().map_err(|error| *error),
-    };
+    let doc = Doc::of(alloc, text.as_str(), &parsed);
     let mut out = Draft::new(alloc);
-    if matches!(refusal, Refusal::Unit(_)) {
+    if is_of_units(refusal) {
         add_marked(&mut out, doc.text);
     }
     tell(&mut out, inputs, doc, *refusal);

@@ -253,10 +253,13 @@ impl Search<'_> {
         if let Some(best) = self.ending.best {
             cycle.add_use(out, best);
         }
-        let least = self.ending.level.max(cycle.mean.cost);
+        let least = self.ending.level.max(cycle.least());
         if cycle.is_beyond(least) {
             cycle.add_beyond(out, least);
         } else {
+            if self.ending.best.is_some_and(|best| cycle.is_beyond(best)) {
+                cycle.add_unknown(out, least);
+            }
             self.add_known(out, cycle);
         }
     }

@@ -62,6 +62,8 @@ pub struct Cycle<'a> {
     /// How many units of which no two go into one frame meet in some tick wherever they are placed.
     pub crowd: u64,
     pub mean: MeanTick,
+    /// What the busiest tick of the units' own places costs in wire bytes, where that is known and they are a legal plan.
+    pub own: Option<u64>,
 }
 
 impl<'a> Cycle<'a> {
@@ -76,7 +78,14 @@ impl<'a> Cycle<'a> {
             meeting: heaviest(all),
             crowd: crowd(all),
             mean: mean_tick(units),
+            own: None,
         }
+    }
+
+    /// What some tick of each plan costs at least, by the bytes of all units or by two of them that meet.
+    pub fn least(self) -> u64 {
+        let meeting = self.meeting.map_or(0, |meeting| meeting.wire());
+        self.mean.cost.max(meeting)
     }
 
     /// Whether so many bytes take longer on the wire than a tick.
@@ -92,6 +101,18 @@ impl<'a> Cycle<'a> {
         let (ns, tick) = (busiest.saturating_mul(BYTE_NS), self.tick_ns);
         out.add(format_args!(
             "The plan is legal, but does not fit: its busiest tick takes {ns} ns on the wire, and tick_ns = {tick}.\n"
+        ));
+    }
+
+    /// Adds that whether a plan fits isn't known, where neither that which was found does nor the units' own places, and some tick of each
+    /// costs so many bytes.
+    pub(crate) fn add_unknown(self, out: &mut Draft, least: u64) {
+        if self.own.is_some_and(|own| !self.is_beyond(own)) {
+            return;
+        }
+        let ns = least.saturating_mul(BYTE_NS);
+        out.add(format_args!(
+            "Whether another one fits is not known: some tick of each takes at least {ns} ns. A longer tick or fewer bytes would help in any case.\n"
         ));
     }
 

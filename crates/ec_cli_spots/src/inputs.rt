@@ -14,8 +14,6 @@ pub struct Inputs<'a> {
     pub cert: Option<&'a [u8]>,
     /// The path of the certificate that was to be read.
     pub cert_path: Option<&'a str>,
-    /// The path to which a certificate or a capture file was to be written.
-    pub out_path: Option<&'a str>,
     /// Why the system refused the path or the stream, in its words.
     pub reason: Option<&'a str>,
 }
@@ -79,6 +77,15 @@ pub struct Doc<'a> {
 }
 
 impl<'a> Doc<'a> {
+    /// A text, and the table that was read of it, if it is TOML.
+    pub fn of(alloc: Global, text: &'a str, parsed: &'a Result<Table, Error>) -> Doc<'a> {
+        Doc {
+            alloc,
+            text,
+            top: parsed.as_ref().map_err(|error| *error),
+        }
+    }
+
     /// The table of the whole text.
     pub fn top(self) -> Fields<'a> {
         Fields(self.top.ok())

@@ -19,7 +19,7 @@ pub use label::{AtLine, In, Named, Pair};
 pub use lines::{line_at, position_of};
 pub use periods::{are_coprime, has_period, ticks_of};
 pub use quoted::{
-    Bytes, CertName, Coded, Letter, PIECE, PathPiece, Quoted, Shown, Word, is_shown, is_told_whole,
-    quoted_path,
+    Bytes, CertName, Coded, Letter, MOST_OF_LINE, PIECE, PathPiece, Quoted, Shown, TextLine, Word,
+    is_shown, is_told_whole, quoted_path,
 };
 pub use written::{before_comment, is_digit, is_strange, other_base, uncommented};

@@ -12,6 +12,9 @@ pub const PIECE: char = '\u{1}';
 /// The most characters of a name, a key or a value that are told.
 const MOST_OF_NAME: usize = 48;
 
+/// The most characters of a line that are told.
+pub const MOST_OF_LINE: usize = 120;
+
 /// Of a path that has more characters than twice as many, so many are told at each end.
 const END_OF_PATH: usize = 500;
 
@@ -88,6 +91,19 @@ impl fmt::Display for Front<'_> {
     }
 }
 
+/// A line of a text, cut where it is long; one that isn't UTF-8 as its bytes.
+#[derive(Clone, Copy)]
+pub struct TextLine<'a>(pub &'a [u8]);
+
+impl fmt::Display for TextLine<'_> {
+    fn fmt<W: fmt::Write>(&self, f: &mut fmt::Formatter<W>) -> fmt::Result {
+        match std::str::from_utf8(self.0) {
+            Ok(text) => write!(f, "{}", Front(text, MOST_OF_LINE)),
+            Err(_) => write!(f, "{}", Bytes(self.0, MOST_OF_LINE)),
+        }
+    }
+}
+
 /// A name, a key or a value in quotes, cut where it is long.
 #[derive(Clone, Copy)]
 pub struct Quoted<'a>(pub &'a str);
@@ -145,7 +161,8 @@ fn is_plain(letter: char) -> bool {
     }
 }
 
-/// A path as a word of a shell, in single quotes where it needs them, and so that it isn't taken for an option.
+/// A path as a word of a shell, in double quotes, or in single ones where it has a sign that a shell reads, and so that it isn't taken
+/// for an option.
 #[derive(Clone, Copy)]
 pub struct Word<'a>(pub &'a str);
 

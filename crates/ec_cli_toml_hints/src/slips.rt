@@ -127,16 +127,20 @@ const VALUE: &str = "A value is a whole number, or a text in quotes, as name = \
 /// How the keys end whose numbers aren't addresses.
 const COUNTS: [&str; 6] = ["tick_ns", "slots", "period", "phase", "slot", "_bytes"];
 
+/// Whether the number of a key isn't an address.
+fn is_count(key: &str) -> bool {
+    COUNTS.iter().any(|count| key.ends_with(*count))
+}
+
 /// What was likely meant by something that is no value: of a name that it has no quotes, of an address a number of base 16.
 fn hint_of_value(stop: Stop<'_>) -> &'static str {
     let rest = before_comment(stop.rest);
     let value = rest.split([',', '}', ']']).next().unwrap_or("").trim();
     let before = stop.line.strip_suffix(stop.rest).unwrap_or("").trim_end();
     let key = before.strip_suffix('=').unwrap_or("").trim_end();
-    let is_count = COUNTS.iter().any(|count| key.ends_with(*count));
     if key.ends_with("name") {
         VALUE
-    } else if is_count && has_measure(value) {
+    } else if is_count(key) && has_measure(value) {
         measure_of(key)
     } else if digits_at(stop).is_some() || stop.rest.starts_with("#x") {
         BASE
@@ -249,7 +253,10 @@ fn hint_behind(stop: Stop<'_>, word: &str) -> &'static str {
     let behind = before_comment(stop.rest);
     if word.starts_with('[') {
         "A header stands alone on its line, without , or ; behind it.\n"
-    } else if matches!(behind, "h" | "H") {
+    } else if matches!(behind, "h" | "H")
+        && before.ends_with(|letter: char| letter.is_ascii_hexdigit())
+        && !is_count(name_of(stop.line))
+    {
         BASE
     } else if before.ends_with(is_digit) && is_letters(behind) {
         measure_of(name_of(stop.line))

@@ -3,13 +3,10 @@
 use crate::mixed::add_mixed;
 use crate::others::kind_of;
 use crate::slips::{Stop, add_likely};
-use ec_cli_spots::{Bytes, Coded, Letter, is_strange, line_at, position_of};
+use ec_cli_spots::{Bytes, Coded, Letter, MOST_OF_LINE, is_strange, line_at, position_of};
 use ec_text_builder::Draft;
 use std::fmt;
 use toml::de::Error;
-
-/// The most characters of a line that are shown.
-const SHOWN: usize = 120;
 
 /// Adds what was likely meant where the reader stopped with a message behind so many bytes, at a line, from 0.
 fn add_hint(out: &mut Draft, text: &str, line: usize, count: usize, message: &str) {
@@ -34,24 +31,24 @@ struct Excerpt<'a>(&'a str);
 
 impl fmt::Display for Excerpt<'_> {
     fn fmt<W: fmt::Write>(&self, f: &mut fmt::Formatter<W>) -> fmt::Result {
-        for letter in self.0.chars().take(SHOWN) {
+        for letter in self.0.chars().take(MOST_OF_LINE) {
             if is_strange(letter) {
                 write!(f, "{}", Coded(letter))?;
             } else {
                 write!(f, "{}", Letter(letter))?;
             }
         }
-        let is_cut = self.0.chars().nth(SHOWN).is_some();
+        let is_cut = self.0.chars().nth(MOST_OF_LINE).is_some();
         f.write_str(if is_cut { "..." } else { "" })
     }
 }
 
 /// Adds a line as it stands, of a long one the part about a column, from 1.
 fn add_excerpt(out: &mut Draft, line: &str, column: usize) {
-    let skipped = if column <= SHOWN {
+    let skipped = if column <= MOST_OF_LINE {
         0
     } else {
-        column.saturating_sub(SHOWN / 2)
+        column.saturating_sub(MOST_OF_LINE / 2)
     };
     let begun = line.char_indices().nth(skipped);
     let from = begun.map_or(line.len(), |(index, _)| index);
@@ -62,11 +59,11 @@ fn add_excerpt(out: &mut Draft, line: &str, column: usize) {
 
 /// The same of a line that isn't UTF-8.
 fn add_bytes(out: &mut Draft, line: &[u8], column: usize) {
-    if line.len() <= SHOWN || column <= SHOWN {
-        return out.add(format_args!("    {}\n", Bytes(line, SHOWN)));
+    if line.len() <= MOST_OF_LINE || column <= MOST_OF_LINE {
+        return out.add(format_args!("    {}\n", Bytes(line, MOST_OF_LINE)));
     }
-    let from = column.saturating_sub(SHOWN / 2).min(line.len());
-    out.add(format_args!("    ...{}\n", Bytes(&line[from..], SHOWN)));
+    let from = column.saturating_sub(MOST_OF_LINE / 2).min(line.len());
+    out.add(format_args!("    ...{}\n", Bytes(&line[from..], MOST_OF_LINE)));
 }
 
 /// Tells that the file isn't TOML, and if it is known where its reader stopped: the line, the column and why, the line's text, and

@@ -34,11 +34,7 @@ fn first_of(doc: Doc<'_>) -> Option<Named<'_>> {
 pub fn unset_areas(alloc: Global, units: &[u8]) -> Result<String, AllocError> {
     let text = String::from_utf8_lossy(alloc, units)?;
     let parsed = toml::table_from_slice(alloc, units);
-    let doc = Doc {
-        alloc,
-        text: text.as_str(),
-        top: parsed.as_ref().map_err(|error| *error),
-    };
+    let doc = Doc::of(alloc, text.as_str(), &parsed);
     let mut out = Draft::new(alloc);
     if let Some(first) = first_of(doc) {
         out.add(format_args!(

@@ -100,6 +100,11 @@ fn is_name(unit: Fields<'_>, word: &str) -> bool {
     word == "unit" && !unit.has(Key::Name) && matches!(unit.named(word), Some(Value::String(_)))
 }
 
+/// Whether a unit has `slots`, where its slot was meant.
+fn is_slot(unit: Fields<'_>, word: &str) -> bool {
+    word == "slots" && unit.has(Key::Phase) && !unit.has(Key::Slot)
+}
+
 /// Whether a word that was meant for a key counts bits, where the key counts bytes.
 fn counts_bits(word: &str, key: Key) -> bool {
     let is_bit = |letters: &[u8]| letters.eq_ignore_ascii_case(b"bit");
@@ -143,6 +148,9 @@ pub(crate) fn add_unknown(out: &mut Draft, doc: Doc<'_>, word: &str, spot: Spot)
     out.add(format_args!("the key {}{line} is not known there.\n", Quoted(word)));
     if spot.slave.is_none() && is_name(doc.unit(spot.unit), word) {
         return add_meant(out, word, Key::Name);
+    }
+    if spot.slave.is_none() && is_slot(doc.unit(spot.unit), word) {
+        return add_meant(out, word, Key::Slot);
     }
     if let Some(line) = unbegun_slave(doc, word, spot) {
         return out.add(format_args!(
@@ -193,8 +201,12 @@ pub(crate) fn tell_unknown(out: &mut Draft, doc: Doc<'_>, spot: Spot) {
 /// The digits of base 16 of the address at a spot, where they stand there without 0x, as 3E9, which is read as a number with an exponent.
 fn hex_at<'a>(doc: Doc<'a>, spot: Spot, key: Key) -> Option<&'a str> {
     let header = header_line(doc, spot.unit?, spot.slave)?;
-    let mut behind = doc.text.lines().skip(header);
-    let line = behind.find(|line| name_of(line) == key.as_str())?;
+    let mut own = doc
+        .text
+        .lines()
+        .skip(header)
+        .take_while(|line| header_of(line).is_none());
+    let line = own.find(|line| name_of(line) == key.as_str())?;
     let (_, value) = line.split_once('=')?;
     other_base(before_comment(value)).filter(|_| matches!(key, Key::Station | Key::Area(_)))
 }

@@ -6,9 +6,11 @@ use ec_text_builder::Draft;
 use ec_unit_text::{Key, Spot};
 use toml::Value;
 
-/// Adds that there can be more slots than the file has, if there can.
-fn add_more_slots(out: &mut Draft, doc: Doc<'_>) {
-    if let Some(slots @ 1..=7) = doc.top().number(Key::Slots) {
+/// Adds that there can be more slots than the file has, if there can, and this slot can be one of them.
+fn add_more_slots(out: &mut Draft, doc: Doc<'_>, slot: i64) {
+    if let Some(slots @ 1..=7) = doc.top().number(Key::Slots)
+        && slot < 8
+    {
         out.add(format_args!(
             "slots = {slots} at the top of the file can be raised, to 8 at most.\n"
         ));
@@ -26,7 +28,20 @@ fn add_place(out: &mut Draft, doc: Doc<'_>, spot: Spot) {
     ));
 }
 
-/// Tells a phase or a slot out of range, with both limits.
+/// How many units have a phase or a slot out of range, where there are so many slots.
+fn count_outside(units: &[Value], slots: i64) -> usize {
+    let mut count = 0usize;
+    for unit in units.iter().map(Fields::of) {
+        let (phase, slot) = (unit.number(Key::Phase), unit.number(Key::Slot));
+        let period = unit.number(Key::Period).unwrap_or(60);
+        let is_inside = phase.is_none_or(|phase| (0..period).contains(&phase))
+            && slot.is_none_or(|slot| (0..slots).contains(&slot));
+        count = count.saturating_add(usize::from(!is_inside));
+    }
+    count
+}
+
+/// Tells a phase or a slot out of range, with both limits, and how many units have such.
 pub(crate) fn tell_range(out: &mut Draft, doc: Doc<'_>, spot: Spot) {
     let unit = doc.unit(spot.unit);
     let period = unit.number(Key::Period).unwrap_or(60);
@@ -36,11 +51,17 @@ pub(crate) fn tell_range(out: &mut Draft, doc: Doc<'_>, spot: Spot) {
     out.add(format_args!(
         ", but with its period its phase is 0 to {last_phase}, and with the slots of the file its slot is 0 to {last_slot}.\n"
     ));
-    out.add(
-        "Write one of these; or take phase and slot of this unit out: plan --places PATH finds places for all units.\n",
-    );
-    if unit.number(Key::Slot).unwrap_or(0) > last_slot {
-        add_more_slots(out, doc);
+    match count_outside(doc.units(), slots) {
+        0 | 1 => out.add(
+            "Write one of these; or take phase and slot of this unit out: plan --places PATH finds places for all units.\n",
+        ),
+        count => out.add(format_args!(
+            "{count} units have places out of range. Take phase and slot out of each: plan --places PATH finds places for all units.\n"
+        )),
+    }
+    let slot = unit.number(Key::Slot).unwrap_or(0);
+    if slot > last_slot {
+        add_more_slots(out, doc, slot);
     }
 }
 
@@ -121,5 +142,5 @@ pub fn tell_illegal(out: &mut Draft, doc: Doc<'_>, illegal: Illegal) {
     } else {
         "Give some of them another slot.\n"
     });
-    add_more_slots(out, doc);
+    add_more_slots(out, doc, slot);
 }

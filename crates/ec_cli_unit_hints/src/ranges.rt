@@ -8,7 +8,7 @@ use ec_unit_text::{Key, Spot};
 #[derive(Clone, Copy)]
 pub(crate) struct Rule(&'static [Key], &'static str);
 
-pub(crate) const PERIOD: Rule = Rule(&[Key::Period], "a period is 1 to 60 ticks");
+const PERIOD: Rule = Rule(&[Key::Period], "a period is 1 to 60 ticks");
 
 pub(crate) const STATION: Rule = Rule(&[Key::Station], "a station address is 1 to 65535");
 
@@ -36,6 +36,16 @@ pub(crate) fn tell_range(out: &mut Draft, doc: Doc<'_>, spot: Spot, rule: Rule) 
         out.add("but ");
     }
     out.add(format_args!("{words}.\n"));
+}
+
+/// Tells a period out of its range; where it looks like ns also how many ticks it is.
+pub(crate) fn tell_period(out: &mut Draft, doc: Doc<'_>, spot: Spot) {
+    tell_range(out, doc, spot, PERIOD);
+    let period = doc.table(spot).number(Key::Period).unwrap_or(0);
+    let tick = doc.top().number(Key::TickNs).unwrap_or(0);
+    if let (Some(ticks @ 1..=60), Some(0)) = (period.checked_div(tick), period.checked_rem(tick)) {
+        out.add(format_args!("A period is in ticks: {period} ns are period = {ticks}.\n"));
+    }
 }
 
 /// What is told of a slave whose process data are registers.
@@ -114,7 +124,9 @@ impl Area {
     /// Adds what is wrong with it, and says whether something is.
     fn add_fault(self, out: &mut Draft, text: &str) -> bool {
         let Area { key, at, bytes } = self;
-        if at < 4096 {
+        if at < 0 {
+            out.add(format_args!("{key} = {at}, but an address is 4096 to 65535.\n"));
+        } else if at < 4096 {
             self.add_registers(out, text);
         } else if at > 65535 {
             out.add(format_args!("{key} = {at} is above 65535, the last address.\n"));

@@ -62,33 +62,50 @@ pub(crate) fn tell_same_name(out: &mut Draft, doc: Doc<'_>, spot: Spot) {
     add_two(out, first, second, "Give each unit a name of its own.\n");
 }
 
-/// Tells how many slaves a unit has, too few or too many, and what to do with it.
-pub(crate) fn tell_slaves(out: &mut Draft, doc: Doc<'_>, spot: Spot) {
-    let count = doc.slaves(spot.unit).len();
-    let place = In(doc, spot);
-    out.add(format_args!("{place}there are {count} slaves, but a unit has 1 to 8.\n"));
-    out.add(match count {
-        0..=8 =>
-            "Each slave begins with a line [[unit.slave]], below the [[unit]] that it belongs to.\n",
-        9..=16 => "Make two units of it.\n",
-        _ => "Make several units of it.\n",
-    });
-}
-
 /// The most process bytes of a unit.
 const MOST_BYTES: i128 = 1486;
 
-/// Whether each of some slaves has room in one of two units, taken in their order.
-fn fits_two(slaves: &[Value]) -> bool {
-    let (mut first, mut second) = (0i128, 0i128);
-    for bytes in slaves.iter().map(slave_bytes) {
-        if first.saturating_add(bytes) <= MOST_BYTES {
-            first = first.saturating_add(bytes);
-        } else {
-            second = second.saturating_add(bytes);
+/// The most slaves of a unit.
+const MOST_SLAVES: usize = 8;
+
+/// How many units some neighbours make, as few as can be, where each of them alone makes one.
+fn count_units(slaves: &[Value]) -> usize {
+    let (mut count, mut held, mut bytes) = (1usize, 0usize, 0i128);
+    for more in slaves.iter().map(slave_bytes) {
+        if held == MOST_SLAVES || bytes.saturating_add(more) > MOST_BYTES {
+            count = count.saturating_add(1);
+            held = 0;
+            bytes = 0;
         }
+        held = held.saturating_add(1);
+        bytes = bytes.saturating_add(more);
     }
-    second <= MOST_BYTES
+    count
+}
+
+/// Adds how many units are to be made of one with these slaves.
+fn add_parts(out: &mut Draft, slaves: &[Value]) {
+    if slaves.iter().any(|slave| slave_bytes(slave) > MOST_BYTES) {
+        return out.add("Make several units of it.\n");
+    }
+    match count_units(slaves) {
+        0..=2 => out.add("Make two units of it.\n"),
+        count => out.add(format_args!("Make {count} units of it.\n")),
+    }
+}
+
+/// Tells how many slaves a unit has, too few or too many, and what to do with it.
+pub(crate) fn tell_slaves(out: &mut Draft, doc: Doc<'_>, spot: Spot) {
+    let slaves = doc.slaves(spot.unit);
+    let (place, count) = (In(doc, spot), slaves.len());
+    out.add(format_args!("{place}there are {count} slaves, but a unit has 1 to {MOST_SLAVES}.\n"));
+    if count <= MOST_SLAVES {
+        out.add(
+            "Each slave begins with a line [[unit.slave]], below the [[unit]] that it belongs to.\n",
+        );
+    } else {
+        add_parts(out, slaves);
+    }
 }
 
 /// Tells how many bytes a unit has, too many, and what to do with it.
@@ -106,10 +123,8 @@ pub(crate) fn tell_bytes(out: &mut Draft, doc: Doc<'_>, spot: Spot) {
             "{} alone has more, and a slave cannot be split: have fewer of its bytes mapped.\n",
             Named(doc, spot.unit.unwrap_or(0), Some(large))
         ));
-    } else if fits_two(slaves) {
-        out.add("Make two units of it.\n");
     } else {
-        out.add("Make several units of it.\n");
+        add_parts(out, slaves);
     }
 }
 

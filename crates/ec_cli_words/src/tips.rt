@@ -16,6 +16,9 @@ const PART_TIP: &str = "a part is one word, as --part 1/3, and nodes stand behin
 /// What is told of a word that stands behind the path of the units.
 const PATH_TIP: &str = "one file of units is read; a path with spaces stands in quotes";
 
+/// What is told where a search is to be gone on with by the strong rules.
+const STRONG_TIP: &str = "resume goes by the rules of its certificate";
+
 /// How the text tells the usage where no command was read yet.
 const NO_COMMAND: &str = "Usage: ecplan <COMMAND>";
 
@@ -46,6 +49,7 @@ fn tip_for(alloc: Global, kind: ErrorKind, text: &str) -> Result<Option<String>,
     let first = text.lines().next().unwrap_or("");
     let word = word_in(text).unwrap_or("");
     let tip = match kind {
+        ErrorKind::UnknownArgument if word == "--strong" && text.contains(" resume ") => STRONG_TIP,
         ErrorKind::UnknownArgument if word.starts_with('-') => {
             return tip_of_option(alloc, word, text.contains(NO_COMMAND));
         }

@@ -127,7 +127,6 @@ pub(crate) fn answer_to<'x>(
         units,
         cert,
         cert_path: part(head, "cert "),
-        out_path: part(head, "out "),
         reason: part(head, "reason "),
     };
     explain(alloc, &refusal, &inputs)
