@@ -445,6 +445,10 @@ def of_longer_searches(outputs):
     for words in (["plan", "--nodes", "45"], ["plan", "--strong"]):
         yield f"{' '.join(words)} --out c, over a proof of another line", partial(
             try_cert_of_other_line, example("one-unit.cert"), words)
+    for what, (put, name) in OLD.items():
+        yield f"plan --nodes 45 --out c, over a proof of other units, at c.old {what}", partial(try_proof_of_other_units, put, name)
+    yield "resume --part 1/2 --cert c.old --out c, over a proof of other units", try_old_that_is_read
+    yield f"plan --nodes 45 --out c, over a proof of other units, all names up to c.old{MOST_PARTS} taken", try_no_free_old_name
 
 
 def try_better_places(units, trial):
@@ -530,6 +534,60 @@ def try_cert_of_other_line(older, words, trial):
     trial.ends(done, 4, REFUSED_WRITE)
     trial.tells(done, "c.part", "of another line", alone.text.split("\n")[0])
     trial.left(before, {"c.part": trial.get("c.part")})
+
+
+# What stands at c.old where a proof is to lie that makes room: how it is put there, and the name that the proof gets.
+OLD = {
+    "nothing": (lambda trial, name, older: None, "c.old"),
+    "an older certificate": (lambda trial, name, older: trial.put(name, older), "c.old2"),
+    "a certificate that may not be written": (lambda trial, name, older: trial.put(name, older, 0o444), "c.old2"),
+    "a link to a certificate": (put_link_to_older, "c.old2"),
+    "a link that leads nowhere": (lambda trial, name, older: put_link(trial, name, "of-mine"), "c.old2"),
+    "something else": (lambda trial, name, older: trial.put(name, NOTES), "c.old2"),
+    "a pipe": (lambda trial, name, older: os.mkfifo(trial.at(name)), "c.old2"),
+    "a folder": (put_folder, "c.old2"),
+}
+
+
+def put_other_proof(trial):
+    """A proof for other units of the same line, at c."""
+    trial.put("units.toml", example("assembly-line.toml"))
+    trial.put("other.toml", example("assembly-line.toml").replace(b"period = 20", b"period = 10"))
+    trial.run("plan", "--strong", "--out", "c", "other.toml")
+
+
+def try_proof_of_other_units(put, name, trial):
+    """A proof of other units of the same line stays beside a certificate that is none, under the first name that is free."""
+    put_other_proof(trial)
+    trial.run("plan", "--nodes", "45", "--out", "d", "units.toml")
+    put(trial, "c.old", example("one-unit.cert"))
+    before, older, whole = trial.seen(), trial.get("c"), trial.get("d")
+    done = trial.run("plan", "--nodes", "45", "--out", "c", "units.toml")
+    trial.holds(done.code == 2, f"status {done.code}: {done.said}")
+    trial.left(before, {"c": whole, name: older})
+
+
+def try_old_that_is_read(trial):
+    """What lay beside c is gone on with, and its part goes to c: it stays, and the proof at c gets another name."""
+    put_other_proof(trial)
+    trial.run("plan", "--nodes", "45", "--out", "c.old", "units.toml")
+    before, older = trial.seen(), trial.get("c")
+    done = trial.run("resume", "--nodes", "1", "--part", "1/2", "--cert", "c.old", "--out", "c", "units.toml")
+    trial.holds(done.code == 2, f"status {done.code}: {done.said}")
+    trial.left(before, {"c": trial.get("c"), "c.old2": older})
+
+
+def try_no_free_old_name(trial):
+    """Where all names are taken, the proof stays, and the new certificate lies beside it."""
+    put_other_proof(trial)
+    trial.run("plan", "--nodes", "45", "--out", "d", "units.toml")
+    for number in range(1, MOST_PARTS + 1):
+        trial.put("c.old" + (str(number) if 1 < number else ""), b"")
+    before, whole = trial.seen(), trial.get("d")
+    done = trial.run("plan", "--nodes", "45", "--out", "c", "units.toml")
+    trial.ends(done, 4, REFUSED_WRITE)
+    trial.tells(done, "c.part")
+    trial.left(before, {"c.part": whole})
 
 
 def try_more_nodes_by_other_rules(trial):

@@ -382,6 +382,22 @@ def try_taken(library, output, path, trial):
             trial.holds(stays, f"at call {number}, {stopped_in}: what another program put at {name} is gone")
 
 
+def try_making_room(library, output, path, trial):
+    """Each call for files fails in turn, or the run is killed there, where a proof makes room: it stands at its path, or lies beside it."""
+    calls = Calls(library, output, path, trial)
+    for what in ("f", "k"):
+        for number, _ in each_call(calls, what):
+            trial.put(path + ".old", EDIT)
+            calls.run(number, what)
+            found, old = trial.get(path), trial.get(path + ".old2")
+            trial.holds(output.older in (found, old), f"at call {number}, {what}: what made room is gone")
+            trial.holds(found in (output.older, output.whole), f"at call {number}, {what}: at its path stands neither")
+            trial.holds(trial.get(path + ".old") == EDIT, f"at call {number}, {what}: what stood at PATH.old is gone")
+    calls.begin()
+    trial.holds(calls.run(0, "f").code == output.code, "it ended otherwise than undisturbed")
+    trial.holds((trial.get(path), trial.get(path + ".old")) == (output.whole, output.older), "it doesn't lie at PATH.old")
+
+
 def try_synced(library, output, path, trial):
     """The file is on the disk before it takes its place, and its folder after it."""
     calls = Calls(library, output, path, trial)
@@ -412,7 +428,7 @@ def skip_no_compiler(_trial):
     raise Skipped("there is no C compiler that builds tests/calls.c")
 
 
-def calls(outputs, library):
+def calls(outputs, roomy, library):
     """Each call for files, in turn."""
     kinds = ((try_failing, "each call for files fails in turn"), (try_killed, "it is killed at each call for files in turn"),
              (try_overtaken, "at each call for files another run overtakes it"),
@@ -423,7 +439,8 @@ def calls(outputs, library):
         for tries, what in kinds:
             way = partial(tries, library, output, path) if library else skip_no_compiler
             yield f"{name}: {what}", way
-    overtaken = ((try_beaten, outputs[0], "of-run", "a search without a proof: at each call for files a proof is put there"),
+    overtaken = ((try_making_room, roomy, "of-run", f"{roomy.name}: each call for files fails, or it is killed there"),
+                 (try_beaten, outputs[0], "of-run", "a search without a proof: at each call for files a proof is put there"),
                  (try_saved, outputs[4], UNITS, "the places in the units' own file: it is edited at each call for files"))
     for tries, output, path, what in overtaken:
         yield what, partial(tries, library, output, path) if library else skip_no_compiler

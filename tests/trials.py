@@ -264,9 +264,17 @@ def example(name):
 
 
 def older_places(trial, units):
-    """The units with places, as a line had them that has one slot more now."""
+    """The units with the places of a dearer plan: each goes in the first tick."""
     placed = Output("", ["plan", "--nodes", "1"], "--places", units, b"").run_undisturbed(trial).whole
-    return re.sub(rb"(?m)^slots = (\d)", lambda found: b"slots = %d" % (int(found[1]) + 1), placed)
+    return re.sub(rb"(?m)^phase = \d+", b"phase = 0", placed)
+
+
+def of_other_units(program, folder):
+    """A certificate without a proof over a proof of other units of the same line, which makes room for it."""
+    trial, units = Trial(program, folder), example("twelve-units.toml")
+    other = re.sub(rb"out_bytes = (\d+)", lambda found: b"out_bytes = %d" % (int(found[1]) + 1), units, count=1)
+    older = Output("", ["plan"], "--out", other, b"").run_undisturbed(trial).whole
+    return Output("a certificate over a proof of other units", ["plan", "--nodes", "45"], "--out", units, older).run_undisturbed(trial)
 
 
 def outputs_of(program, folder):

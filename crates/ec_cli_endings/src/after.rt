@@ -2,13 +2,13 @@
 //! with frames.
 
 use crate::ending::{Done, file_bytes};
-use crate::others::{gone_at, tell_stale};
+use crate::others::{gone_at, old_text, tell_stale};
 use ec_checker::Verdict;
 use ec_cli_answers::Told;
 use ec_cli_explain::Cycle;
-use ec_cli_files::{Content, FileFault, Folders, KeepReason, make_whole, read_file};
+use ec_cli_files::{Content, Fate, FileFault, Folders, KeepReason, Whole, make_whole, read_file};
 use ec_cli_paths::{Target, tell, tell_fault, tell_path, tell_whole};
-use ec_cli_places::{PlacedFault, Placing, placed_text, reason_to_stay};
+use ec_cli_places::{PlacedFault, Placing, loses_lines, placed_text, reason_to_stay};
 use ec_cost_picture::picture;
 use ec_loads::is_legal;
 use ec_master_files::{Claim, header_of, map_of, report_of};
@@ -167,6 +167,42 @@ fn after_fault(fault: FileFault) -> AfterFault {
     }
 }
 
+/// What becomes of what stands at a path where the new file is whole: a unit text with lines that the units' text hasn't lies beside it.
+fn fate_at<R: Files + AllocGlobal>(
+    rt: &R,
+    target: Target<'_>,
+    done: Done<'_>,
+    told: &Told,
+) -> Fate {
+    let is_other = target.content == Content::Units && !target.is_own;
+    match reason_to_leave(rt, target, done, told) {
+        Some(why) => Fate::Kept(why),
+        None if is_other && loses_lines(rt, rt.alloc(), target.path, done.record.text) => Fate::Old,
+        None => Fate::Replaced,
+    }
+}
+
+/// Lets a file take its place at a path, and tells which lines of the one that stood there are gone, and where that lies.
+fn settle_at<R: Folders + AllocGlobal + Eprint>(
+    rt: &R,
+    target: Target<'_>,
+    done: Done<'_>,
+    told: &Told,
+    whole: Whole<'_, R>,
+) -> Result<(), AfterFault> {
+    let gone = gone_at(rt, target, done);
+    let settled = whole.settle(|_| fate_at(rt, target, done, told));
+    if let (Some(gone), Ok(_) | Err(FileFault::Unsynced { .. })) = (gone, &settled) {
+        tell(rt, Ok(gone));
+    }
+    match settled {
+        Ok(Some(old)) => tell(rt, old_text(rt.alloc(), target.path, old.as_str())),
+        Ok(None) => {}
+        Err(fault) => return Err(after_fault(fault)),
+    }
+    Ok(())
+}
+
 /// Writes to a path what is to be there, unless what stands there is kept. That is judged once more when the new file, which is whole by
 /// then, takes its place. The units' own file isn't written where it has these very bytes: it would be newer than what was made of it.
 fn write_to<R: Folders + AllocGlobal + Eprint>(
@@ -183,16 +219,10 @@ fn write_to<R: Folders + AllocGlobal + Eprint>(
     if target.is_own && text.as_bytes() == done.record.text {
         return Ok(());
     }
-    let gone = gone_at(rt, target, done);
-    if let Some(whole) = make_whole(rt, rt.alloc(), path, content, text.as_bytes())? {
-        whole
-            .settle(|_| reason_to_leave(rt, target, done, told))
-            .map_err(after_fault)?;
+    match make_whole(rt, rt.alloc(), path, content, text.as_bytes())? {
+        Some(whole) => settle_at(rt, target, done, told, whole),
+        None => Ok(()),
     }
-    if let Some(gone) = gone {
-        tell(rt, Ok(gone));
-    }
-    Ok(())
 }
 
 /// Tells why what is written after the job isn't at its path. Whether nothing is missing.

@@ -7,11 +7,10 @@ use ec_cert::{Cert, node_count};
 use ec_cli_answers::{File, Told};
 use ec_cli_command::{Effort, Line, MOST_MINUTES, MOST_NODES};
 use ec_cli_explain::{Again, Asked, Cycle, Filed, Found, Written, advice, misread, unset_areas};
-use ec_cli_files::{FileFault, are_one, is_no_file};
-use ec_cli_paths::{Target, tell, tell_fault, tell_whole};
+use ec_cli_files::{FileFault, is_no_file};
+use ec_cli_paths::{Target, replaced_at, tell, tell_fault, tell_whole};
 use ec_cli_places::{legal_cost, placed_cost};
 use ec_cli_refusals::Refusal;
-use ec_cli_text::placed_plan;
 use ec_loads::Plan;
 use ec_outcome::Cut;
 use ec_units::Units;
@@ -38,54 +37,33 @@ fn is_most(effort: &Effort, cut: Cut) -> bool {
     }
 }
 
-/// What was asked of a search or a merge, and what a search is asked for that goes on as before.
-#[derive(Clone, Copy)]
-pub struct Wanted<'a> {
-    pub asked: Asked,
-    pub again: Again<'a>,
-    /// Whether a longer search may be of use: the places of the units aren't known to be the best.
-    pub is_needed: bool,
-}
-
-/// Whether a line made a part of a certificate beside it, so that it can be merged with the other parts.
-fn is_part_beside<R: Files + AllocGlobal>(rt: &R, line: &Line) -> bool {
+/// Into how many parts the open leaves of the certificate go with which a line goes on; 1 of another line.
+fn parts_of(line: &Line) -> u16 {
     match line {
-        Line::Resume {
-            cert,
-            part,
-            out: Some(out),
-            ..
-        } => part.count > 1 && !are_one(rt, cert.as_str(), out.as_str()),
-        Line::Resume { part, .. } => part.count > 1,
-        _ => false,
+        Line::Resume { part, .. } => part.count,
+        _ => 1,
     }
 }
 
-/// What a search was asked for; none of a line that searches for nothing.
-fn wanted_of<'a, R: Files + AllocGlobal>(
-    rt: &R,
-    line: &'a Line,
-    told: &Told,
-    done: Done<'_>,
-) -> Option<Wanted<'a>> {
-    let effort = done.asked?;
-    let asked = match told.ending {
-        _ if is_part_beside(rt, line) => Asked::Part,
-        Some(ending) if is_most(&effort, ending.cut) => Asked::Most,
+/// What was asked of a search, where that ended so.
+fn asked_of<R: Files + AllocGlobal>(rt: &R, line: &Line, effort: &Effort, told: &Told) -> Asked {
+    if parts_of(line) > 1 && replaced_at(rt, line).is_none() {
+        return Asked::Part;
+    }
+    match told.ending {
+        Some(ending) if is_most(effort, ending.cut) => Asked::Most,
         _ => Asked::Whole,
-    };
-    let again = Again {
+    }
+}
+
+/// What a search is asked for that goes on as before.
+fn again_of(line: &Line, effort: Effort) -> Again<'_> {
+    Again {
         workers: effort.workers,
         nodes: effort.nodes,
         minutes: effort.minutes,
         places: line.places().map(|path| path.as_str()),
-    };
-    let is_needed = least_placed(rt.alloc(), told, done.units).is_none();
-    Some(Wanted {
-        asked,
-        again,
-        is_needed,
-    })
+    }
 }
 
 /// What a search or a merge found.
@@ -104,14 +82,79 @@ fn found_of(told: &Told) -> Found {
     }
 }
 
-/// What the busiest tick of the units' own places costs, in wire bytes, where a search without a proof found no plan as good, and no
-/// plan costs less: by its level, or by the bytes of the units alone.
-fn least_placed(alloc: Global, told: &Told, units: Option<&Units>) -> Option<u64> {
-    let (ending, units) = (told.ending?, units?);
-    let own = placed_cost(alloc, units)?;
-    let least = ending.level.max(Cycle::of(units).mean.cost);
-    let is_better = ending.best.is_none_or(|best| own < best);
-    Some(own).filter(|own| *own <= least && is_better)
+/// The units' own places, where they are another legal plan than the one that a search or a merge found, and cost no more, or where that
+/// found none: neither begins at them.
+#[derive(Clone, Copy)]
+struct Own {
+    /// What the busiest tick of their plan costs, in wire bytes.
+    cost: u64,
+    /// The same of the plan that was found.
+    found: Option<u64>,
+    /// How many units have another place in that.
+    moved: usize,
+    /// Whether they cost less, and no plan costs less than they do: by the level that was shown, or by the bytes of the units alone.
+    is_least: bool,
+}
+
+/// How many units have another place in one plan than in another.
+fn moved_between(one: &Plan, other: &Plan) -> usize {
+    let mut count = 0usize;
+    for (one, other) in one.places.as_slice().iter().zip(other.places.as_slice()) {
+        count = count.saturating_add(usize::from(one != other));
+    }
+    count
+}
+
+/// That the places of the units cost so many bytes in their busiest tick, and those of another plan more.
+fn better_text(alloc: Global, own: u64, found: u64) -> Result<String, AllocError> {
+    format!(in alloc;
+        "The places in the unit text are better: their busiest tick costs {own} bytes, and that of this plan {found}.\n"
+    )
+}
+
+impl Own {
+    /// Those of the units, beside what is told.
+    fn of(alloc: Global, told: &Told, units: &Units) -> Option<Own> {
+        let (plan, cost) = placed_cost(alloc, units)?;
+        let (found, moved) = match told.plan() {
+            Some(other) => (legal_cost(units, other), moved_between(other, &plan)),
+            None => (None, 0),
+        };
+        let is_better = found.is_none_or(|found| cost < found);
+        let is_least = is_better
+            && told.ending.is_some_and(|ending| cost
+                <= ending.level.max(Cycle::of(units).mean.cost));
+        let own = Own {
+            cost,
+            found,
+            moved,
+            is_least,
+        };
+        Some(own).filter(|_| is_better || (found == Some(cost) && moved > 0))
+    }
+
+    /// What is told of them.
+    fn text(self, alloc: Global) -> Result<String, AllocError> {
+        let Own {
+            cost,
+            found,
+            moved,
+            is_least,
+        } = self;
+        let units = if moved == 1 { "unit" } else { "units" };
+        match found {
+            _ if is_least => format!(in alloc;
+                "The places in the unit text are the best: their busiest tick costs {cost} bytes, and that of no plan costs less.\nNo longer search is needed.\n"
+            ),
+            Some(found) if found == cost => format!(in alloc;
+                "The places in the unit text are as good: their busiest tick costs {cost} bytes, too.\nThis plan moves {moved} {units}, and with them addresses and FMMU records.\n"
+            ),
+            Some(found) => better_text(alloc, cost, found),
+            None => format!(in alloc;
+                "The places in the unit text are a legal plan: its busiest tick costs {cost} bytes.\n"
+            ),
+        }
+    }
 }
 
 /// Tells that a plan whose busiest tick costs so many wire bytes doesn't fit into its ticks, if it doesn't.
@@ -125,12 +168,9 @@ fn tell_unfit<R: AllocGlobal + Eprint>(rt: &R, cycle: Cycle<'_>, cost: u64) {
 /// Tells that the places of the units are another plan than that of a certificate, which costs so many wire bytes, if they are a legal
 /// one.
 fn tell_other<R: AllocGlobal + Eprint>(rt: &R, units: &Units, plan: &Plan, cost: u64) {
-    let Ok(own) = placed_plan(rt.alloc(), units) else {
-        return;
-    };
-    match legal_cost(units, &own) {
-        Some(own) if own < cost => tell(rt, cheaper_text(rt.alloc(), own, Some(cost))),
-        Some(_) if own.places.as_slice() != plan.places.as_slice() => {
+    match placed_cost(rt.alloc(), units) {
+        Some((_, own)) if own < cost => tell(rt, better_text(rt.alloc(), own, cost)),
+        Some((own, _)) if own.places.as_slice() != plan.places.as_slice() => {
             let _ = rt.eprint(OTHER_PLAN);
         }
         _ => {}
@@ -146,40 +186,6 @@ pub fn tell_given<R: AllocGlobal + Eprint>(rt: &R, line: &Line, plan: &Plan, uni
     tell_unfit(rt, Cycle::of(units), cost);
     if line.cert().is_some() {
         tell_other(rt, units, plan, cost);
-    }
-}
-
-/// That the places of the units are the best, whose busiest tick costs so many bytes.
-fn least_text(alloc: Global, own: u64) -> Result<String, AllocError> {
-    format!(in alloc;
-        "The places in the unit text are the best: their busiest tick costs {own} bytes, and that of no plan costs less.\nNo longer search is needed.\n"
-    )
-}
-
-/// That the places of the units cost so many bytes in their busiest tick, where the plan of a search costs so many, or there is none.
-fn cheaper_text(alloc: Global, own: u64, found: Option<u64>) -> Result<String, AllocError> {
-    match found {
-        Some(found) => format!(in alloc;
-            "The places in the unit text are better: their busiest tick costs {own} bytes, and that of this plan {found}.\n"
-        ),
-        None => format!(in alloc;
-            "The places in the unit text are a legal plan: its busiest tick costs {own} bytes.\n"
-        ),
-    }
-}
-
-/// Tells that the places of the units are better than the plan that a search found, if they are: it doesn't begin at them. Also where
-/// they are known to be the best.
-fn tell_cheaper<R: AllocGlobal + Eprint>(rt: &R, told: &Told, units: &Units) {
-    if let Some(own) = least_placed(rt.alloc(), told, Some(units)) {
-        return tell(rt, least_text(rt.alloc(), own));
-    }
-    let Some(own) = placed_cost(rt.alloc(), units) else {
-        return;
-    };
-    let found = told.plan().and_then(|plan| legal_cost(units, plan));
-    if found.is_none_or(|found| own < found) {
-        tell(rt, cheaper_text(rt.alloc(), own, found));
     }
 }
 
@@ -242,54 +248,72 @@ pub struct Done<'a> {
 }
 
 /// Tells at the end of a job which number of its units is read otherwise than it looks, if one is, and why its file isn't at its
-/// path, or where it lies where standard output hasn't got the text. Of what was asked of a search or a merge also what was found, where
-/// standard output hasn't got it, and what to do.
-pub fn tell_end<R: Files + AllocGlobal + Eprint>(
-    rt: &R,
-    told: &Told,
-    done: Done<'_>,
-    wanted: Option<Wanted<'_>>,
-) {
+/// path, or where it lies where standard output hasn't got the text.
+fn tell_end<R: Files + AllocGlobal + Eprint>(rt: &R, done: Done<'_>) {
     tell(rt, misread(rt.alloc(), done.record.text));
     match (done.target, done.fault, done.untold) {
         (Some(target), Some(fault), _) => tell_fault(rt, target, fault),
         (Some(target), None, Some(_)) => tell_whole(rt, target),
         _ => {}
     }
-    let Some(
-        Wanted {
-            asked,
-            again,
-            is_needed,
-        },
-    ) = wanted
-    else {
-        return;
-    };
+}
+
+/// Tells what a search or a merge found, where standard output hasn't got it, what to do next, and where the units' own places are better.
+fn tell_found<R: Files + AllocGlobal + Eprint>(
+    rt: &R,
+    told: &Told,
+    done: Done<'_>,
+    asked: Asked,
+    again: Again<'_>,
+) {
     if done.code == FAILED {
         let _ = rt.eprint("What was found:\n");
         let _ = rt.eprint(told.answer.text.as_str());
     }
-    if !is_needed {
-        return;
-    }
+    let own = match done.units {
+        Some(units) => Own::of(rt.alloc(), told, units),
+        None => None,
+    };
+    let found = match own {
+        Some(own) if own.is_least => Found::Least(own.cost),
+        _ => found_of(told),
+    };
     let filed = filed_at(rt, told, done, again);
-    let cycle = done.units.map(|units| Cycle::of(units));
-    if let Ok(text) = advice(rt.alloc(), found_of(told), cycle, filed, asked) {
+    let cycle = done.units.map(|units| Cycle {
+        own: own.map(|own| own.cost),
+        ..Cycle::of(units)
+    });
+    if let Ok(text) = advice(rt.alloc(), found, cycle, filed, asked) {
         let _ = rt.eprint(text.as_str());
+    }
+    if let Some(own) = own {
+        tell(rt, own.text(rt.alloc()));
     }
 }
 
-/// Tells what is to be known of the plan of a line, and of the units' own places beside it.
-fn tell_plan<R: AllocGlobal + Eprint>(rt: &R, line: &Line, told: &Told, units: &Units) {
-    match line {
-        Line::Cost { .. } | Line::Frames { .. } | Line::Play { .. } => {
-            if let Some(plan) = told.plan() {
-                tell_given(rt, line, plan, units);
-            }
-        }
-        Line::Plan { .. } | Line::Resume { .. } => tell_cheaper(rt, told, units),
-        Line::Check { .. } => {}
+/// Tells what came of certificates that were merged, as it is told of a search.
+pub fn tell_merged<R: Files + AllocGlobal + Eprint>(rt: &R, told: &Told, done: Done<'_>) {
+    tell_end(rt, done);
+    tell_found(rt, told, done, Asked::Merged, Again::usual());
+}
+
+/// Tells what came of the job of a line.
+fn tell_done<R: Files + AllocGlobal + Eprint>(rt: &R, line: &Line, told: &Told, done: Done<'_>) {
+    tell_end(rt, done);
+    if let Some(effort) = done.asked {
+        let asked = asked_of(rt, line, &effort, told);
+        tell_found(rt, told, done, asked, again_of(line, effort));
+    }
+    if let (
+        Line::Cost { .. } | Line::Frames { .. } | Line::Play { .. },
+        Some(units),
+        Some(plan),
+    ) = (line, done.units, told.plan())
+    {
+        tell_given(rt, line, plan, units);
+    }
+    if matches!(line, Line::Frames { .. }) {
+        tell(rt, unset_areas(rt.alloc(), done.record.text));
     }
 }
 
@@ -304,16 +328,7 @@ pub fn tell_line<R: Files + AllocGlobal + Eprint>(
 ) {
     tell_untold(rt, done.untold);
     match told {
-        Ok(told) => {
-            let wanted = wanted_of(rt, line, told, done);
-            tell_end(rt, told, done, wanted);
-            if let Some(units) = done.units {
-                tell_plan(rt, line, told, units);
-            }
-            if matches!(line, Line::Frames { .. }) {
-                tell(rt, unset_areas(rt.alloc(), done.record.text));
-            }
-        }
-        Err(refusal) => tell_refusal(rt, refusal, line.cert(), line.out(), done.record),
+        Ok(told) => tell_done(rt, line, told, done),
+        Err(refusal) => tell_refusal(rt, refusal, line.cert(), done.record),
     }
 }

@@ -12,7 +12,7 @@ mod refusal;
 mod untold;
 
 pub use after::write_after;
-pub use ending::{Done, FAILED, Wanted, tell_end, tell_given, tell_line};
+pub use ending::{Done, FAILED, tell_given, tell_line, tell_merged};
 pub use record::Record;
 pub use refusal::tell_refusal;
 pub use untold::tell_untold;

@@ -1,7 +1,7 @@
 //! Lines that the text of the units has and the unit text at a path of places has not, and the other way round.
 
 use crate::ending::Done;
-use ec_cli_explain::quoted_path;
+use ec_cli_explain::{TextLine, quoted_path};
 use ec_cli_files::{Content, KeepReason};
 use ec_cli_paths::{Target, tell};
 use ec_cli_places::{others_in, standing_text};
@@ -26,8 +26,7 @@ fn lines_of(count: usize) -> &'static str {
 /// Adds some lines of a text, each with its number.
 fn add_lines(out: &mut Draft, others: &[(usize, &[u8])]) {
     for (number, line) in others.iter().take(MOST_TOLD) {
-        let line = std::str::from_utf8(*line).unwrap_or("");
-        out.add(format_args!("    line {number}: {line}\n"));
+        out.add(format_args!("    line {number}: {}\n", TextLine(*line)));
     }
     let more = others.len().saturating_sub(MOST_TOLD);
     if more > 0 {
@@ -46,6 +45,12 @@ fn gone_text(alloc: Global, path: &str, others: &[(usize, &[u8])]) -> Result<Str
         "What of {them} is still needed has to be written into the text of the units.\n"
     ));
     out.finish()
+}
+
+/// Under which name that lies which stood at a path.
+pub(crate) fn old_text(alloc: Global, path: &str, old: &str) -> Result<String, AllocError> {
+    let (path, old) = (quoted_path(alloc, path)?, quoted_path(alloc, old)?);
+    format!(in alloc; "What stood at {path} lies at {old} now.\n")
 }
 
 /// Adds that a text has these lines and the other hasn't.

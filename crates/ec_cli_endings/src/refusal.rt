@@ -65,7 +65,6 @@ fn refusal_text<'x, R: Files + AllocGlobal>(
     rt: &R,
     refusal: &Refusal,
     cert_path: Option<&'x String>,
-    out_path: Option<&'x String>,
     record: Record<'x>,
 ) -> Result<String, AllocError> {
     let reason = match reason_for(rt, refusal, cert_path, record.fault) {
@@ -80,19 +79,16 @@ fn refusal_text<'x, R: Files + AllocGlobal>(
             None => None,
         },
         cert_path: cert_path.map(|path| path.as_str()),
-        out_path: out_path.map(|path| path.as_str()),
         reason: reason.as_deref(),
     };
     explain(rt.alloc(), refusal, &inputs)
 }
 
-/// Tells what a refusal means: of the units, of the certificate that was to be read, or of the file that was to be written. Where
-/// that can't be written or made, nothing is told.
+/// Tells what a refusal means: of the units, or of the certificate that was to be read. Where that can't be written or made, nothing is.
 pub fn tell_refusal<'x, R: Files + AllocGlobal + Eprint>(
     rt: &R,
     refusal: &Refusal,
     cert: Option<&'x String>,
-    out: Option<&'x String>,
     record: Record<'x>,
 ) {
     if let (Some(path), Some(error)) = (record.path, record.fault) {
@@ -104,7 +100,7 @@ pub fn tell_refusal<'x, R: Files + AllocGlobal + Eprint>(
     }
     // Where standard input couldn't be read, the certificate has no part in it.
     let cert = if record.fault.is_some() { None } else { cert };
-    if let Ok(told) = refusal_text(rt, refusal, cert, out, record) {
+    if let Ok(told) = refusal_text(rt, refusal, cert, record) {
         let _ = rt.eprint(told.as_str());
     }
 }

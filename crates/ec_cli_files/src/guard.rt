@@ -45,7 +45,7 @@ impl Content {
             Content::Certificate => "certificate",
             Content::Capture => "capture",
             Content::Picture => "picture",
-            Content::Units => "units",
+            Content::Units => "text with places",
             Content::Header => "header",
             Content::Map => "map",
             Content::Report => "report",

@@ -5,22 +5,22 @@ ghost use Rattle.std.specs.Option.{option_and_then};
 ghost use Rattle.std.specs.Io.{WritesAtMost};
 ghost use Rattle.std.specs.Io.KnownBytes.{WriteAppends};
 
+use crate::aside::Fate;
 use crate::fault::FileFault;
 use crate::folders::Folders;
 use crate::guard::Content;
-use crate::place::{Identity, Place, take_away};
+use crate::place::{Identity, MOST_NAMES, Place, take_away, write_name};
 use crate::settling::dress;
 use crate::whole::Whole;
 use std::alloc::{AllocError, Global};
-use std::fmt::Write as _;
 use std::fs::OpenFile;
 use std::io::{ErrorKind, Write};
 use std::os::unix::fs::OpenOptionsExt;
 use std::rt::Files;
 use std::{fs, io};
 
-/// The most names that are tried for a file beside its path.
-const MOST_NAMES: u32 = 999;
+/// What stands behind its path in the name of a file that isn't at its path yet.
+const PART: &str = ".part";
 
 /// The system's number for a path at which something stands.
 const EXISTS: i32 = 17;
@@ -40,17 +40,6 @@ pub struct Late<'a, F: Files> {
     file: Option<F::File>,
     bytes: u64,
     fault: Option<io::Error>,
-}
-
-/// Writes the name under which a file is tried: `PATH.part`, `PATH.part2` and so on.
-fn write_name(name: &mut String, path: &str, count: u32) -> Result<(), AllocError> {
-    name.clear();
-    name.push_str(path)?;
-    if count == 1 {
-        name.push_str(".part")
-    } else {
-        write!(name, ".part{count}")
-    }
 }
 
 /// The mode with which a file is made beside a path: where a file stands there, nobody else may look into the new one before
@@ -76,7 +65,7 @@ fn open_straight<F: Files>(files: &F, path: &str) -> io::Result<F::File> {
 fn make_beside<F: Files>(files: &F, name: &mut String, path: &str) -> io::Result<F::File> {
     let mode = first_mode(files, path);
     for count in 1..=MOST_NAMES {
-        write_name(name, path, count)?;
+        write_name(name, path, PART, count)?;
         let made = fs::OpenOptions::new()
             .write(true)
             .create_new(true)
@@ -104,7 +93,7 @@ impl<'a, F: Files> Late<'a, F> {
         let place = Place::of(files, alloc, path)?;
         let mut name = String::new(alloc);
         if let Some(path) = place.beside() {
-            write_name(&mut name, path, MOST_NAMES)?;
+            write_name(&mut name, path, PART, MOST_NAMES)?;
         }
         Ok(Late {
             files,
@@ -284,7 +273,7 @@ pub fn write_whole<F: Folders>(
     bytes: &[u8],
 ) -> Result<(), FileFault> {
     match make_whole(files, alloc, path, content, bytes)? {
-        Some(whole) => whole.settle(|_| None),
+        Some(whole) => whole.settle(|_| Fate::Replaced).map(|_| ()),
         None => Ok(()),
     }
 }

@@ -4,9 +4,11 @@
 //! until a whole file takes its place.
 #![tactic(auto)]
 
+mod aside;
 mod fault;
 mod folders;
 mod guard;
+mod head;
 mod late;
 mod names;
 mod place;
@@ -14,11 +16,13 @@ mod reading;
 mod settling;
 mod whole;
 
+pub use aside::Fate;
 pub use fault::FileFault;
 pub use folders::Folders;
 pub use guard::{Content, KeepReason, reason_to_keep};
+pub use head::{MOST_HEAD, has_level, is_proof};
 pub use late::{Late, make_whole, write_whole};
-pub use names::{MOST_HEAD, Others, names_in, others_by, unit_names};
+pub use names::{Others, names_in, others_by, unit_names};
 pub use place::{are_one, are_same_file, is_no_file};
 pub use reading::read_file;
 pub use whole::{Seen, Whole};

@@ -1,6 +1,7 @@
 //! Where the bytes for a path go.
 
 use std::alloc::{AllocError, Global};
+use std::fmt::Write as _;
 use std::io::ErrorKind;
 use std::os::unix::fs::MetadataExt;
 use std::path::Path;
@@ -67,6 +68,24 @@ impl Place {
             Place::Beside { path } => Some(path.as_str()),
             Place::Straight { .. } | Place::Nowhere { .. } => None,
         }
+    }
+}
+
+/// The most names that are tried for a file beside a path.
+pub(crate) const MOST_NAMES: u32 = 999;
+
+/// Writes the name of this number for a file beside a path: `PATH.part`, `PATH.part2` and so on, where `.part` is the ending.
+pub(crate) fn write_name(
+    name: &mut String,
+    path: &str,
+    ending: &str,
+    count: u32,
+) -> Result<(), AllocError> {
+    name.clear();
+    if count == 1 {
+        write!(name, "{path}{ending}")
+    } else {
+        write!(name, "{path}{ending}{count}")
     }
 }
 

@@ -1,8 +1,10 @@
 //! A file that is whole, and what stands where it is to be.
 
+use crate::aside::{Fate, set_aside};
 use crate::fault::FileFault;
 use crate::folders::Folders;
 use crate::guard::{Content, KeepReason, reason_to_keep};
+use crate::head::{MOST_HEAD, is_proof, units_said};
 use crate::place::{Identity, NO_ENTRY, folder_of, take_away};
 use crate::reading::read_front;
 use crate::settling::sync_folder;
@@ -96,6 +98,23 @@ impl<'a, F: Files> Whole<'a, F> {
         }
     }
 
+    /// Whether the certificate that stands at the path, if one does, is a proof for other units than the new one. Also where one of them
+    /// can't be read.
+    pub fn holds_other_proof(&self) -> bool {
+        let older = match self.standing(MOST_HEAD) {
+            Ok(Some(older)) => older,
+            Ok(None) => return false,
+            Err(_) => return true,
+        };
+        if !is_proof(&older) {
+            return false;
+        }
+        match read_front(self.files, self.alloc, self.name.as_str(), MOST_HEAD) {
+            Ok(newer) => units_said(&older) != units_said(&newer),
+            Err(_) => true,
+        }
+    }
+
     /// Leaves the file beside its path, where what stands there is kept for this reason. What was made of a text that stands there no
     /// more is taken away, and what says no more of the same units.
     fn leave(self, why: KeepReason) -> FileFault {
@@ -107,25 +126,24 @@ impl<'a, F: Files> Whole<'a, F> {
 }
 
 impl<'a, F: Folders> Whole<'a, F> {
-    /// Lets the file take its place, unless what stands there is kept: for a reason of its own, or for one that `judge` has. Where
-    /// another file came there while it was judged, that one is judged, too: between the last look and the new name no other run of
-    /// this program puts one there, where the folder can be held. The folder is synced after that.
+    /// Lets the file take its place, unless what stands there is kept: for a reason of its own, or by what `judge` says becomes of it.
+    /// Where another file came there while it was judged, that one is judged, too: between the last look and the new name no other run
+    /// of this program puts one there, where the folder can be held. The folder is synced after that. The name under which that lies which
+    /// made room, if it lies somewhere.
     ///
     /// # Errors
     ///
     /// Why it isn't there, and where it lies.
-    pub fn settle<J: Fn(&Whole<'a, F>) -> Option<KeepReason>>(
-        self,
-        judge: J,
-    ) -> Result<(), FileFault>
+    pub fn settle<J: Fn(&Whole<'a, F>) -> Fate>(self, judge: J) -> Result<Option<String>, FileFault>
         requires judge { (f : _) (x : _) → J.pre f x }
     {
         for _ in 0..MOST_LOOKS {
             let seen = self.seen();
-            if let Some(why) = self.own_reason() {
-                return Err(self.leave(why));
-            }
-            if let Some(why) = judge(&self) {
+            let fate = match self.own_reason() {
+                Some(why) => Fate::Kept(why),
+                None => judge(&self),
+            };
+            if let Fate::Kept(why) = fate {
                 return Err(self.leave(why));
             }
             let held = self.files.hold(folder_of(self.path.as_str()));
@@ -134,17 +152,18 @@ impl<'a, F: Folders> Whole<'a, F> {
                 return Err(FileFault::Unwritten { why });
             }
             if self.seen() == seen {
-                return self.take_place(held);
+                return self.take_place(held, fate == Fate::Old);
             }
         }
         Err(self.leave(KeepReason::Changing))
     }
 
-    /// Lets the file take its place, and then syncs the folder, which is held no longer. One that no command reads
-    /// doesn't take the place of another.
-    fn take_place(self, held: Option<F::Held>) -> Result<(), FileFault> {
+    /// Lets the file take its place, and then syncs the folder, which is held no longer. What stands there lies beside it then, if it
+    /// `is_old`. One that no command reads doesn't take the place of another.
+    fn take_place(self, held: Option<F::Held>, is_old: bool) -> Result<Option<String>, FileFault> {
         let Whole {
             files,
+            alloc,
             content,
             path,
             name,
@@ -155,11 +174,25 @@ impl<'a, F: Folders> Whole<'a, F> {
         if content == Content::Certificate && bytes > MOST_BYTES as u64 && is_filled(files, path) {
             return Err(FileFault::TooLarge { at: name, bytes });
         }
+        let old = if is_old {
+            match set_aside(files, alloc, path) {
+                Ok(old) => Some(old),
+                Err(why) => return Err(FileFault::Aside { at: name, why }),
+            }
+        } else {
+            None
+        };
         let renamed = fs::rename(files, name.as_str(), path);
         drop(held);
         if let Err(why) = renamed {
+            if let Some(old) = old {
+                let _ = fs::remove_file(files, old.as_str());
+            }
             return Err(FileFault::Aside { at: name, why });
         }
-        sync_folder(files, path).map_err(|why| FileFault::Unsynced { why })
+        match sync_folder(files, path) {
+            Ok(()) => Ok(old),
+            Err(why) => Err(FileFault::Unsynced { why }),
+        }
     }
 }

@@ -2,7 +2,9 @@
 
 use crate::telling::tell;
 use ec_cli_explain::quoted_path;
-use ec_cli_files::{MOST_HEAD, Others, names_in, others_by, read_file, unit_names};
+use ec_cli_files::{
+    MOST_HEAD, Others, has_level, is_proof, names_in, others_by, read_file, unit_names,
+};
 use ec_units::{Units, bytes_of};
 use std::alloc::{AllocError, Global};
 use std::fmt::Write as _;
@@ -11,11 +13,16 @@ use std::rt::Files;
 /// How the certificate of a search by the strong rules begins.
 const STRONG: &[u8] = b"ecplan 4\n";
 
-/// How the line begins that says the level, a number, of a certificate without a proof.
-const LEVEL: &[u8] = b"\nlevel ";
+/// What becomes of a certificate of other units where this run puts its own in its place.
+const CERT_THEN: &str = "Give another --out to keep it";
 
-/// The line behind which the nodes stand.
-const TREE: &[u8] = b"\ntree\n";
+/// The same of a proof.
+const PROOF_THEN: &str =
+    "Give another --out to keep it. If this run ends without a proof, it stays beside that, with .old behind its name";
+
+/// The same of a text.
+const TEXT_THEN: &str =
+    "If lines of it would be lost, it stays beside that, with .old behind its name";
 
 /// The lines of a certificate before its tree, and perhaps some of that.
 #[derive(Drop)]
@@ -34,13 +41,7 @@ impl Head {
 
     /// Whether it has a level, and so is no proof.
     pub(crate) fn has_level(&self) -> bool {
-        self.0.windows(LEVEL.len() + 1).any(|words| words.starts_with(LEVEL)
-            && words.last().is_some_and(|byte| byte.is_ascii_digit()))
-    }
-
-    /// Whether it has no level before its tree, and so is a proof.
-    fn is_proof(&self) -> bool {
-        !self.has_level() && self.0.windows(TREE.len()).any(|words| words == TREE)
+        has_level(&self.0)
     }
 
     /// What stands behind its version; none where it doesn't begin as a certificate does.
@@ -52,8 +53,8 @@ impl Head {
 }
 
 /// Whether the certificate at a path, which was found right, is a proof: it has no level.
-pub fn is_proof<H: Files + AllocGlobal>(rt: &H, path: &str) -> bool {
-    Head::at(rt, path).is_some_and(|head| head.is_proof())
+pub fn is_proof_at<H: Files + AllocGlobal>(rt: &H, path: &str) -> bool {
+    Head::at(rt, path).is_some_and(|head| is_proof(&head.0))
 }
 
 /// The lines of a certificate that say its slots and its units, and how the next one begins, behind the end of the first line.
@@ -67,18 +68,18 @@ fn unit_lines(alloc: Global, units: &Units) -> Result<String, AllocError> {
     Ok(lines)
 }
 
-/// That what is of other units is replaced, at the path of an option, or stays, being of another line.
+/// That what is of other units makes room at the path of an option, and what becomes of it then, or stays, being of another line.
 fn others_text(
     alloc: Global,
     path: &str,
-    what: &str,
+    (what, then): (&str, &str),
     option: &str,
     others: Others,
 ) -> Result<String, AllocError> {
     let path = quoted_path(alloc, path)?;
     match others {
         Others::Units => format!(in alloc;
-            "{path} holds {what} of other units, and this run may put its own there: give another {option} to keep it.\n"
+            "{path} holds {what} of other units, and this run may put its own there.\n{then}.\n"
         ),
         Others::Line => format!(in alloc;
             "{path} holds {what} of another line, by the names of its units, and keeps it: give another {option}.\n"
@@ -90,7 +91,7 @@ fn others_text(
 pub fn tell_other_text<H: AllocGlobal + Eprint>(rt: &H, path: &str, others: Others) {
     tell(
         rt,
-        others_text(rt.alloc(), path, "a text", "--places", others),
+        others_text(rt.alloc(), path, ("a text", TEXT_THEN), "--places", others),
     );
 }
 
@@ -112,10 +113,10 @@ fn cert_text(
     if is_own {
         return Ok(None);
     }
-    let what = if head.is_proof() {
-        "a proof"
+    let what = if is_proof(&head.0) {
+        ("a proof", PROOF_THEN)
     } else {
-        "a certificate"
+        ("a certificate", CERT_THEN)
     };
     Ok(Some(others_text(alloc, path, what, "--out", others)?))
 }

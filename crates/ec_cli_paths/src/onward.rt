@@ -86,18 +86,16 @@ fn replaced_text(alloc: Global, cert: &str) -> Result<String, AllocError> {
     )
 }
 
-/// Tells, before a search goes on with a certificate, that its own takes the place of that one, of which it is a part, if that is so.
-fn tell_replaced<H: Files + AllocGlobal + Eprint>(rt: &H, line: &Line) {
-    if let Line::Resume {
-        cert,
-        part,
-        out: Some(out),
-        ..
-    } = line
-        && part.count > 1
-        && are_one(rt, cert.as_str(), out.as_str())
-    {
-        tell(rt, replaced_text(rt.alloc(), cert.as_str()));
+/// The path of the certificate that a search goes on with, where its own takes that place and is a part of it (own profile).
+pub fn replaced_at<'a, F: Files>(files: &F, line: &'a Line) -> Option<&'a str> {
+    match line {
+        Line::Resume {
+            cert,
+            part,
+            out: Some(out),
+            ..
+        } if part.count > 1 && are_one(files, cert.as_str(), out.as_str()) => Some(cert.as_str()),
+        _ => None,
     }
 }
 
@@ -119,7 +117,9 @@ pub fn tell_onward<H: Files + AllocGlobal + Eprint>(rt: &H, line: &mut Line, is_
     ensures { JobFits (job_of line.new) }
 {
     let most = most_nodes(rt, line, is_asked);
-    tell_replaced(rt, line);
+    if let Some(cert) = replaced_at(rt, line) {
+        tell(rt, replaced_text(rt.alloc(), cert));
+    }
     match most {
         Some(nodes) if !is_asked && nodes > 0 => {
             line.limit_nodes(nodes);

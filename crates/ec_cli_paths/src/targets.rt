@@ -18,6 +18,13 @@ pub struct Target<'a> {
     pub is_own: bool,
 }
 
+impl Target<'_> {
+    /// Whether it is the units' own file, which gets their places.
+    fn takes_places(&self) -> bool {
+        self.is_own && self.content == Content::Units
+    }
+}
+
 /// What is written: the file of the job, and what is written after its text.
 pub type Targets<'a> = [Option<Target<'a>>; 4];
 
@@ -38,26 +45,13 @@ fn is_own_file<H: Files + AllocGlobal>(rt: &H, path: &str, units: Option<&str>) 
     }
 }
 
-/// The path to which the units with their places are written, if it is there.
-fn places_at<'a, H: Files + AllocGlobal>(
-    rt: &H,
-    path: &'a Option<String>,
-    units: Option<&str>,
-) -> Option<Target<'a>> {
-    let target = target_at(path, Content::Units)?;
-    Some(Target {
-        is_own: is_own_file(rt, target.path, units),
-        ..target
-    })
-}
-
-/// What the words of a line write.
-pub fn targets_of<'a, H: Files + AllocGlobal>(rt: &H, words: &'a Words) -> Targets<'a> {
+/// What the words of a line write, wherever the units come from.
+fn named_targets(words: &Words) -> Targets<'_> {
     match &words.line {
         Line::Cost { svg, .. } => [None, target_at(svg, Content::Picture), None, None],
         Line::Plan { out, places, .. } | Line::Resume { out, places, .. } => [
             target_at(out, Content::Certificate),
-            places_at(rt, places, words.units.as_deref()),
+            target_at(places, Content::Units),
             None,
             None,
         ],
@@ -83,6 +77,17 @@ pub fn targets_of<'a, H: Files + AllocGlobal>(rt: &H, words: &'a Words) -> Targe
     }
 }
 
+/// What the words of a line write.
+pub fn targets_of<'a, H: Files + AllocGlobal>(rt: &H, words: &'a Words) -> Targets<'a> {
+    let mut targets = named_targets(words);
+    for i in 0..targets.len() {
+        if let Some(target) = &mut targets[i] {
+            target.is_own = is_own_file(rt, target.path, words.units.as_deref());
+        }
+    }
+    targets
+}
+
 /// Why something is to be written to what is no path: to an empty one, or to the word that stands for a stream elsewhere.
 fn nameless_text(alloc: Global, target: Target<'_>) -> Result<String, AllocError> {
     let name = target.content.as_str();
@@ -96,16 +101,19 @@ fn nameless_text(alloc: Global, target: Target<'_>) -> Result<String, AllocError
     )
 }
 
+/// What is told where something else is to be written over the units.
+const IS_UNITS: &str =
+    "It is the file of the units: give another path. plan --places PATH writes a unit text";
+
 /// That what stands at a path is left as it is, and why.
 fn kept_text(alloc: Global, target: Target<'_>, why: KeepReason) -> Result<String, AllocError> {
     let Target { path, content, .. } = target;
     let (name, path) = (content.as_str(), quoted_path(alloc, path)?);
-    let is = match content {
-        Content::Units => "are",
-        _ => "is",
+    let why = match why {
+        KeepReason::HoldsElse if target.is_own => IS_UNITS,
+        _ => why.as_str(),
     };
-    let why = why.as_str();
-    format!(in alloc; "The {name} {is} not written over the file {path}.\n{why}.\n")
+    format!(in alloc; "The {name} is not written over the file {path}.\n{why}.\n")
 }
 
 /// Whether nothing may be written to a path: it is empty or -, or what stands there is left as it is; tells why. The units' own file is judged
@@ -116,10 +124,12 @@ fn is_kept<H: Files + AllocGlobal + Eprint>(rt: &H, target: Target<'_>) -> bool 
         return true;
     }
     match reason_to_keep(rt, rt.alloc(), target.path, target.content) {
-        Some(why) if !target.is_own || matches!(why, KeepReason::IsOutput | KeepReason::IsTold) => {
-            tell(rt, kept_text(rt.alloc(), target, why));
-            true
-        }
+        Some(why)
+            if !target.takes_places() || matches!(why, KeepReason::IsOutput | KeepReason::IsTold) =>
+            {
+                tell(rt, kept_text(rt.alloc(), target, why));
+                true
+            }
         _ => false,
     }
 }

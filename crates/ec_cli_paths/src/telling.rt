@@ -99,9 +99,6 @@ pub fn tell_path<R: AllocGlobal + Eprint, W: Display + Drop>(
 /// That a whole file lies at a path.
 fn whole_text(alloc: Global, content: Content, path: &str) -> Result<String, AllocError> {
     let (name, path) = (content.as_str(), quoted_path(alloc, path)?);
-    if content == Content::Units {
-        return format!(in alloc; "The {name} with their places are whole and lie at {path}.\n");
-    }
     format!(in alloc; "The {name} is whole and lies at {path}.\n")
 }
 
@@ -161,7 +158,7 @@ fn fault_text<R: Files + AllocGlobal>(
         }
         FileFault::Unsynced { why } => {
             format!(in alloc;
-                "It is whole at {path}.\nIt may be lost if the power fails now, since its folder cannot be synced: {why}.\n"
+                "The {name} is whole and lies at {path}.\nIt may be lost if the power fails now, since its folder cannot be synced: {why}.\n"
             )
         }
     }

@@ -1,7 +1,6 @@
 //! What plans cost, and whether a unit text that stands has a better one.
 
-ghost use Rattle.std.specs.Prelude.{◌≡◌, List, IfSome, None};
-ghost use Rattle.ec_units.specs.declared.slave.Place.{Place};
+ghost use Rattle.std.specs.Prelude.{◌≡◌, IfSome, None};
 ghost use Rattle.ec_units.specs.Views.{units_view};
 ghost use Rattle.ec_loads.specs.Cost.{plan_items, IsBusiest};
 ghost use Rattle.ec_loads.specs.Legal.{IsLegal};
@@ -30,11 +29,15 @@ pub fn legal_cost(units: &Units, plan: &Plan) -> Option<u64>
     }
 }
 
-/// What the busiest tick of the units' own places costs, in wire bytes, if each unit has one and the plan is legal.
-pub fn placed_cost(alloc: Global, units: &Units) -> Option<u64>
-    ensures { IfSome result (λ b. (places : List Place) × IsPlacedPlan (units_view units.now) places × IsLegal (loads_of units.now.units) units.now.slots places × IsBusiest (plan_items (loads_of units.now.units) places) units.now.slots b) }
+/// The plan of the units' own places, if each unit has one and it is legal, and what its busiest tick costs, in wire bytes.
+pub fn placed_cost(alloc: Global, units: &Units) -> Option<(Plan, u64)>
+    ensures placed { IfSome result (λ p. IsPlacedPlan (units_view units.now) p.0.places) }
+    ensures legal { IfSome result (λ p. IsLegal (loads_of units.now.units) units.now.slots p.0.places) }
+    ensures busiest { IfSome result (λ p. IsBusiest (plan_items (loads_of units.now.units) p.0.places) units.now.slots p.1) }
 {
-    legal_cost(units, &placed_plan(alloc, units).ok()?)
+    let plan = placed_plan(alloc, units).ok()?;
+    let (cost, _tick) = busiest(units, &plan);
+    Some((plan, cost))
 }
 
 /// Whether two units have one name, one period and as many bytes.

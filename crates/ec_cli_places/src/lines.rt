@@ -13,6 +13,17 @@ pub(crate) fn differ_in_places(one: &[u8], other: &[u8]) -> bool {
     others.all(|other| other.is_empty())
 }
 
+/// Whether another unit text has all lines of one in their order, but for what other places change, and perhaps more between them.
+pub(crate) fn are_among(one: &[u8], other: &[u8]) -> bool {
+    let mut others = other.split(|byte| *byte == b'\n').map(kept_part);
+    for line in one.split(|byte| *byte == b'\n').map(kept_part) {
+        if !line.is_empty() && others.find(|other| *other == line).is_none() {
+            return false;
+        }
+    }
+    true
+}
+
 /// Whether a line says the phase or the slot of a unit, whatever stands beside it.
 fn has_place(line: &[u8]) -> bool {
     let key = line.split(|byte| *byte == b'=').next().unwrap_or(line);

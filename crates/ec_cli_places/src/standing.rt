@@ -1,7 +1,7 @@
 //! What is lost of a unit text that stands where the units with the places of a plan are to be written.
 
 use crate::costs::{Standing, are_alike, lacks_place, legal_cost, standing_at};
-use crate::lines::differ_in_places;
+use crate::lines::{are_among, differ_in_places};
 use ec_cli_files::{KeepReason, Others, others_by, unit_names};
 use ec_cli_refusals::Refusal;
 use ec_cli_text::placed_plan;
@@ -39,9 +39,9 @@ fn reason_by_names(alloc: Global, held: &Units, units: &Units) -> Option<KeepRea
 }
 
 /// Why the places of a plan aren't written over a unit text that stands. It lacks places, so that no plan made it, and differs from
-/// the units' text in more than places. Or it is of another line. Or its units have the same names, periods and bytes, and places that cost less, or as much where
-/// the certificate was left as it is, since they may be its plan's. Where it differs in places alone, cheaper ones are better, and ones that
-/// cost as much are as good, unless a certificate is to have the same plan.
+/// the units' text in more than places. Or it is of another line. Or its units have the same names, periods and bytes, and places that
+/// cost less, or as much where the certificate was left as it is, since they may be its plan's. Where it differs in places alone, cheaper
+/// ones are better, and ones that cost as much are as good, unless a certificate is to have the same plan.
 fn reason_by(
     alloc: Global,
     standing: &Standing,
@@ -100,6 +100,16 @@ pub fn others_at<F: Files>(files: &F, alloc: Global, path: &str, units: &Units) 
         return None;
     }
     others_of(alloc, &held, units).ok()
+}
+
+/// Whether the unit text that stands at a path has lines that this one hasn't in their order, but for what other places change. Also where
+/// memory runs out over it (own profile).
+pub fn loses_lines<F: Files>(files: &F, alloc: Global, path: &str, text: &[u8]) -> bool {
+    match standing_at(files, alloc, path) {
+        Ok(Some(standing)) => !are_among(standing.text.as_slice(), text),
+        Ok(None) => false,
+        Err(AllocError) => true,
+    }
 }
 
 /// The unit text that stands at a path, if one does that can be read (own profile).

@@ -16,7 +16,7 @@ use crate::older::reason_to_stay;
 use crate::reporting::{Report, deliver_report};
 use ec_cli_answers::{File, Told};
 use ec_cli_command::{Job, Line};
-use ec_cli_files::{Content, FileFault, Folders, KeepReason, Late, Seen, Whole};
+use ec_cli_files::{Content, Fate, FileFault, Folders, Late, Seen, Whole};
 use ec_cli_inputs::{read_alone, read_both};
 use ec_cli_refusals::Refusal;
 use ec_tree::{law_levels_bound, law_trees_bound};
@@ -101,22 +101,22 @@ pub(crate) struct Origin {
     pub(crate) is_part: bool,
 }
 
-/// Why what stands at the path of a file makes no room for it: a certificate that says more does so. The one that the search went
-/// on with, where that stands there as it was, isn't read again: nothing that goes on with it says less.
-fn reason_to_leave<F: Files>(
-    alloc: Global,
-    origin: Origin,
-    file: &File,
-    whole: &Whole<'_, F>,
-) -> Option<KeepReason> {
+/// What becomes of what stands at the path of a file: a certificate that says more makes no room for it, and a proof for other units lies
+/// beside one that is none. The one that the search went on with, where that stands there as it was, isn't read again: nothing that goes on with
+/// it says less.
+fn fate_at<F: Files>(alloc: Global, origin: Origin, file: &File, whole: &Whole<'_, F>) -> Fate {
     let Origin { from, is_part } = origin;
     let File::Cert(cert) = file else {
-        return None;
+        return Fate::Replaced;
     };
     if from.is_some() && whole.seen() == from {
-        return None;
+        return Fate::Replaced;
     }
-    reason_to_stay(alloc, whole, cert, is_part)
+    match reason_to_stay(alloc, whole, cert, is_part) {
+        Some(why) => Fate::Kept(why),
+        None if cert.level.is_some() && whole.holds_other_proof() => Fate::Old,
+        None => Fate::Replaced,
+    }
 }
 
 /// Writes a file, if there is one, that comes from there, and lets it take its place.
@@ -139,7 +139,10 @@ fn settle_file<F: Folders>(
         return Err(late.give_up());
     };
     match late.finish()? {
-        Some(whole) => whole.settle(|whole| reason_to_leave(alloc, origin, file, whole)),
+        Some(whole) => {
+            whole.settle(|whole| fate_at(alloc, origin, file, whole))?;
+            Ok(())
+        }
         None => Ok(()),
     }
 }

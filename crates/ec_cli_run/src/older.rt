@@ -1,6 +1,6 @@
 //! An older certificate where a newer one is to be written.
 
-ghost use Rattle.std.specs.Prelude.{◌≡◌, ◌↔◌, IsTrue};
+ghost use Rattle.std.specs.Prelude.{◌≡◌, ◌↔◌, map, IfOk, IsTrue};
 ghost use Rattle.ec_loads.specs.Search.{IsAtMost};
 ghost use Rattle.ec_cert.specs.IsBestPlan.{value_of};
 ghost use Rattle.ec_cert.specs.Shapes.{cert_view};
@@ -156,10 +156,12 @@ fn reason_by(older: &Cert, newer: &Cert, is_part: bool) -> Option<KeepReason> {
 }
 
 /// The names of the units of a certificate.
-fn names_of(alloc: Global, cert: &Cert) -> Result<Vec<&str>, AllocError> {
+fn names_of(alloc: Global, cert: &Cert) -> Result<Vec<&[u8]>, AllocError>
+    ensures { IfOk result (λ names. map (λ n. n.now) names.items ≡ map (λ u. u.name) cert.now.units) }
+{
     let mut names = Vec::new(alloc);
     for line in cert.units.as_slice() {
-        names.push(line.name.as_str())?;
+        names.push(line.name.as_str().as_bytes())?;
     }
     Ok(names)
 }

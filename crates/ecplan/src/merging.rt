@@ -9,10 +9,10 @@ use crate::output::{Output, refuse_line};
 use crate::units::{Recorder, open_units};
 use ec_cert_merge::Misfit;
 use ec_cli_answers::Told;
-use ec_cli_endings::{Done, FAILED, Wanted, tell_end, tell_refusal, tell_untold};
-use ec_cli_explain::{Again, Asked, quoted_path};
+use ec_cli_endings::{Done, FAILED, tell_merged, tell_refusal, tell_untold};
+use ec_cli_explain::quoted_path;
 use ec_cli_files::{Content, Folders};
-use ec_cli_paths::{Target, is_proof, may_write, takes_text, target_at, tell};
+use ec_cli_paths::{Target, is_proof_at, may_write, takes_text, target_at, tell};
 use ec_cli_refusals::Refusal;
 use ec_cli_run::{MergeFault, do_merge};
 use ec_cli_words::Merging;
@@ -53,7 +53,7 @@ fn instead_of<H: Files + AllocGlobal>(
     number: usize,
 ) -> Result<String, AllocError> {
     for at in [1, number] {
-        if path_of(merging, at).is_some_and(|path| is_proof(rt, path.as_str())) {
+        if path_of(merging, at).is_some_and(|path| is_proof_at(rt, path.as_str())) {
             let path = quoted(rt.alloc(), merging, at)?;
             return format!(in rt.alloc(); "{path} is a proof by itself: take it alone.\n");
         }
@@ -87,17 +87,10 @@ fn tell_merge<H: Files + AllocGlobal + Eprint>(
 ) {
     tell_untold(rt, done.untold);
     match told {
-        Ok(told) => {
-            let wanted = Wanted {
-                asked: Asked::Merged,
-                again: Again::usual(),
-                is_needed: true,
-            };
-            tell_end(rt, told, done, Some(wanted));
-        }
-        Err(MergeFault::Refused(why)) => tell_refusal(rt, why, None, None, done.record),
+        Ok(told) => tell_merged(rt, told, done),
+        Err(MergeFault::Refused(why)) => tell_refusal(rt, why, None, done.record),
         Err(MergeFault::Cert { number, why }) => {
-            tell_refusal(rt, why, path_of(merging, *number), None, done.record);
+            tell_refusal(rt, why, path_of(merging, *number), done.record);
         }
         Err(MergeFault::Misfit { number, why }) => {
             tell(rt, misfit_text(rt, merging, *number, *why));

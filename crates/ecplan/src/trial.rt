@@ -219,7 +219,7 @@ pub(crate) fn do_trial<
         }
         Err(TrialFault::Refused(refusal)) => {
             let code = refuse_line(rt, refusal);
-            tell_refusal(rt, &refusal, line.cert(), None, record);
+            tell_refusal(rt, &refusal, line.cert(), record);
             code
         }
     }

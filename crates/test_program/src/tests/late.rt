@@ -1,6 +1,6 @@
 //! A file that is made when it is first written.
 
-use ec_cli_files::{Content, Folders, Late};
+use ec_cli_files::{Content, Fate, Folders, Late};
 use ec_text_builder::Draft;
 use ec_wire::Io;
 use std::fs;
@@ -38,7 +38,7 @@ fn add_call<W: Write>(out: &mut Draft, late: &mut W, call: &str) {
 /// Whether a file took its place, whatever stood there.
 fn is_settled<F: Folders>(late: Late<'_, F>) -> bool {
     match late.finish() {
-        Ok(Some(whole)) => whole.settle(|_| None).is_ok(),
+        Ok(Some(whole)) => whole.settle(|_| Fate::Replaced).is_ok(),
         Ok(None) => true,
         Err(_) => false,
     }
