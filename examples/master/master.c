@@ -160,14 +160,14 @@ static int start(int sock, unsigned i)
         return perror("send"), 2;
     for (;;) {
         size_t got = receive(sock, back, until, 0);
+        if (got == planned->bytes && is_answer(back, frame))
+            break;
         if (got == 0 || until < now())
             return printf("start %u lost\n", i), 1;
-        if (got != planned->bytes || !is_answer(back, frame))
-            continue;
-        if (get16(back + at) == planned->counter)
-            return 0;
-        return printf("start %u want %u got %u\n", i, planned->counter, get16(back + at)), 1;
     }
+    if (get16(back + at) == planned->counter)
+        return 0;
+    return printf("start %u want %u got %u\n", i, planned->counter, get16(back + at)), 1;
 }
 
 /* The application: it sets the outputs of a group before they are sent. Put your own in its place: without it they stay 0. With PATTERN

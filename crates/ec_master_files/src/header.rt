@@ -97,7 +97,7 @@ fn header_in(
 {
     let laid = laid_of(alloc, units, plan, mapping)?;
     let trips = start_trips(alloc, units, mapping)?;
-    let identity = identity_of(alloc, units, plan, mapping)?;
+    let identity = identity_of(alloc, laid.seats.as_slice())?;
     let mut text = Draft::new(alloc);
     text.add(HEAD);
     add_guard(&mut text, identity, units);

@@ -3,8 +3,8 @@
 ghost use Rattle.ec_units.specs.Load.{loads_of};
 ghost use Rattle.ec_loads.specs.Legal.{IsLegal};
 
-use crate::seats::{Seat, Side, seats_of};
-use ec_fmmu::{Group, Mapping, layout};
+use crate::seats::{Home, Seat, Side, seats_of};
+use ec_fmmu::layout;
 use ec_loads::Plan;
 use ec_text_builder::Draft;
 use ec_units::Units;
@@ -27,48 +27,33 @@ fn add_addresses(table: &mut Draft, side: &Side) {
 }
 
 /// Adds the row of a direction of a slave.
-fn add_side(table: &mut Draft, seat: &Seat<'_>, counter: u16, direction: &str, side: &Side) {
+fn add_side(table: &mut Draft, seat: &Seat<'_>, direction: &str, side: &Side) {
+    let Home {
+        unit,
+        place,
+        group,
+        counter,
+    } = seat.home;
     table.add("\"");
-    table.add(seat.unit.name.as_str());
-    let (station, group) = (seat.station, seat.group);
+    table.add(unit.name.as_str());
+    let station = seat.station;
     table.add(format_args!("\",{station},"));
     table.add(direction);
-    let (slot, phase) = (seat.place.slot, seat.place.phase);
-    let period = seat.unit.period;
+    let (slot, period, phase) = (place.slot, unit.period, place.phase);
     table.add(format_args!(",{slot},{period},{phase},"));
     add_addresses(table, side);
     let (bytes, at) = (side.bytes, side.at);
     table.add(format_args!("{bytes},0x{at:04x},{group},{counter}\r\n"));
 }
 
-/// Adds the rows of a slave.
-fn add_seat(table: &mut Draft, groups: &[Group], seat: &Seat<'_>) {
-    let counter = match groups.get(seat.group) {
-        Some(group) => group.counter,
-        None => 0,
-    };
-    add_side(table, seat, counter, "outputs", &seat.outputs);
-    add_side(table, seat, counter, "inputs", &seat.inputs);
-}
-
-/// Adds the rows of all slaves.
-fn add_seats(table: &mut Draft, groups: &[Group], seats: &[Seat<'_>]) {
-    for seat in seats {
-        add_seat(table, groups, seat);
-    }
-}
-
-/// The table of a plan with this layout.
-pub(crate) fn map_in(
-    alloc: Global,
-    units: &Units,
-    plan: &Plan,
-    mapping: &Mapping,
-) -> Result<String, AllocError> {
-    let seats = seats_of(alloc, units, plan.places.as_slice(), mapping)?;
+/// The table of the slaves of a plan.
+pub(crate) fn map_in(alloc: Global, seats: &[Seat<'_>]) -> Result<String, AllocError> {
     let mut table = Draft::new(alloc);
     table.add(HEAD);
-    add_seats(&mut table, mapping.groups.as_slice(), seats.as_slice());
+    for seat in seats {
+        add_side(&mut table, seat, "outputs", &seat.outputs);
+        add_side(&mut table, seat, "inputs", &seat.inputs);
+    }
     table.finish()
 }
 
@@ -80,5 +65,6 @@ pub fn map_of(alloc: Global, units: &Units, plan: &Plan) -> Result<String, Alloc
     requires { IsLegal (loads_of units.now.units) units.now.slots plan.now.places }
 {
     let mapping = layout(alloc, units, plan)?;
-    map_in(alloc, units, plan, &mapping)
+    let seats = seats_of(alloc, units, plan.places.as_slice(), &mapping)?;
+    map_in(alloc, seats.as_slice())
 }

@@ -26,7 +26,7 @@ fn add_tables(page: &mut Draft, units: &Units, plan: &Plan, mapping: &Mapping, l
     page.add(GROUPS);
     add_groups(page, groups);
     page.add(SLAVES);
-    add_slaves(page, groups, laid.seats.as_slice());
+    add_slaves(page, laid.seats.as_slice());
     page.add(FRAMES);
     add_ticks(page, &laid.sends);
 }
@@ -46,7 +46,7 @@ pub fn report_of(
 {
     let mapping = layout(alloc, units, plan)?;
     let laid = laid_of(alloc, units, plan, &mapping)?;
-    let identity = identity_of(alloc, units, plan, &mapping)?;
+    let identity = identity_of(alloc, laid.seats.as_slice())?;
     let drawn = picture(alloc, units, plan)?;
     let mut page = Draft::new(alloc);
     page.add(HEAD);

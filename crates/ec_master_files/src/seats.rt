@@ -22,12 +22,19 @@ impl Side {
     }
 }
 
-/// A slave with its unit, the place of the unit, and the number of its group.
+/// A unit with its place, and the group that it travels in: its number, from 0, and its expected working counter.
 #[derive(Clone, Copy)]
-pub(crate) struct Seat<'a> {
+pub(crate) struct Home<'a> {
     pub unit: &'a Unit,
     pub place: Place,
     pub group: usize,
+    pub counter: u16,
+}
+
+/// A slave with the unit that it is of.
+#[derive(Clone, Copy)]
+pub(crate) struct Seat<'a> {
+    pub home: Home<'a>,
     pub station: u16,
     pub outputs: Side,
     pub inputs: Side,
@@ -35,28 +42,29 @@ pub(crate) struct Seat<'a> {
 
 /// The number of the group of a period and a place, from 0.
 pub(crate) fn group_at(groups: &[Group], period: u16, place: Place) -> usize {
-    let mut number = 0usize;
-    for group in groups {
+    for (number, group) in groups.iter().enumerate() {
         if group.slot == place.slot && group.period == period && group.phase == place.phase {
             return number;
         }
-        number = number.saturating_add(1);
     }
-    number
+    groups.len()
 }
 
-/// A slave with its two records.
-fn seat_of<'a>(
-    unit: &'a Unit,
-    place: Place,
-    group: usize,
-    slave: &Slave,
-    pair: &[Fmmu; 2],
-) -> Seat<'a> {
-    Seat {
+/// A unit at a place.
+fn home_of<'a>(groups: &[Group], unit: &'a Unit, place: Place) -> Home<'a> {
+    let group = group_at(groups, unit.period, place);
+    Home {
         unit,
         place,
         group,
+        counter: groups.get(group).map_or(0, |group| group.counter),
+    }
+}
+
+/// A slave with its two records.
+fn seat_of<'a>(home: Home<'a>, slave: &Slave, pair: &[Fmmu; 2]) -> Seat<'a> {
+    Seat {
+        home,
         station: slave.station,
         outputs: Side {
             fmmu: pair[0],
@@ -75,13 +83,11 @@ fn seat_of<'a>(
 fn push_seats<'a>(
     seats: &mut Vec<Seat<'a>>,
     fmmus: &[[Fmmu; 2]],
-    unit: &'a Unit,
-    place: Place,
-    group: usize,
+    home: Home<'a>,
 ) -> Result<(), AllocError> {
-    for slave in unit.slaves.as_slice() {
+    for slave in home.unit.slaves.as_slice() {
         if let Some(pair) = fmmus.get(seats.len()) {
-            seats.push(seat_of(unit, place, group, slave, pair))?;
+            seats.push(seat_of(home, slave, pair))?;
         }
     }
     Ok(())
@@ -95,11 +101,10 @@ pub(crate) fn seats_of<'a>(
     mapping: &Mapping,
 ) -> Result<Vec<Seat<'a>>, AllocError> {
     let mut seats = Vec::new(alloc);
-    let groups = mapping.groups.as_slice();
     let fmmus = mapping.fmmus.as_slice();
     for (unit, place) in units.units.as_slice().iter().zip(places) {
-        let group = group_at(groups, unit.period, *place);
-        push_seats(&mut seats, fmmus, unit, *place, group)?;
+        let home = home_of(mapping.groups.as_slice(), unit, *place);
+        push_seats(&mut seats, fmmus, home)?;
     }
     Ok(seats)
 }

@@ -58,12 +58,10 @@ fn push_groups(
     tick: u32,
     slot: u8,
 ) -> Result<(), AllocError> {
-    let mut number = 0usize;
-    for group in groups {
+    for (number, group) in groups.iter().enumerate() {
         if is_going(group, tick, slot) {
             sent.push(number)?;
         }
-        number = number.saturating_add(1);
     }
     Ok(())
 }

@@ -3,7 +3,7 @@
 use crate::bytes::add_hex;
 use crate::cells::{add_number, add_tall_number, add_words};
 use crate::seats::{Seat, Side};
-use ec_fmmu::{Group, fmmu_bytes};
+use ec_fmmu::fmmu_bytes;
 use ec_text_builder::Draft;
 
 /// Adds the cell of a record, which may be broken in its middle.
@@ -31,28 +31,24 @@ fn add_side(page: &mut Draft, direction: &str, side: &Side) {
 }
 
 /// Adds the two rows of a slave.
-fn add_seat(page: &mut Draft, groups: &[Group], number: usize, seat: &Seat<'_>) {
-    let counter = match groups.get(seat.group) {
-        Some(group) => group.counter,
-        None => 0,
-    };
+fn add_seat(page: &mut Draft, number: usize, seat: &Seat<'_>) {
     page.add("<tbody><tr>");
     add_tall_number(page, 2, number);
     page.add("<td class=\"name\" rowspan=\"2\">");
-    page.add(seat.unit.name.as_str());
+    page.add(seat.home.unit.name.as_str());
     page.add("</td>");
     add_tall_number(page, 2, seat.station);
     add_side(page, "outputs", &seat.outputs);
-    add_tall_number(page, 2, seat.group);
-    add_tall_number(page, 2, counter);
+    add_tall_number(page, 2, seat.home.group);
+    add_tall_number(page, 2, seat.home.counter);
     page.add("</tr>\n<tr>");
     add_side(page, "inputs", &seat.inputs);
     page.add("</tr></tbody>\n");
 }
 
 /// Adds the rows of the slaves.
-pub(crate) fn add_slaves(page: &mut Draft, groups: &[Group], seats: &[Seat<'_>]) {
+pub(crate) fn add_slaves(page: &mut Draft, seats: &[Seat<'_>]) {
     for (number, seat) in seats.iter().enumerate() {
-        add_seat(page, groups, number, seat);
+        add_seat(page, number, seat);
     }
 }

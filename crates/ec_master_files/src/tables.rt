@@ -13,8 +13,8 @@ const IN_A_LINE: usize = 16;
 /// Adds the row of a slave.
 fn add_slave(text: &mut Draft, seat: &Seat<'_>) {
     text.add("    { \"");
-    text.add(seat.unit.name.as_str());
-    let (station, group) = (seat.station, seat.group);
+    text.add(seat.home.unit.name.as_str());
+    let (station, group) = (seat.station, seat.home.group);
     let (outputs, inputs) = (seat.outputs.offset(), seat.inputs.offset());
     text.add(format_args!("\", {station}, {group}, {outputs}, {inputs}, "));
     let (out_bytes, in_bytes) = (seat.outputs.bytes, seat.inputs.bytes);
@@ -33,13 +33,16 @@ pub(crate) fn add_slaves(text: &mut Draft, seats: &[Seat<'_>]) {
     }
 }
 
-/// Adds names for the place and the bytes of each slave, by its station.
+/// Adds names for the place of each slave, its bytes, its group and its period, by its station.
 pub(crate) fn add_names(text: &mut Draft, seats: &[Seat<'_>]) {
     for (place, seat) in seats.iter().enumerate() {
         let (station, outputs, inputs) = (seat.station, seat.outputs.bytes, seat.inputs.bytes);
+        let (group, period) = (seat.home.group, seat.home.unit.period);
         text.add(format_args!("#define ECPLAN_SLAVE_{station} {place}\n"));
         text.add(format_args!("#define ECPLAN_OUT_BYTES_{station} {outputs}\n"));
         text.add(format_args!("#define ECPLAN_IN_BYTES_{station} {inputs}\n"));
+        text.add(format_args!("#define ECPLAN_GROUP_{station} {group}\n"));
+        text.add(format_args!("#define ECPLAN_PERIOD_{station} {period}\n"));
     }
 }
 

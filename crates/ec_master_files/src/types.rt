@@ -23,7 +23,7 @@ pub(crate) const TYPES: &str = "
 
 /// What stands before the names of the slaves.
 pub(crate) const NAMES: &str = "
-/* The places of the slaves in ecplan_slaves, and their bytes, by their stations. */
+/* By stations: the places of the slaves in ecplan_slaves, their bytes, their groups, and their periods in ticks. */
 ";
 
 /// What stands before the table of the slaves.
