@@ -3,7 +3,7 @@
 use crate::telling::{more_on, reason_at, tell};
 use ec_cli_command::Line;
 use ec_cli_explain::quoted_path;
-use ec_cli_files::{Content, KeepReason, Late, are_one, are_same_file, reason_to_keep};
+use ec_cli_files::{Content, KeepReason, Late, are_one, are_same_file, is_no_file, reason_to_keep};
 use ec_cli_words::Words;
 use std::alloc::{AllocError, Global};
 use std::io;
@@ -16,6 +16,8 @@ pub struct Target<'a> {
     pub content: Content,
     /// Whether it is the file that the units come from.
     pub is_own: bool,
+    /// Whether it is a pipe or a device that the units come from.
+    pub is_read: bool,
 }
 
 impl Target<'_> {
@@ -34,6 +36,7 @@ pub fn target_at(path: &Option<String>, content: Content) -> Option<Target<'_>> 
         path: path.as_deref()?,
         content,
         is_own: false,
+        is_read: false,
     })
 }
 
@@ -42,6 +45,14 @@ fn is_own_file<H: Files + AllocGlobal>(rt: &H, path: &str, units: Option<&str>) 
     match units {
         Some(units) => are_one(rt, path, units),
         None => are_same_file(rt, path, "/dev/stdin"),
+    }
+}
+
+/// Whether a path leads to what is no file, and has the units at their path: what is written there would be read there.
+fn is_own_pipe<H: Files>(files: &H, path: &str, units: Option<&str>) -> bool {
+    match units {
+        Some(units) => is_no_file(files, path) && are_same_file(files, path, units),
+        None => false,
     }
 }
 
@@ -83,6 +94,7 @@ pub fn targets_of<'a, H: Files + AllocGlobal>(rt: &H, words: &'a Words) -> Targe
     for i in 0..targets.len() {
         if let Some(target) = &mut targets[i] {
             target.is_own = is_own_file(rt, target.path, words.units.as_deref());
+            target.is_read = is_own_pipe(rt, target.path, words.units.as_deref());
         }
     }
     targets
@@ -116,11 +128,23 @@ fn kept_text(alloc: Global, target: Target<'_>, why: KeepReason) -> Result<Strin
     format!(in alloc; "The {name} is not written over the file {path}.\n{why}.\n")
 }
 
-/// Whether nothing may be written to a path: it is empty or -, or what stands there is left as it is; tells why. The units' own file is judged
-/// as the units are, and kept only where standard output or standard error goes to it.
+/// That something isn't written to a pipe, since the units come from it.
+fn own_pipe_text(alloc: Global, target: Target<'_>) -> Result<String, AllocError> {
+    let (name, path) = (target.content.as_str(), quoted_path(alloc, target.path)?);
+    format!(in alloc;
+        "The {name} is not written to {path}.\nThe units come from there, and would take it up again: give another path.\n"
+    )
+}
+
+/// Whether nothing may be written to a path: it is empty or -, the units come from it and it is no file, or what stands there is left as
+/// it is; tells why. The units' own file is judged as the units are, and kept only where standard output or standard error goes to it.
 fn is_kept<H: Files + AllocGlobal + Eprint>(rt: &H, target: Target<'_>) -> bool {
     if matches!(target.path, "" | "-") {
         tell(rt, nameless_text(rt.alloc(), target));
+        return true;
+    }
+    if target.is_read {
+        tell(rt, own_pipe_text(rt.alloc(), target));
         return true;
     }
     match reason_to_keep(rt, rt.alloc(), target.path, target.content) {
