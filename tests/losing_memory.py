@@ -92,6 +92,7 @@ def jobs_of(program, folder):
         plan, resume = ["plan", "--nodes", str(nodes)], ["resume", "--nodes", str(nodes - FIRST_NODES)]
         yield judge, Job(f"plan --out C, {how}", plan, units, None, None)
         yield judge, Job(f"plan --out C over one of a single node, {how}", plan, units, None, least)
+        yield judge, Job(f"plan --keep --out C over one of a single node, {how}", [*plan, "--keep"], units, None, least)
         yield judge, Job(f"resume --cert C --out C, {how}", resume, units, first, first, True)
         yield judge, Job(f"resume --cert B --out C, {how}", resume, units, first, None)
         yield judge, Job(f"resume --cert B --out C over the same one, {how}", resume, units, first, first)

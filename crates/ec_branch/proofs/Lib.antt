@@ -1,5 +1,6 @@
 pub mod FirstLemmas
 pub mod GreedyLemmas
+pub mod KeptLemmas
 pub mod KnownLemmas
 pub mod LeafLemmas
 pub mod OneGreedyLemmas

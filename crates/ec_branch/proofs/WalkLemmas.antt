@@ -111,6 +111,10 @@ strip-map : (plan : List Place) → strip (map Some plan) ≡ plan
 strip-map [] = refl
 strip-map (p ∷ ps) = ap (λ w. p ∷ w) (strip-map ps)
 
+-- two plans with the same places
+pub same_plan : (one other : List Place) → map Some one ≡ map Some other → one ≡ other
+same_plan one other same = sym (strip-map one) ∙ ap strip same ∙ strip-map other
+
 pub all_some : (plan : List Place) (ps : Prefix) (i : ℕ) → ps ≡ map Some plan → i < length ps → get_or ps i None ≡ None → ⊥
 all_some plan ps i e h k = some_at plan i (subst (λ w. i < length w) e h) (subst (λ w. get_or w i None ≡ None) e k)
   where

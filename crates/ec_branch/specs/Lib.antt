@@ -2,6 +2,7 @@ pub mod Draws
 pub mod FirstPlans
 pub mod Frames
 pub mod Greedy
+pub mod Kept
 pub mod Stacks
 pub mod StrongOrders
 pub mod Turns

@@ -58,7 +58,7 @@ fn better(best: Option<Choice>, place: Place, cost: Option<u64>) -> Option<Choic
 }
 
 /// The first child of least busiest tick, of those that keep every payload small enough.
-fn best_child(loads: &mut Loads, unit: usize) -> Option<Place>
+pub(crate) fn best_child(loads: &mut Loads, unit: usize) -> Option<Place>
     requires { slice_get loads.old.places unit ≡ Some None }
     ensures same { loads.new ≡ loads.old }
     ensures best { MatchOption result (All (IsTooFull loads.old.loads loads.old.slots loads.old.places unit) (children (line_of slots_alone loads.old) loads.old.places unit))

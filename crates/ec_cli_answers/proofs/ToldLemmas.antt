@@ -58,13 +58,13 @@ other_plan (file.Capture bytes) plan other = refl
 -- ---- a job without a file
 
 abbrev IsSimple : Job → Type 0
-IsSimple (job.Plan workers nodes strong) = ⊥
+IsSimple (job.Plan workers nodes strong keep) = ⊥
 IsSimple (job.Resume workers nodes part) = ⊥
 IsSimple job.Capture = ⊥
 IsSimple _ = Unit {0}
 
 simple_is : (j : Job) (bytes : List ℕ) (cert : Option (List ℕ)) (w : Written) → IsSimple j → (IsOutput j bytes cert w ⊎ IsNoMemory j w) → IsTold j bytes cert w None
-simple_is (job.Plan workers nodes strong) bytes cert w simple h = absurd simple
+simple_is (job.Plan workers nodes strong keep) bytes cert w simple h = absurd simple
 simple_is (job.Resume workers nodes part) bytes cert w simple h = absurd simple
 simple_is job.Capture bytes cert w simple h = absurd simple
 simple_is j bytes cert w simple h = (h, refl)
@@ -196,8 +196,8 @@ plan_unread workers nodes strong bytes r (inl memory) = inr (inl memory)
 plan_unread workers nodes strong bytes r (inr fault) = inl fault
 
 pub unread_tells : (j : Job) (bytes : List ℕ) (cert : Option (List ℕ)) (r : Refusal) (t : Result Told Refusal) → HasInput j cert → t ≡ Err r → IsUnread bytes cert r → TellsFor j bytes cert t
-unread_tells (job.Plan workers nodes strong) bytes None r t has is h = search_untold (IsPlanOf (asked_for strong workers nodes) bytes) (IsPlanFault (asked_for strong workers nodes) bytes) r t is (plan_unread workers nodes strong bytes r h)
-unread_tells (job.Plan workers nodes strong) bytes (Some text) r t has is h = absurd cc
+unread_tells (job.Plan workers nodes strong keep) bytes None r t has is h = search_untold (IsPlanOf (asked_for strong workers nodes) bytes) (IsPlanFault (asked_for strong workers nodes) bytes) r t is (plan_unread workers nodes strong bytes r h)
+unread_tells (job.Plan workers nodes strong keep) bytes (Some text) r t has is h = absurd cc
 unread_tells (job.Resume workers nodes part) bytes None r t has is h = absurd has
 unread_tells (job.Resume workers nodes part) bytes (Some text) r t has is h = search_untold (IsResumeOf workers nodes part bytes text) (IsResumeFault workers bytes text) r t is (unresumed workers bytes text r h)
 unread_tells job.Check bytes None r t has is h = absurd has

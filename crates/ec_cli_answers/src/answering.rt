@@ -1,9 +1,11 @@
 //! What each job tells of its inputs.
 
-ghost use Rattle.std.specs.Prelude.{◌≡◌, ◌≤◌, ℕ, List, Option, Ok as OkOf, Some};
+ghost use Rattle.std.specs.Prelude.{◌≡◌, ◌≤◌, ℕ, List, Option, Ok as OkOf, Some, None, IfOk, IfErr};
 ghost use Rattle.ec_units.specs.Load.{loads_of};
 ghost use Rattle.ec_loads.specs.Held.{no_places};
+ghost use Rattle.ec_loads.specs.Shape.{open_leaf};
 ghost use Rattle.ec_cert.specs.Parts.{IsPart};
+ghost use Rattle.ec_workers.specs.Answers.{asked_for, GoesBeyond, HasRules, HasSearchOrder, IsOutcome, IsSolveFault};
 ghost use Rattle.ec_cli_command.specs.Words.{JobFits};
 ghost use Rattle.ec_cli_command.specs.declared.job.Job.TheVariants.{Plan, Resume};
 ghost use Rattle.ec_cli_inputs.specs.Input.{AnswersUnits, Says, HasRoom, text_given};
@@ -19,11 +21,37 @@ use ec_cli_inputs::{Given, Inputs};
 use ec_cli_refusals::Refusal;
 use ec_cli_text::Together;
 use ec_loads::Loads;
+use ec_outcome::{Outcome, SolveFault};
 use ec_units::Units;
-use ec_workers::{Gate, lines_of, solve};
+use ec_workers::{Gate, lines_of, solve, solve_kept};
 use std::alloc::Global;
 use std::sync::Wait;
 use std::thread::Threads;
+
+/// What comes of a search for a plan, which begins at the places of the units where it is to keep them.
+fn searched<T: Threads + Wait + Sync, G: Gate + Sync>(
+    rt: &T,
+    alloc: Global,
+    workers: usize,
+    nodes: u32,
+    strong: bool,
+    keep: bool,
+    units: &Units,
+    gate: &G,
+) -> Result<Outcome, SolveFault>
+    requires workers { (1 ≤ workers) × (workers ≤ 16) }
+    requires nodes { (1 ≤ nodes) × (nodes ≤ 10000000) }
+    ensures outcome { IfOk result (IsOutcome units.now.units units.now.slots (asked_for strong workers nodes)) }
+    ensures beyond { IfOk result (GoesBeyond open_leaf None nodes) }
+    ensures order { IfOk result (HasSearchOrder strong (loads_of units.now.units)) }
+    ensures rules { IfOk result (HasRules strong) }
+    ensures fault { IfErr result (IsSolveFault workers) }
+{
+    if keep {
+        return solve_kept(rt, alloc, units, workers, nodes, strong, gate);
+    }
+    solve(rt, alloc, units, workers, nodes, strong, gate)
+}
 
 /// What a search for a plan tells of the units.
 fn tell_plan<T: Threads + Wait + Sync, G: Gate + Sync>(
@@ -32,17 +60,18 @@ fn tell_plan<T: Threads + Wait + Sync, G: Gate + Sync>(
     workers: usize,
     nodes: u32,
     strong: bool,
+    keep: bool,
     units: &Units,
     gate: &G,
 ) -> Result<Told, Refusal>
     requires workers { (1 ≤ workers) × (workers ≤ 16) }
     requires nodes { (1 ≤ nodes) × (nodes ≤ 10000000) }
-    ensures told { (bytes : List ℕ) (cert : Option (List ℕ)) → AnswersUnits (OkOf units.now) bytes → TellsFor (Plan workers nodes strong) bytes cert result }
+    ensures told { (bytes : List ℕ) (cert : Option (List ℕ)) → AnswersUnits (OkOf units.now) bytes → TellsFor (Plan workers nodes strong keep) bytes cert result }
     ensures text { IsWritable result }
 {
     let mut loads = Loads::new(alloc, units)?;
     let lines = lines_of(alloc, units)?;
-    let outcome = solve(rt, alloc, units, workers, nodes, strong, gate)?;
+    let outcome = searched(rt, alloc, workers, nodes, strong, keep, units, gate)?;
     tell_outcome(alloc, units, &mut loads, lines, outcome)
 }
 
@@ -122,7 +151,17 @@ pub fn answer<T: Threads + Wait + Sync, G: Gate + Sync>(
             workers,
             nodes,
             strong,
-        } => tell_plan(rt, alloc, *workers, *nodes, *strong, &inputs.units, gate),
+            keep,
+        } => tell_plan(
+            rt,
+            alloc,
+            *workers,
+            *nodes,
+            *strong,
+            *keep,
+            &inputs.units,
+            gate,
+        ),
         Job::Resume {
             workers,
             nodes,

@@ -10,11 +10,13 @@ use ec_cert::Part;
 pub enum Job {
     /// Tells what each tick of the placed units costs.
     Cost,
-    /// Searches for the best plan with so many workers, over at most so many nodes; by the strong rules where it says so.
+    /// Searches for the best plan with so many workers, over at most so many nodes; by the strong rules where it says so, and
+    /// from the places of the units on where these are to be kept.
     Plan {
         workers: usize,
         nodes: u32,
         strong: bool,
+        keep: bool,
     },
     /// Goes on with the search of a certificate that was cut short, with so many workers, over at most so many new nodes,
     /// and only with the open leaves of this part.

@@ -39,10 +39,12 @@ pub enum Line {
         cert: Option<String>,
         svg: Option<String>,
     },
-    /// Searches for the best plan; by the strong rules where it says so.
+    /// Searches for the best plan; by the strong rules where it says so, and from the places of the units on where these are to be
+    /// kept.
     Plan {
         effort: Effort,
         strong: bool,
+        keep: bool,
         out: Option<String>,
         places: Option<String>,
     },
@@ -80,10 +82,16 @@ impl Line {
         match self {
             Line::Cost { cert: None, .. } => Job::Cost,
             Line::Cost { cert: Some(_), .. } => Job::PlanCost,
-            Line::Plan { effort, strong, .. } => Job::Plan {
+            Line::Plan {
+                effort,
+                strong,
+                keep,
+                ..
+            } => Job::Plan {
                 workers: effort.workers,
                 nodes: effort.nodes,
                 strong: *strong,
+                keep: *keep,
             },
             Line::Resume { effort, part, .. } => Job::Resume {
                 workers: effort.workers,

@@ -39,7 +39,7 @@ pub(crate) type Row = (
 );
 
 /// The options in the order of the help.
-pub(crate) const ROWS: [Row; 24] = [
+pub(crate) const ROWS: [Row; 25] = [
     (
         "cert",
         "PATH",
@@ -148,6 +148,12 @@ pub(crate) const ROWS: [Row; 24] = [
         "",
         &["plan"],
         "Search by stronger rules, which prove most lines sooner, and some not at all: try both; the certificate is of version 4",
+    ),
+    (
+        "keep",
+        "",
+        &["plan"],
+        "Begin at the places in the units, with the units without one beside them, and move units only for a plan that costs less",
     ),
     (
         "out",

@@ -59,7 +59,7 @@ pub(crate) fn are_alike(one: &Units, other: &Units) -> bool {
 }
 
 /// Whether some unit has no place, as in a text that is written by hand.
-pub(crate) fn lacks_place(units: &Units) -> bool {
+pub fn lacks_place(units: &Units) -> bool {
     units
         .units
         .as_slice()

@@ -160,7 +160,7 @@ IsNoThread r = (r ≡ refusal.Play play.Ring) ⊎ (r ≡ refusal.Play play.Spawn
 -- want of memory, and in a play of rings and threads, which may be answered in place of anything else; a plan, a check and the frames say who met it
 abbrev pub IsMemory : Job → Refusal → Type 0
 IsMemory job.Cost r = r ≡ out_of_memory
-IsMemory (job.Plan workers nodes strong) r = IsPlanMemory r
+IsMemory (job.Plan workers nodes strong keep) r = IsPlanMemory r
 IsMemory (job.Resume workers nodes part) r = IsResumeMemory r
 IsMemory job.Check r = (r ≡ out_of_memory) ⊎ ((r ≡ refusal.Cert cert.OutOfMemory) ⊎ (r ≡ refusal.Check check.OutOfMemory))
 IsMemory job.Frames r = IsFramesMemory r

@@ -15,14 +15,14 @@ some-none h = absurd cc
 -- a line with the path of a certificate reads one
 pub reads_its_cert : (l : Line) (path : String Global) → cert_of l ≡ Some path → reads_cert (job_of l) ≡ true
 reads_its_cert (line.Cost None svg) path is = absurd (none-some is)
-reads_its_cert (line.Plan effort strong out places) path is = absurd (none-some is)
+reads_its_cert (line.Plan effort strong keep out places) path is = absurd (none-some is)
 reads_its_cert (line.Frames cert None header table report) path is = refl
 reads_its_cert l path is = refl
 
 -- and one without such a path needs none
 pub needs_none : (l : Line) → cert_of l ≡ None → HasInput (job_of l) None
 needs_none (line.Cost None svg) is = refl
-needs_none (line.Plan effort strong out places) is = refl
+needs_none (line.Plan effort strong keep out places) is = refl
 needs_none (line.Frames cert None header table report) is = tt
 needs_none (line.Frames cert (Some pcap) header table report) is = tt
 needs_none (line.Play cert) is = tt

@@ -50,7 +50,7 @@ true_or_false false = inr refl
 
 some_input : (j : Job) (text : List ℕ) → reads_cert j ≡ true → HasInput j (Some text)
 some_input job.Cost text h = absurd (true≢false (sym h))
-some_input (job.Plan workers nodes strong) text h = absurd (true≢false (sym h))
+some_input (job.Plan workers nodes strong keep) text h = absurd (true≢false (sym h))
 some_input j text h = tt
 
 tells_one : (j : Job) (bytes : List ℕ) (text : Option (List ℕ)) (read : Result Inputs Refusal) (t : Result Told Refusal) → HasInput j text → AnswersOf j read t → AreRead bytes text read → TellsFor j bytes text t
@@ -243,12 +243,12 @@ does j u cert out t a w d = does_at j u cert.tells cert.old cert.new out.tells o
 
 none_needed : (j : Job) → reads_cert j ≡ false → HasInput j None
 none_needed job.Cost is = refl
-none_needed (job.Plan workers nodes strong) is = refl
+none_needed (job.Plan workers nodes strong keep) is = refl
 none_needed j is = absurd (true≢false is)
 
 none_lent : (C : Type 0) (j : Job) → HasCert {C = C} j None → HasInput j None
 none_lent C job.Cost has = refl
-none_lent C (job.Plan workers nodes strong) has = refl
+none_lent C (job.Plan workers nodes strong keep) has = refl
 none_lent C j has = has
 
 -- ---- from what was read, and from how that is delivered, to what a run does

@@ -30,12 +30,12 @@ use Rattle.ec_cli_run.proofs.StatusLemmas.{by_other, by_refusal}
 
 -- of a search, with its file
 abbrev Searches : Job → Type 0
-Searches (job.Plan workers nodes strong) = Unit {0}
+Searches (job.Plan workers nodes strong keep) = Unit {0}
 Searches (job.Resume workers nodes part) = Unit {0}
 Searches _ = ⊥
 
 search_true : LevelsBound → (j : Job) → Searches j → (bytes : List ℕ) (cert : Option (List ℕ)) (w : Written) (file : Option (List ℕ)) → IsTold j bytes cert w file → TellsTruth bytes w file
-search_true levels (job.Plan workers nodes strong) is bytes cert w file h = plan_true levels (asked_for strong workers nodes) bytes w file h
+search_true levels (job.Plan workers nodes strong keep) is bytes cert w file h = plan_true levels (asked_for strong workers nodes) bytes w file h
 search_true levels (job.Resume workers nodes part) is bytes None w file h = absurd h
 search_true levels (job.Resume workers nodes part) is bytes (Some text) w file h = resume_true levels workers nodes part bytes text w file h
 search_true levels j is bytes cert w file h = absurd is
@@ -73,11 +73,11 @@ got_true : {O : Type 0} (bytes : List ℕ) (w : Written) (out : Lent O) → (Has
     → IfLent out (Unit {0}) (λ o. HasFailed o → Refuses refusal.Write w) → IsTrueWith out w bytes
 got_true bytes w out told unwritten = got_at bytes w out.tells out.old out.new told unwritten
 
-plan_all : {O : Type 0} (levels : LevelsBound) (workers nodes : ℕ) (strong : Bool) (left : Option (List ℕ)) (out : Lent O) (w : Written)
-    → (HasNotFailed out → IfSome left (λ bytes. (file : Option (List ℕ)) × IsTold (job.Plan workers nodes strong) bytes None w file × IfLent out (Unit {0}) (λ o. Gets o.tells o.old o.new file)))
+plan_all : {O : Type 0} (levels : LevelsBound) (workers nodes : ℕ) (strong keep : Bool) (left : Option (List ℕ)) (out : Lent O) (w : Written)
+    → (HasNotFailed out → IfSome left (λ bytes. (file : Option (List ℕ)) × IsTold (job.Plan workers nodes strong keep) bytes None w file × IfLent out (Unit {0}) (λ o. Gets o.tells o.old o.new file)))
     → IfLent out (Unit {0}) (λ o. HasFailed o → Refuses refusal.Write w) → IfSome left (IsTrueWith out w)
-plan_all levels workers nodes strong None out w told unwritten = tt
-plan_all levels workers nodes strong (Some bytes) out w told unwritten = got_true bytes w out (λ fine. let h = told fine in (h.0, search_true levels (job.Plan workers nodes strong) tt bytes None w h.0 h.1, h.2)) unwritten
+plan_all levels workers nodes strong keep None out w told unwritten = tt
+plan_all levels workers nodes strong keep (Some bytes) out w told unwritten = got_true bytes w out (λ fine. let h = told fine in (h.0, search_true levels (job.Plan workers nodes strong keep) tt bytes None w h.0 h.1, h.2)) unwritten
 
 -- of a resumed search, whatever its certificate holds
 resume_all : {O : Type 0} (levels : LevelsBound) (workers nodes : ℕ) (part : Part) (left : Option (List ℕ)) (out : Lent O) (w : Written)
@@ -108,7 +108,7 @@ lent_there : {C : Type 0} (j : Job) (cert : Lent C) (none : Type 0) (P : Use C �
 lent_there j cert none P Q needs has say h = known_at j cert.tells cert.old cert.new none P Q needs has say h
 
 pub run_true : {R C O : Type 0} → TreesBound → LevelsBound → (j : Job) (u : Use R) (cert : Lent C) (out : Lent O) (w : Written) → HasCert j cert.old → DoesWith j u cert out w → RunIsTrue j u out w
-run_true trees levels (job.Plan workers nodes strong) u cert out w has d = λ sound. plan_all levels workers nodes strong (before u) out w (λ fine. d.0.told sound tt fine) d.0.unwritten
+run_true trees levels (job.Plan workers nodes strong keep) u cert out w has d = λ sound. plan_all levels workers nodes strong keep (before u) out w (λ fine. d.0.told sound tt fine) d.0.unwritten
 run_true trees levels (job.Resume workers nodes part) u cert out w has d = λ sound.
     lent_there (job.Resume workers nodes part) cert _ _ (IfSome (before u) (IsTrueWith out w)) (λ e. e) has (λ c h. resume_all levels workers nodes part (before u) out w h) (d.0.some sound)
 run_true trees levels job.Check u cert out w has d = λ sound.
@@ -147,7 +147,7 @@ search_line : {R : Type 0} → LevelsBound → (j : Job) → Searches j → (fro
 search_line levels j is from u t file w so told sound = IfSome_then (before u) (told sound) (λ bytes a. reported_true refused (IsTrueOf bytes) (λ v above. (None, by_other v.code above)) code_above w t file so (search_answer levels j is from bytes t a))
 
 pub line_true : {R : Type 0} → TreesBound → LevelsBound → (j : Job) (from : Option (String Global)) (u : Use R) (t : Result Told Refusal) (file : Option FileFault) (w : Written) → w ≡ reported refused t file → (IsSound u → IfSome (before u) (λ bytes. AnswersLine j from bytes t)) → LineIsTrue j u w
-line_true trees levels (job.Plan workers nodes strong) from u t file w is told = search_line levels (job.Plan workers nodes strong) tt from u t file w is told
+line_true trees levels (job.Plan workers nodes strong keep) from u t file w is told = search_line levels (job.Plan workers nodes strong keep) tt from u t file w is told
 line_true trees levels (job.Resume workers nodes part) from u t file w is told = search_line levels (job.Resume workers nodes part) tt from u t file w is told
 line_true trees levels job.Check from u t file w is told = λ sound. IfSome_then (before u) (told sound) (λ bytes a. reported_true refused (YesTellsTruth bytes) (λ v above. by_other v.code above) code_above w t file is (check_answer trees levels from bytes t a))
 line_true trees levels j from u t file w is told = tt

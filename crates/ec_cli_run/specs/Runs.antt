@@ -93,7 +93,7 @@ usage text = record { text = text; code = 5 }
 -- a reader of a certificate, where the job reads one, has not failed, and is there where the job can't do without
 abbrev pub HasCert : {C : Type 0} → Job → Option (Io C) → Type 0
 HasCert job.Cost cert = Unit {0}
-HasCert (job.Plan workers nodes strong) cert = Unit {0}
+HasCert (job.Plan workers nodes strong keep) cert = Unit {0}
 HasCert j None = HasInput j None
 HasCert j (Some cert) = has_failed cert ≡ false
 

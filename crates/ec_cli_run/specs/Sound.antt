@@ -136,7 +136,7 @@ SearchIsTrue units out w = IsSound units → IfSome (before units) (λ bytes. (f
 
 -- what a search and a check tell is true, whatever a certificate holds that they read; the other jobs claim nothing of other plans
 abbrev pub RunIsTrue : {R O : Type 0} → Job → Use R → Lent O → Written → Type 0
-RunIsTrue (job.Plan workers nodes strong) units out w = SearchIsTrue units out w
+RunIsTrue (job.Plan workers nodes strong keep) units out w = SearchIsTrue units out w
 RunIsTrue (job.Resume workers nodes part) units out w = SearchIsTrue units out w
 RunIsTrue job.Check units out w = IsSound units → IfSome (before units) (λ bytes. YesTellsTruth bytes w)
 RunIsTrue _ units out w = Unit {0}
@@ -147,7 +147,7 @@ IsRun j units cert text out code = Tells (λ w. DoesWith j units cert out w × R
 
 -- the same of a command line, of whose file nothing is known
 abbrev pub LineIsTrue : {R : Type 0} → Job → Use R → Written → Type 0
-LineIsTrue (job.Plan workers nodes strong) units w = IsSound units → IfSome (before units) (λ bytes. (file : Option (List ℕ)) × TellsTruth bytes w file)
+LineIsTrue (job.Plan workers nodes strong keep) units w = IsSound units → IfSome (before units) (λ bytes. (file : Option (List ℕ)) × TellsTruth bytes w file)
 LineIsTrue (job.Resume workers nodes part) units w = IsSound units → IfSome (before units) (λ bytes. (file : Option (List ℕ)) × TellsTruth bytes w file)
 LineIsTrue job.Check units w = IsSound units → IfSome (before units) (λ bytes. YesTellsTruth bytes w)
 LineIsTrue _ units w = Unit {0}

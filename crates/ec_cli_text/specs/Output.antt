@@ -82,7 +82,7 @@ IsTextFor IsText cert v w =
 -- what a job that searches for nothing writes for units, and for the bytes of a certificate where it reads one
 abbrev pub IsUnitsOutput : Job → Option (List ℕ) → UnitsView → Written → Type 0
 IsUnitsOutput job.Cost cert v w = IsTextFor IsCostsText None v w
-IsUnitsOutput (job.Plan workers nodes strong) cert v w = ⊥
+IsUnitsOutput (job.Plan workers nodes strong keep) cert v w = ⊥
 IsUnitsOutput (job.Resume workers nodes part) cert v w = ⊥
 IsUnitsOutput job.Check None v w = ⊥
 IsUnitsOutput job.Check (Some text) v w = IsCheckOutput v text w

@@ -40,8 +40,8 @@ EffortFits e = ((1 ≤ e.workers) × (e.workers ≤ 16) × (1 ≤ e.nodes) × (e
 abbrev pub HasEffortOf : ArgMatches → Effort → Type 0
 HasEffortOf m e = IsSaidBy m (codes "workers") e.workers × HasNodesOf m e.minutes e.nodes × IsMaybeSaidBy m (codes "minutes") e.minutes
 
--- the numbers of a plan, and whether it goes by the strong rules; and the numbers of a resumed search
+-- the numbers of a plan, whether it goes by the strong rules, and whether it begins at the places of the text; and the numbers of a resumed search
 abbrev pub HasNumbersOf : ArgMatches → Line → Type 0
-HasNumbersOf m (line.Plan effort strong out places) = HasEffortOf m effort × IsFlagOf m (codes "strong") strong
+HasNumbersOf m (line.Plan effort strong keep out places) = HasEffortOf m effort × IsFlagOf m (codes "strong") strong × IsFlagOf m (codes "keep") keep
 HasNumbersOf m (line.Resume cert effort part out places) = HasEffortOf m effort
 HasNumbersOf m _ = Unit {0}

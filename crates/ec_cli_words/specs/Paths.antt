@@ -19,7 +19,7 @@ IsUnitsPathOf m path =
 -- each path of a line is that of its option
 abbrev pub HasPathsOf : ArgMatches → Line → Type 0
 HasPathsOf m (line.Cost cert svg) = IsPathOf m (codes "cert") cert × IsPathOf m (codes "svg") svg
-HasPathsOf m (line.Plan effort strong out places) = IsPathOf m (codes "out") out × IsPathOf m (codes "places") places
+HasPathsOf m (line.Plan effort strong keep out places) = IsPathOf m (codes "out") out × IsPathOf m (codes "places") places
 HasPathsOf m (line.Resume cert effort part out places) = IsPathOf m (codes "cert") (Some cert) × IsPathOf m (codes "out") out × IsPathOf m (codes "places") places
 HasPathsOf m (line.Check cert) = IsPathOf m (codes "cert") (Some cert)
 HasPathsOf m (line.Frames cert pcap header table report) =

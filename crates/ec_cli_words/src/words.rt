@@ -177,11 +177,13 @@ fn plan_line(alloc: Global, matches: &ArgMatches<'_>) -> Result<Line, LineFault>
 {
     let effort = effort(alloc, matches)?;
     let strong = matches.get_flag("strong");
+    let keep = matches.get_flag("keep");
     let out = path_of(alloc, matches, "out")?;
     let places = path_of(alloc, matches, "places")?;
     Ok(Line::Plan {
         effort,
         strong,
+        keep,
         out,
         places,
     })

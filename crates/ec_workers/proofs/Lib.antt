@@ -1,5 +1,6 @@
 pub mod AnswerLemmas
 pub mod GrowLemmas
+pub mod KeptLemmas
 pub mod LevelLemmas
 pub mod RangeLemmas
 pub mod ResumeLemmas

@@ -4,6 +4,7 @@
 mod begin;
 mod certify;
 mod crewed;
+mod keeping;
 mod planning;
 mod resuming;
 mod room;
@@ -14,6 +15,7 @@ pub use begin::rules_by;
 pub use certify::lines_of;
 pub use ec_outcome::{Cut, Outcome, SolveFault};
 pub use ec_search_threads::{Gate, Quiet};
+pub use keeping::solve_kept;
 pub use resuming::solve_from;
 pub use solving::solve;
 pub use unfinished::partial;

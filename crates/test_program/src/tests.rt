@@ -78,6 +78,7 @@ fn add_endless(out: &mut Draft, rt: &(impl Threads + Wait + Sync), alloc: Global
         workers: 1,
         nodes: 9,
         strong: false,
+        keep: false,
     };
     let status = run(
         rt, alloc, &job, &mut units, none, &mut text, nowhere, &Quiet,

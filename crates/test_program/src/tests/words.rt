@@ -55,9 +55,11 @@ fn add_job(out: &mut Draft, job: Job) {
             workers,
             nodes,
             strong,
+            keep,
         } => {
             let how = if strong { " strong" } else { "" };
-            out.add(format_args!("<plan {workers} {nodes}{how}"));
+            let from = if keep { " keep" } else { "" };
+            out.add(format_args!("<plan {workers} {nodes}{how}{from}"));
         }
         Job::Resume {
             workers,
@@ -192,6 +194,8 @@ const LINES: &str = "cost : <cost - ->|\
     plan : <plan 1 1000000 - ->|\
     plan --workers 1 : <plan 1 1000000 - ->|\
     plan --strong : <plan 1 1000000 strong - ->|\
+    plan --keep : <plan 1 1000000 keep - ->|\
+    plan --keep --strong : <plan 1 1000000 strong keep - ->|\
     plan --out p --strong --nodes 8 : <plan 1 8 strong - p>|\
     plan --workers 16 : <plan 16 1000000 - ->|\
     plan --nodes 1 : <plan 1 1 - ->|\

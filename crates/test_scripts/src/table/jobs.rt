@@ -85,6 +85,7 @@ fn search_or(row: &Row<'_>, other: Job) -> Job
             workers,
             nodes,
             strong: row.job == "strong",
+            keep: false,
         },
         "resume" => Job::Resume {
             workers,
