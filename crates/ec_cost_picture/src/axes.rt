@@ -3,6 +3,7 @@
 use crate::label::{add_micros, add_text, open_text};
 use crate::scale::{ABOVE, HEIGHT, LEFT, Scale};
 use ec_text_builder::Draft;
+use ec_wire::BYTE_NS;
 
 /// Adds a line across the picture at so many bytes.
 fn add_across(page: &mut Draft, scale: &Scale, class: &str, bytes: u64) {
@@ -14,10 +15,10 @@ fn add_across(page: &mut Draft, scale: &Scale, class: &str, bytes: u64) {
 /// Adds the bytes on the left of a line of the grid, and the time that they take on its right.
 fn add_height(page: &mut Draft, scale: &Scale, bytes: u64) {
     let y = scale.y(bytes).saturating_add(40);
-    let left = LEFT.saturating_sub(80);
+    let left = LEFT - 80;
     page.add(format_args!("<text class=\"r\" x=\"{left}\" y=\"{y}\">{bytes}</text>\n"));
     open_text(page, "l", scale.right().saturating_add(80), y);
-    add_micros(page, bytes.saturating_mul(80));
+    add_micros(page, bytes.saturating_mul(BYTE_NS));
     page.add("</text>\n");
 }
 
@@ -53,23 +54,15 @@ pub(crate) fn add_numbers(page: &mut Draft, scale: &Scale) {
 
 /// Adds what the axes show.
 pub(crate) fn add_names(page: &mut Draft, scale: &Scale) {
-    let below = ABOVE + HEIGHT + 420;
-    add_text(page, "l", LEFT, below, "tick");
-    add_text(
-        page,
-        "r",
-        LEFT.saturating_sub(80),
-        ABOVE.saturating_sub(90),
-        "bytes",
-    );
     let right = scale.right().saturating_add(80);
-    add_text(page, "l", right, ABOVE.saturating_sub(90), "time");
+    add_text(page, "l", LEFT, ABOVE + HEIGHT + 420, "tick");
+    add_text(page, "r", LEFT - 80, ABOVE - 90, "bytes");
+    add_text(page, "l", right, ABOVE - 90, "time");
 }
 
 /// Adds the line at the bytes that fit into a tick, where it is near.
 pub(crate) fn add_room(page: &mut Draft, scale: &Scale, room: Option<u64>) {
-    match room {
-        Some(bytes) => add_across(page, scale, "k", bytes),
-        None => {}
+    if let Some(bytes) = room {
+        add_across(page, scale, "k", bytes);
     }
 }

@@ -27,13 +27,12 @@ fn open_picture(page: &mut Draft, scale: &Scale) {
     let width = scale.width();
     let height = ABOVE + HEIGHT + BELOW;
     let (wide, high) = (width / 10, height / 10);
-    page.add("<svg xmlns=\"http://www.w3.org/2000/svg\" role=\"img\" ");
     page.add(format_args!(
-        "width=\"{wide}\" height=\"{high}\" viewBox=\"0 0 {width} {height}\">\n"
+        "<svg xmlns=\"http://www.w3.org/2000/svg\" role=\"img\" width=\"{wide}\" height=\"{high}\" viewBox=\"0 0 {width} {height}\">
+<title>What each tick costs on the wire</title>
+{STYLE}<path fill=\"#fff\" d=\"M0 0h{width}v{height}h-{width}z\"/>
+"
     ));
-    page.add("<title>What each tick costs on the wire</title>\n");
-    page.add(STYLE);
-    page.add(format_args!("<path fill=\"#fff\" d=\"M0 0h{width}v{height}h-{width}z\"/>\n"));
 }
 
 /// Adds the picture of loads.

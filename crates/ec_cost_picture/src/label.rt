@@ -1,6 +1,7 @@
 //! Text in the picture.
 
 use ec_text_builder::Draft;
+use ec_wire::BYTE_NS;
 
 /// Adds a time of so many ns in microseconds, with as many decimals as it needs.
 pub(crate) fn add_micros(page: &mut Draft, ns: u64) {
@@ -22,7 +23,7 @@ pub(crate) fn add_micros(page: &mut Draft, ns: u64) {
 /// Adds how many bytes, and how long they take on the wire.
 pub(crate) fn add_bytes(page: &mut Draft, bytes: u64) {
     page.add(format_args!("{bytes} bytes, "));
-    add_micros(page, bytes.saturating_mul(80));
+    add_micros(page, bytes.saturating_mul(BYTE_NS));
 }
 
 /// Adds the begin of a line of text at a place, up to its words.

@@ -5,6 +5,7 @@ use crate::label::{add_bytes, add_micros, add_text, open_text};
 use crate::scale::{LEFT, Scale};
 use ec_loads::Loads;
 use ec_text_builder::Draft;
+use ec_wire::BYTE_NS;
 
 /// Where the heading and the two lines of the legend stand.
 const LINES: (u64, u64, u64) = (150, 320, 490);
@@ -60,7 +61,7 @@ fn add_length(page: &mut Draft, tick_ns: u32, is_drawn: bool) {
         open_text(page, "l", x, LINES.2);
     }
     page.add("a tick has room for ");
-    add_bytes(page, u64::from(tick_ns) / 80);
+    add_bytes(page, u64::from(tick_ns) / BYTE_NS);
     page.add("</text>\n");
 }
 

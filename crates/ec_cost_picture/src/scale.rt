@@ -1,6 +1,7 @@
 //! Where things stand in the picture. Lengths are tenths of a pixel, heights of bars bytes on the wire.
 
 use ec_loads::Loads;
+use ec_wire::BYTE_NS;
 
 /// What is left of the first tick, for the numbers of bytes.
 pub(crate) const LEFT: u64 = 800;
@@ -134,7 +135,7 @@ impl Scale {
 /// The bytes that fit into a tick of so many ns, where that is at most twice what the busiest tick costs.
 pub(crate) fn near_room(loads: &Loads, tick_ns: u32) -> Option<u64> {
     let (most, _at) = loads.top();
-    let room = u64::from(tick_ns) / 80;
+    let room = u64::from(tick_ns) / BYTE_NS;
     if room <= most.saturating_mul(2) {
         Some(room)
     } else {

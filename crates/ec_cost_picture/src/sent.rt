@@ -51,26 +51,25 @@ pub(crate) fn process_bytes(sent: Sent<'_>, at: At) -> u64 {
     bytes
 }
 
-/// Adds the names of the units of a period and a phase that a frame carries, with their process bytes.
-fn add_names(page: &mut Draft, sent: Sent<'_>, at: At, period: u16, phase: u16) {
+/// Adds the names of the units of a period at a place, with their process bytes.
+fn add_names(page: &mut Draft, sent: Sent<'_>, period: u16, place: Place) {
     let mut is_first = true;
-    for (unit, place) in sent.units.iter().zip(sent.places) {
-        if unit.period == period && place.phase == phase && travels(unit, *place, at) {
-            let bytes = bytes_of(unit);
+    for (unit, own) in sent.units.iter().zip(sent.places) {
+        if unit.period == period && *own == place {
+            let (name, bytes) = (unit.name.as_str(), bytes_of(unit));
             if !is_first {
                 page.add(", ");
             }
-            page.add(unit.name.as_str());
-            page.add(format_args!(" ({bytes})"));
+            page.add(format_args!("{name} ({bytes})"));
             is_first = false;
         }
     }
 }
 
-/// Whether one of the first `count` units travels in a frame with a period and a phase.
-fn is_told(sent: Sent<'_>, at: At, count: usize, period: u16, phase: u16) -> bool {
-    for (unit, place) in sent.units.iter().zip(sent.places).take(count) {
-        if unit.period == period && place.phase == phase && travels(unit, *place, at) {
+/// Whether one of the first `count` units has this period and this place.
+fn is_told(sent: Sent<'_>, count: usize, period: u16, place: Place) -> bool {
+    for (unit, own) in sent.units.iter().zip(sent.places).take(count) {
+        if unit.period == period && *own == place {
             return true;
         }
     }
@@ -79,13 +78,11 @@ fn is_told(sent: Sent<'_>, at: At, count: usize, period: u16, phase: u16) -> boo
 
 /// Adds a line for each group that a frame carries, in the order of their first units.
 pub(crate) fn add_groups(page: &mut Draft, sent: Sent<'_>, at: At) {
-    let mut count = 0usize;
-    for (unit, place) in sent.units.iter().zip(sent.places) {
+    for (count, (unit, place)) in sent.units.iter().zip(sent.places).enumerate() {
         let (period, phase) = (unit.period, place.phase);
-        if travels(unit, *place, at) && !is_told(sent, at, count, period, phase) {
+        if travels(unit, *place, at) && !is_told(sent, count, period, *place) {
             page.add(format_args!("\nperiod {period}, phase {phase}: "));
-            add_names(page, sent, at, period, phase);
+            add_names(page, sent, period, *place);
         }
-        count = count.saturating_add(1);
     }
 }

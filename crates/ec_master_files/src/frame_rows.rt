@@ -7,13 +7,11 @@ use ec_text_builder::Draft;
 /// Adds the cell of the numbers of groups.
 fn add_groups(page: &mut Draft, groups: &[usize]) {
     page.add("<td>");
-    let mut is_first = true;
-    for number in groups {
-        if !is_first {
+    for (place, number) in groups.iter().enumerate() {
+        if place > 0 {
             page.add(", ");
         }
         page.add(*number);
-        is_first = false;
     }
     page.add("</td>");
 }
@@ -35,15 +33,13 @@ fn add_tick_cells(page: &mut Draft, rows: usize, number: usize, tick: &Ticking) 
 
 /// Adds the rows of a tick that has frames.
 fn add_rows(page: &mut Draft, sends: &Sends, number: usize, tick: &Ticking) {
-    let mut is_first = true;
-    for frame in frames_in(sends, tick) {
+    for (place, frame) in frames_in(sends, tick).iter().enumerate() {
         page.add("<tr>");
-        if is_first {
+        if place == 0 {
             add_tick_cells(page, tick.frames, number, tick);
         }
         add_frame(page, sends, frame);
         page.add("</tr>\n");
-        is_first = false;
     }
 }
 

@@ -2,17 +2,15 @@
 
 ghost use Rattle.ec_units.specs.Load.{loads_of};
 ghost use Rattle.ec_loads.specs.Legal.{IsLegal};
-ghost use Rattle.ec_frame_builder.specs.Frames.{HasLayout};
 
 use crate::cells::time_of;
-use crate::identity::identity_of;
 use crate::laid::{Laid, laid_of};
 use crate::tables::{
     add_frames, add_groups, add_names, add_numbers, add_slaves, add_start_bytes, add_starts,
     add_ticks, start_bytes,
 };
 use crate::types::{END, FRAME, GROUP, HEAD, NAMES, SENT, SLAVE, START, START_BYTES, TICK, TYPES};
-use ec_fmmu::{FIRST_ADDRESS, Mapping, layout};
+use ec_fmmu::{FIRST_ADDRESS, layout};
 use ec_loads::Plan;
 use ec_player::{Trip, start_trips};
 use ec_text_builder::Draft;
@@ -24,94 +22,64 @@ fn add_guard(text: &mut Draft, identity: u64, units: &Units) {
     let (tick_ns, slots) = (units.tick_ns, units.slots);
     let own = format_args!("ECPLAN_IS_{identity:016x}_{tick_ns}_{slots}");
     text.add(format_args!(
-        "#if defined(ECPLAN_PLAN_H) && !defined({own})\n#error \"the header of another plan is included already\"\n#endif\n"
-    ));
-    text.add(format_args!("#ifndef ECPLAN_PLAN_H\n#define ECPLAN_PLAN_H\n#define {own}\n"));
-}
-
-/// Adds the identity of the plan.
-fn add_identity(text: &mut Draft, identity: u64) {
-    text.add(format_args!(
-        "#define ECPLAN_ID \"{identity:016x}\" /* of the plan: 16 hex digits, the first of the SHA-256 of its map */\n"
+        "#if defined(ECPLAN_PLAN_H) && !defined({own})
+#error \"the header of another plan is included already\"
+#endif
+#ifndef ECPLAN_PLAN_H
+#define ECPLAN_PLAN_H
+#define {own}
+"
     ));
 }
 
-/// Adds the numbers of the line.
-fn add_line_numbers(text: &mut Draft, units: &Units, mapping: &Mapping, laid: &Laid<'_>) {
-    let ticks = laid.loads.ticks();
+/// Adds the identity of the plan and the numbers of the line.
+fn add_line_numbers(text: &mut Draft, units: &Units, laid: &Laid<'_>) {
+    let (identity, ticks, bytes) = (laid.identity, laid.loads.ticks(), laid.mapping.total);
     let (tick_ns, slots) = (units.tick_ns, units.slots);
-    let bytes = mapping.total;
     let (most, _tick) = laid.loads.top();
     let busiest = time_of(most);
-    text.add(format_args!("#define ECPLAN_TICKS {ticks} /* ticks, after which all repeats */\n"));
-    text.add(format_args!("#define ECPLAN_TICK_NS {tick_ns} /* ns of a tick */\n"));
     text.add(format_args!(
-        "#define ECPLAN_BUSIEST_NS {busiest} /* ns that the frames of the busiest tick take */\n"
-    ));
-    text.add(format_args!("#define ECPLAN_SLOTS {slots} /* frames in a tick at most */\n"));
-    text.add(format_args!("#define ECPLAN_IMAGE_BYTES {bytes} /* bytes of the process image */\n"));
-    text.add(format_args!(
-        "#define ECPLAN_FIRST_ADDRESS 0x{FIRST_ADDRESS:08x} /* logical address of the image */\n"
+        "#define ECPLAN_ID \"{identity:016x}\" /* of the plan: 16 hex digits, the first of the SHA-256 of its map */
+#define ECPLAN_TICKS {ticks} /* ticks, after which all repeats */
+#define ECPLAN_TICK_NS {tick_ns} /* ns of a tick */
+#define ECPLAN_BUSIEST_NS {busiest} /* ns that the frames of the busiest tick take */
+#define ECPLAN_SLOTS {slots} /* frames in a tick at most */
+#define ECPLAN_IMAGE_BYTES {bytes} /* bytes of the process image */
+#define ECPLAN_FIRST_ADDRESS 0x{FIRST_ADDRESS:08x} /* logical address of the image */
+"
     ));
 }
 
 /// Adds the lengths of the tables.
-fn add_lengths(text: &mut Draft, mapping: &Mapping, laid: &Laid<'_>, trips: &[Trip]) {
-    let (slaves, groups) = (laid.seats.len(), mapping.groups.as_slice().len());
+fn add_lengths(text: &mut Draft, laid: &Laid<'_>, trips: &[Trip]) {
+    let (slaves, groups) = (laid.seats.len(), laid.mapping.groups.as_slice().len());
     let (sent, frames) = (laid.sends.groups.len(), laid.sends.frames.len());
     let (starts, bytes) = (trips.len(), start_bytes(trips));
-    text.add(format_args!("#define ECPLAN_SLAVES {slaves} /* slaves, in file order */\n"));
     text.add(format_args!(
-        "#define ECPLAN_GROUPS {groups} /* groups, each a datagram of a tick */\n"
+        "#define ECPLAN_SLAVES {slaves} /* slaves, in file order */
+#define ECPLAN_GROUPS {groups} /* groups, each a datagram of a tick */
+#define ECPLAN_SENT {sent} /* groups of all frames */
+#define ECPLAN_FRAMES {frames} /* frames of all ticks */
+#define ECPLAN_STARTS {starts} /* frames before the first tick */
+#define ECPLAN_START_BYTES {bytes} /* bytes of these frames */
+"
     ));
-    text.add(format_args!("#define ECPLAN_SENT {sent} /* groups of all frames */\n"));
-    text.add(format_args!("#define ECPLAN_FRAMES {frames} /* frames of all ticks */\n"));
-    text.add(format_args!("#define ECPLAN_STARTS {starts} /* frames before the first tick */\n"));
-    text.add(format_args!("#define ECPLAN_START_BYTES {bytes} /* bytes of these frames */\n"));
 }
 
 /// Adds the tables of slaves, groups and ticks.
-fn add_cyclic(text: &mut Draft, mapping: &Mapping, laid: &Laid<'_>) {
+fn add_cyclic(text: &mut Draft, laid: &Laid<'_>) {
     text.add(NAMES);
     add_names(text, laid.seats.as_slice());
     text.add(SLAVE);
     add_slaves(text, laid.seats.as_slice());
     text.add(GROUP);
-    add_groups(text, mapping.groups.as_slice());
+    add_groups(text, laid.mapping.groups.as_slice());
     text.add(SENT);
     add_numbers(text, laid.sends.groups.as_slice());
     text.add(FRAME);
     add_frames(text, laid.sends.frames.as_slice());
     text.add(TICK);
     add_ticks(text, laid.sends.ticks.as_slice());
-}
-
-/// The header of a layout.
-fn header_in(
-    alloc: Global,
-    units: &Units,
-    plan: &Plan,
-    mapping: &Mapping,
-) -> Result<String, AllocError>
-    requires { HasLayout units.now mapping.now }
-{
-    let laid = laid_of(alloc, units, plan, mapping)?;
-    let trips = start_trips(alloc, units, mapping)?;
-    let identity = identity_of(alloc, laid.seats.as_slice())?;
-    let mut text = Draft::new(alloc);
-    text.add(HEAD);
-    add_guard(&mut text, identity, units);
-    text.add(TYPES);
-    add_identity(&mut text, identity);
-    add_line_numbers(&mut text, units, mapping, &laid);
-    add_lengths(&mut text, mapping, &laid, trips.as_slice());
-    add_cyclic(&mut text, mapping, &laid);
-    text.add(START);
-    add_starts(&mut text, trips.as_slice());
-    text.add(START_BYTES);
-    add_start_bytes(&mut text, trips.as_slice());
-    text.add(END);
-    text.finish()
 }
 
 /// A legal plan as a C header for a master: C99, without code, with tables and numbers alone, whose names begin `ecplan_` and
@@ -124,5 +92,19 @@ pub fn header_of(alloc: Global, units: &Units, plan: &Plan) -> Result<String, Al
     requires { IsLegal (loads_of units.now.units) units.now.slots plan.now.places }
 {
     let mapping = layout(alloc, units, plan)?;
-    header_in(alloc, units, plan, &mapping)
+    let trips = start_trips(alloc, units, &mapping)?;
+    let laid = laid_of(alloc, units, plan, mapping)?;
+    let mut text = Draft::new(alloc);
+    text.add(HEAD);
+    add_guard(&mut text, laid.identity, units);
+    text.add(TYPES);
+    add_line_numbers(&mut text, units, &laid);
+    add_lengths(&mut text, &laid, trips.as_slice());
+    add_cyclic(&mut text, &laid);
+    text.add(START);
+    add_starts(&mut text, trips.as_slice());
+    text.add(START_BYTES);
+    add_start_bytes(&mut text, trips.as_slice());
+    text.add(END);
+    text.finish()
 }

@@ -2,13 +2,11 @@
 //! line into service.
 #![tactic(auto)]
 
-mod bytes;
 mod cells;
 mod claim;
 mod facts;
 mod frame_rows;
 mod header;
-mod identity;
 mod laid;
 mod map;
 mod report;

@@ -34,13 +34,9 @@ fn add_side(table: &mut Draft, seat: &Seat<'_>, direction: &str, side: &Side) {
         group,
         counter,
     } = seat.home;
-    table.add("\"");
-    table.add(unit.name.as_str());
-    let station = seat.station;
-    table.add(format_args!("\",{station},"));
-    table.add(direction);
+    let (name, station) = (unit.name.as_str(), seat.station);
     let (slot, period, phase) = (place.slot, unit.period, place.phase);
-    table.add(format_args!(",{slot},{period},{phase},"));
+    table.add(format_args!("\"{name}\",{station},{direction},{slot},{period},{phase},"));
     add_addresses(table, side);
     let (bytes, at) = (side.bytes, side.at);
     table.add(format_args!("{bytes},0x{at:04x},{group},{counter}\r\n"));

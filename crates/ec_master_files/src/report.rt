@@ -4,23 +4,22 @@ ghost use Rattle.ec_units.specs.Load.{loads_of};
 ghost use Rattle.ec_loads.specs.Legal.{IsLegal};
 
 use crate::claim::Claim;
-use crate::facts::{add_claim, add_facts, add_identity};
+use crate::facts::{add_claim, add_facts};
 use crate::frame_rows::add_ticks;
-use crate::identity::identity_of;
 use crate::laid::{Laid, laid_of};
 use crate::slave_rows::add_slaves;
 use crate::style::{CLAIM, END, FACTS, FRAMES, GROUPS, HEAD, PICTURE, SLAVES, UNITS};
 use crate::unit_rows::{add_groups, add_units};
 use ec_cost_picture::picture;
-use ec_fmmu::{Mapping, layout};
+use ec_fmmu::layout;
 use ec_loads::Plan;
 use ec_text_builder::Draft;
 use ec_units::Units;
 use std::alloc::{AllocError, Global};
 
 /// Adds the tables of units, groups, slaves and frames.
-fn add_tables(page: &mut Draft, units: &Units, plan: &Plan, mapping: &Mapping, laid: &Laid<'_>) {
-    let groups = mapping.groups.as_slice();
+fn add_tables(page: &mut Draft, units: &Units, plan: &Plan, laid: &Laid<'_>) {
+    let groups = laid.mapping.groups.as_slice();
     page.add(UNITS);
     add_units(page, groups, units.units.as_slice(), plan.places.as_slice());
     page.add(GROUPS);
@@ -45,19 +44,17 @@ pub fn report_of(
     requires { IsLegal (loads_of units.now.units) units.now.slots plan.now.places }
 {
     let mapping = layout(alloc, units, plan)?;
-    let laid = laid_of(alloc, units, plan, &mapping)?;
-    let identity = identity_of(alloc, laid.seats.as_slice())?;
+    let laid = laid_of(alloc, units, plan, mapping)?;
     let drawn = picture(alloc, units, plan)?;
     let mut page = Draft::new(alloc);
     page.add(HEAD);
     page.add(FACTS);
-    add_identity(&mut page, identity);
-    add_facts(&mut page, units, &mapping, &laid);
+    add_facts(&mut page, units, &laid);
     page.add(CLAIM);
     add_claim(&mut page, &laid, claim);
     page.add(PICTURE);
     page.add(drawn.as_str());
-    add_tables(&mut page, units, plan, &mapping, &laid);
+    add_tables(&mut page, units, plan, &laid);
     page.add(END);
     page.finish()
 }

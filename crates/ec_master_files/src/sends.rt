@@ -9,10 +9,9 @@ use std::alloc::{AllocError, Global};
 /// The bytes of a frame on the wire that aren't written: preamble, frame check sequence and gap (IEEE 802.3).
 const UNWRITTEN: u32 = 24;
 
-/// A frame: its tick and slot, its groups as a range of `Sends::groups`, and what it takes on the wire in bytes.
+/// A frame: its slot, its groups as a range of `Sends::groups`, and what it takes on the wire in bytes.
 #[derive(Clone, Copy)]
 pub(crate) struct Sent {
-    pub tick: u32,
     pub slot: u8,
     pub first: usize,
     pub groups: usize,
@@ -45,10 +44,7 @@ pub(crate) struct Sends {
 
 /// Whether a group travels in a tick in a slot.
 fn is_going(group: &Group, tick: u32, slot: u8) -> bool {
-    if group.period == 0 {
-        return false;
-    }
-    group.slot == slot && Hyper::active(group.period, group.phase, tick)
+    group.slot == slot && group.period > 0 && Hyper::active(group.period, group.phase, tick)
 }
 
 /// Adds the groups that travel in a tick in a slot.
@@ -79,7 +75,6 @@ fn push_frame(
     let count = sends.groups.len().saturating_sub(first);
     if count > 0 {
         sends.frames.push(Sent {
-            tick,
             slot,
             first,
             groups: count,

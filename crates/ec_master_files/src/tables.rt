@@ -1,6 +1,5 @@
 //! The tables of the header.
 
-use crate::bytes::{add_c_bytes, add_c_lines};
 use crate::seats::Seat;
 use crate::sends::{Sent, Ticking};
 use ec_fmmu::{FIRST_ADDRESS, Group, fmmu_bytes};
@@ -8,21 +7,31 @@ use ec_player::Trip;
 use ec_text_builder::Draft;
 
 /// How many numbers stand in a line of a table of numbers.
-const IN_A_LINE: usize = 16;
+const NUMBERS_IN_A_LINE: usize = 16;
+
+/// How many bytes stand in a line of a table of bytes.
+const BYTES_IN_A_LINE: usize = 20;
+
+/// Adds bytes as elements of a table, each with a comma.
+fn add_bytes(text: &mut Draft, bytes: &[u8]) {
+    for byte in bytes {
+        text.add(format_args!("0x{byte:02x},"));
+    }
+}
 
 /// Adds the row of a slave.
 fn add_slave(text: &mut Draft, seat: &Seat<'_>) {
-    text.add("    { \"");
-    text.add(seat.home.unit.name.as_str());
-    let (station, group) = (seat.station, seat.home.group);
+    let (name, station, group) = (seat.home.unit.name.as_str(), seat.station, seat.home.group);
     let (outputs, inputs) = (seat.outputs.offset(), seat.inputs.offset());
-    text.add(format_args!("\", {station}, {group}, {outputs}, {inputs}, "));
     let (out_bytes, in_bytes) = (seat.outputs.bytes, seat.inputs.bytes);
     let (out_at, in_at) = (seat.outputs.at, seat.inputs.at);
-    text.add(format_args!("{out_bytes}, {in_bytes}, 0x{out_at:04x}, 0x{in_at:04x},\n      {{ "));
-    add_c_bytes(text, &fmmu_bytes(&seat.outputs.fmmu));
+    text.add(format_args!(
+        "    {{ \"{name}\", {station}, {group}, {outputs}, {inputs}, {out_bytes}, {in_bytes}, 0x{out_at:04x}, 0x{in_at:04x},
+      {{ "
+    ));
+    add_bytes(text, &fmmu_bytes(&seat.outputs.fmmu));
     text.add("\n        ");
-    add_c_bytes(text, &fmmu_bytes(&seat.inputs.fmmu));
+    add_bytes(text, &fmmu_bytes(&seat.inputs.fmmu));
     text.add(" } },\n");
 }
 
@@ -38,11 +47,14 @@ pub(crate) fn add_names(text: &mut Draft, seats: &[Seat<'_>]) {
     for (place, seat) in seats.iter().enumerate() {
         let (station, outputs, inputs) = (seat.station, seat.outputs.bytes, seat.inputs.bytes);
         let (group, period) = (seat.home.group, seat.home.unit.period);
-        text.add(format_args!("#define ECPLAN_SLAVE_{station} {place}\n"));
-        text.add(format_args!("#define ECPLAN_OUT_BYTES_{station} {outputs}\n"));
-        text.add(format_args!("#define ECPLAN_IN_BYTES_{station} {inputs}\n"));
-        text.add(format_args!("#define ECPLAN_GROUP_{station} {group}\n"));
-        text.add(format_args!("#define ECPLAN_PERIOD_{station} {period}\n"));
+        text.add(format_args!(
+            "#define ECPLAN_SLAVE_{station} {place}
+#define ECPLAN_OUT_BYTES_{station} {outputs}
+#define ECPLAN_IN_BYTES_{station} {inputs}
+#define ECPLAN_GROUP_{station} {group}
+#define ECPLAN_PERIOD_{station} {period}
+"
+        ));
     }
 }
 
@@ -51,8 +63,9 @@ fn add_group(text: &mut Draft, group: &Group) {
     let (slot, period, phase) = (group.slot, group.period, group.phase);
     let (start, bytes, counter) = (group.start, group.len, group.counter);
     let offset = start.saturating_sub(FIRST_ADDRESS);
-    text.add(format_args!("    {{ {slot}, {period}, {phase}, 0x{start:08x}, {offset}, "));
-    text.add(format_args!("{bytes}, {counter} }},\n"));
+    text.add(format_args!(
+        "    {{ {slot}, {period}, {phase}, 0x{start:08x}, {offset}, {bytes}, {counter} }},\n"
+    ));
 }
 
 /// Adds the rows of the groups.
@@ -62,17 +75,19 @@ pub(crate) fn add_groups(text: &mut Draft, groups: &[Group]) {
     }
 }
 
+/// Adds numbers as a line of a table.
+fn add_line(text: &mut Draft, numbers: &[usize]) {
+    text.add("   ");
+    for number in numbers {
+        text.add(format_args!(" {number},"));
+    }
+    text.add("\n");
+}
+
 /// Adds numbers, some in a line.
 pub(crate) fn add_numbers(text: &mut Draft, numbers: &[usize]) {
-    for (place, number) in numbers.iter().enumerate() {
-        text.add(if place % IN_A_LINE == 0 { "    " } else { " " });
-        text.add(format_args!("{number},"));
-        if place % IN_A_LINE == IN_A_LINE - 1 {
-            text.add("\n");
-        }
-    }
-    if numbers.len() % IN_A_LINE != 0 {
-        text.add("\n");
+    for line in numbers.chunks(NUMBERS_IN_A_LINE) {
+        add_line(text, line);
     }
 }
 
@@ -113,9 +128,17 @@ pub(crate) fn add_starts(text: &mut Draft, trips: &[Trip]) {
     }
 }
 
+/// Adds bytes in lines of their own, some in a line.
+fn add_byte_lines(text: &mut Draft, bytes: &[u8]) {
+    for line in bytes.chunks(BYTES_IN_A_LINE) {
+        text.add("\n    ");
+        add_bytes(text, line);
+    }
+}
+
 /// Adds the bytes of the start frames.
 pub(crate) fn add_start_bytes(text: &mut Draft, trips: &[Trip]) {
     for trip in trips {
-        add_c_lines(text, trip.frame.as_slice());
+        add_byte_lines(text, trip.frame.as_slice());
     }
 }

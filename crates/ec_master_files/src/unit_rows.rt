@@ -6,18 +6,10 @@ use ec_fmmu::{FIRST_ADDRESS, Group, expected};
 use ec_text_builder::Draft;
 use ec_units::{Place, Unit, bytes_of};
 
-/// Adds the cell of a name.
-pub(crate) fn add_name(page: &mut Draft, name: &str) {
-    page.add("<td class=\"name\">");
-    page.add(name);
-    page.add("</td>");
-}
-
 /// Adds the row of a unit.
 fn add_unit(page: &mut Draft, groups: &[Group], unit: &Unit, place: Place) {
-    let slaves = unit.slaves.as_slice();
-    page.add("<tr>");
-    add_name(page, unit.name.as_str());
+    let (name, slaves) = (unit.name.as_str(), unit.slaves.as_slice());
+    page.add(format_args!("<tr><td class=\"name\">{name}</td>"));
     add_number(page, place.slot);
     add_number(page, unit.period);
     add_number(page, place.phase);
