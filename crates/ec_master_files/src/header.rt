@@ -23,7 +23,7 @@ fn add_guard(text: &mut Draft, identity: u64, units: &Units) {
     let own = format_args!("ECPLAN_IS_{identity:016x}_{tick_ns}_{slots}");
     text.add(format_args!(
         "#if defined(ECPLAN_PLAN_H) && !defined({own})
-#error \"the header of another plan is included already\"
+#error \"the header of another plan is included already: include each plan in a C file of its own\"
 #endif
 #ifndef ECPLAN_PLAN_H
 #define ECPLAN_PLAN_H

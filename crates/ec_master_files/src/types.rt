@@ -5,8 +5,9 @@ pub(crate) const HEAD: &str = "/* A plan of ecplan: tables for an EtherCAT maste
  *
  * Version 1 of these tables. Lengths and offsets are bytes, times are ns or ticks.
  * Places in a table are counted from 0. Numbers are the host's; those of EtherCAT go with
- * their lowest byte first. fmmu and ecplan_start_bytes are bytes as they are sent. INTEGRATING.md of ecplan says how to use the tables, and
- * FORMATS.md, \"Bytes of a frame\", how a frame is made.
+ * their lowest byte first. fmmu and ecplan_start_bytes are bytes as they are sent.
+ * INTEGRATING.md of ecplan says how to use the tables, and FORMATS.md, \"Bytes of a frame\",
+ * how a frame is made.
  */
 ";
 
