@@ -2,32 +2,17 @@
 
 use crate::inputs::Doc;
 
-/// What a line with double brackets begins.
-#[derive(Clone, Copy)]
-pub enum Header {
-    Unit,
-    Slave,
-}
-
-/// What a line begins, if it is `[[unit]]` or `[[unit.slave]]`.
-pub fn header_of(line: &str) -> Option<Header> {
+/// The name in the double brackets of a line, if that is `unit` or `unit.slave`.
+pub fn header_of(line: &str) -> Option<&str> {
     let rest = line.trim().strip_prefix("[[")?;
     let (name, _) = rest.split_once("]]")?;
-    match name.trim() {
-        "unit" => Some(Header::Unit),
-        "unit.slave" => Some(Header::Slave),
-        _ => None,
-    }
-}
-
-/// What stands before a sign.
-fn before(text: &str, sign: char) -> &str {
-    text.split(sign).next().unwrap_or("")
+    Some(name.trim()).filter(|name| matches!(*name, "unit" | "unit.slave"))
 }
 
 /// The name in a header, or the key of a line.
 pub fn name_of(line: &str) -> &str {
-    before(before(line.trim().trim_start_matches('['), '='), ']').trim()
+    let line = line.trim().trim_start_matches('[');
+    line.split(['=', ']']).next().unwrap_or("").trim()
 }
 
 /// The first line, from 1, that gives a key of the top its value: `key = value` above all headers, or a header with its name.
@@ -54,12 +39,6 @@ pub fn line_within(doc: Doc<'_>, name: &str) -> Option<usize> {
     None
 }
 
-/// The first line, from 1, that begins a unit or a slave.
-pub fn first_header(doc: Doc<'_>) -> Option<usize> {
-    let at = doc.text.lines().position(|line| header_of(line).is_some())?;
-    Some(at.saturating_add(1))
-}
-
 /// The line, from 1, at which the table of a unit begins, or of a slave of it, both numbered from 0. None where the units aren't
 /// all begun by such lines, or the unit's slaves.
 pub fn header_line(doc: Doc<'_>, unit: usize, slave: Option<usize>) -> Option<usize> {
@@ -71,8 +50,8 @@ pub fn header_line(doc: Doc<'_>, unit: usize, slave: Option<usize>) -> Option<us
     let mut found = None;
     for (index, line) in doc.text.lines().enumerate() {
         match header_of(line) {
-            Some(Header::Unit) => units = units.saturating_add(1),
-            Some(Header::Slave) if units == sought.0 => slaves = slaves.saturating_add(1),
+            Some("unit") => units = units.saturating_add(1),
+            Some(_) if units == sought.0 => slaves = slaves.saturating_add(1),
             _ => continue,
         }
         if (units, slaves) == sought {

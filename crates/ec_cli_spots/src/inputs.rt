@@ -1,4 +1,4 @@
-//! What a refused job had read, and the unit text as a table.
+//! What a refused job had read, and the unit text as a table: its keys, the bytes and the periods of its units.
 
 use ec_unit_text::{Key, Spot};
 use std::alloc::Global;
@@ -106,15 +106,10 @@ impl<'a> Doc<'a> {
         self.unit(unit).array(Key::Slave)
     }
 
-    /// The table of a slave of a unit, both numbered from 0.
-    pub fn slave(self, unit: Option<usize>, slave: Option<usize>) -> Fields<'a> {
-        item(self.slaves(unit), slave)
-    }
-
     /// The table at a spot.
     pub fn table(self, spot: Spot) -> Fields<'a> {
         match (spot.unit, spot.slave) {
-            (Some(_), Some(_)) => self.slave(spot.unit, spot.slave),
+            (Some(_), Some(_)) => item(self.slaves(spot.unit), spot.slave),
             (Some(_), None) => self.unit(spot.unit),
             (None, _) => self.top(),
         }
@@ -135,4 +130,33 @@ pub fn bytes_of(slaves: &[Value]) -> i128 {
         .iter()
         .map(slave_bytes)
         .fold(0i128, |sum, bytes| sum.saturating_add(bytes))
+}
+
+/// Whether some unit has a period.
+pub fn has_period(units: &[Value], period: i64) -> bool {
+    units.iter().any(|unit| Fields::of(unit).number(Key::Period) == Some(period))
+}
+
+/// How many times a count of ticks has to be taken to be a multiple of a period of at most 60.
+fn times(ticks: u64, period: u64) -> u64 {
+    let rest = ticks.checked_rem(period).unwrap_or(0);
+    (1..61u64)
+        .find(|count| rest.saturating_mul(*count).checked_rem(period) == Some(0))
+        .unwrap_or(1)
+}
+
+/// Whether a count of ticks and a period of at most 60 have no common divisor but 1.
+pub fn are_coprime(ticks: u64, period: u64) -> bool {
+    times(ticks, period) == period
+}
+
+/// The least common multiple of the periods, if 64 bits hold it.
+pub fn ticks_of(units: &[Value]) -> Option<u64> {
+    let mut ticks = 1u64;
+    for period in 1..61u64 {
+        if has_period(units, period as i64) {
+            ticks = ticks.checked_mul(times(ticks, period))?;
+        }
+    }
+    Some(ticks)
 }

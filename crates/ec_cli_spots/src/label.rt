@@ -35,9 +35,13 @@ impl fmt::Display for Named<'_> {
     fn fmt<W: fmt::Write>(&self, f: &mut fmt::Formatter<W>) -> fmt::Result {
         let Named(doc, unit, slave) = *self;
         let line = header_line(doc, unit, slave);
-        if let Some(slave) = slave {
-            let number = slave.saturating_add(1);
-            match doc.slave(Some(unit), Some(slave)).number(Key::Station) {
+        if let Some(index) = slave {
+            let number = index.saturating_add(1);
+            let spot = Spot {
+                unit: Some(unit),
+                slave,
+            };
+            match doc.table(spot).number(Key::Station) {
                 Some(station) if line.is_none() && is_shared(doc, unit, station) => {
                     write!(f, "slave {station}, number {number} of ")?;
                 }

@@ -1,6 +1,6 @@
 //! Bytes and values that were read, and paths, as they stand in a sentence.
 
-use ec_text_builder::Draft;
+use crate::written::is_strange;
 use std::alloc::{AllocError, Global};
 use std::fmt;
 use toml::Value;
@@ -76,15 +76,20 @@ impl fmt::Display for Coded {
     }
 }
 
-/// The first characters of a text, so many of them, and dots where there are more.
+/// The first characters of a text, so many of them, and dots where there are more; of strange ones, where that is asked for, each byte as
+/// `\xNN`.
 #[derive(Clone, Copy)]
-struct Front<'a>(&'a str, usize);
+pub struct Front<'a>(pub &'a str, pub usize, pub bool);
 
 impl fmt::Display for Front<'_> {
     fn fmt<W: fmt::Write>(&self, f: &mut fmt::Formatter<W>) -> fmt::Result {
-        let Front(text, most) = *self;
+        let Front(text, most, is_coded) = *self;
         for letter in text.chars().take(most) {
-            write!(f, "{}", Letter(letter))?;
+            if is_coded && is_strange(letter) {
+                write!(f, "{}", Coded(letter))?;
+            } else {
+                write!(f, "{}", Letter(letter))?;
+            }
         }
         let is_cut = text.chars().nth(most).is_some();
         f.write_str(if is_cut { "..." } else { "" })
@@ -98,7 +103,7 @@ pub struct TextLine<'a>(pub &'a [u8]);
 impl fmt::Display for TextLine<'_> {
     fn fmt<W: fmt::Write>(&self, f: &mut fmt::Formatter<W>) -> fmt::Result {
         match std::str::from_utf8(self.0) {
-            Ok(text) => write!(f, "{}", Front(text, MOST_OF_LINE)),
+            Ok(text) => write!(f, "{}", Front(text, MOST_OF_LINE, false)),
             Err(_) => write!(f, "{}", Bytes(self.0, MOST_OF_LINE)),
         }
     }
@@ -110,7 +115,7 @@ pub struct Quoted<'a>(pub &'a str);
 
 impl fmt::Display for Quoted<'_> {
     fn fmt<W: fmt::Write>(&self, f: &mut fmt::Formatter<W>) -> fmt::Result {
-        write!(f, "\"{}\"", Front(self.0, MOST_OF_NAME))
+        write!(f, "\"{}\"", Front(self.0, MOST_OF_NAME, false))
     }
 }
 
@@ -122,9 +127,9 @@ impl fmt::Display for PathPiece<'_> {
     fn fmt<W: fmt::Write>(&self, f: &mut fmt::Formatter<W>) -> fmt::Result {
         let count = self.0.chars().count();
         if count <= 2 * END_OF_PATH {
-            return write!(f, "{PIECE}\"{}\"{PIECE}", Front(self.0, count));
+            return write!(f, "{PIECE}\"{}\"{PIECE}", Front(self.0, count, false));
         }
-        write!(f, "{PIECE}\"{}", Front(self.0, END_OF_PATH))?;
+        write!(f, "{PIECE}\"{}", Front(self.0, END_OF_PATH, false))?;
         for letter in self.0.chars().skip(count.saturating_sub(END_OF_PATH)) {
             write!(f, "{}", Letter(letter))?;
         }
@@ -147,9 +152,7 @@ impl fmt::Display for CertName<'_> {
 
 /// A path in quotes, as a piece of a sentence. Only want of memory is an error.
 pub fn quoted_path(alloc: Global, path: &str) -> Result<String, AllocError> {
-    let mut out = Draft::new(alloc);
-    out.add(PathPiece(path));
-    out.finish()
+    PathPiece(path).to_string(alloc)
 }
 
 /// Whether a character means nothing but itself to a shell.

@@ -24,14 +24,6 @@ const NUMBER: &str = "A number is written 1000000 or 1_000_000.\n";
 /// How a number of base 16 is written.
 const BASE: &str = "A number of base 16 has 0x in front, as 0x3E9.\n";
 
-/// What is told of a number with a unit of measure.
-const MEASURE: &str =
-    "A number has no letters behind it. A period is in ticks, and tick_ns in ns: 1 ms is 1000000.\n";
-
-/// What is told of a number of bytes with a unit of measure.
-const BYTES: &str =
-    "A number has no letters behind it. Whole bytes are counted: up to 8 bits are 1, up to 16 are 2.\n";
-
 /// What is told of a text whose quotes aren't whole.
 const QUOTES: &str =
     "A text has a quote before and behind it, as name = \"press-4\": one is missing.\n";
@@ -42,13 +34,6 @@ const FORM: &str = "A line is key = value, or a header in brackets.\n";
 /// Whether a line has an odd number of quotes before its comment.
 fn lacks_quote(line: &str) -> bool {
     uncommented(line).matches('"').count() % 2 == 1
-}
-
-/// Whether a line has a comment of another language.
-fn has_slashes(line: &str) -> bool {
-    uncommented(line)
-        .split_once("//")
-        .is_some_and(|(before, _)| !lacks_quote(before))
 }
 
 /// Whether a character is a quote that TOML doesn't know.
@@ -76,15 +61,6 @@ fn is_spaced_number(value: &str) -> bool {
             .all(|letter| matches!(letter, '0'..='9' | ' ' | '.' | '_'))
 }
 
-/// Whether a value is a number with a 0 in front.
-fn has_zero(value: &str) -> bool {
-    let behind = value
-        .trim_start_matches(['+', '-'])
-        .strip_prefix('0')
-        .unwrap_or("");
-    behind.starts_with(is_digit)
-}
-
 /// The digits of a number of base 16 at which the reader stopped, as TOML doesn't write it; in a list or within braces more stands behind it.
 fn digits_at<'a>(stop: Stop<'a>) -> Option<&'a str> {
     let value = stop.rest.split([',', '}', ']']).next().unwrap_or("");
@@ -107,17 +83,14 @@ fn has_measure(value: &str) -> bool {
     behind.len() < value.len() && !value.starts_with('0') && is_letters(behind.trim_start())
 }
 
-/// What is told of an address with letters behind it.
-const ADDRESS: &str = "A number has no letters behind it; one of base 16 has 0x in front.\n";
-
 /// What is told of a number with a unit of measure behind some text that ends with its key.
 fn measure_of(key: &str) -> &'static str {
     if key.ends_with("_bytes") {
-        BYTES
+        "A number has no letters behind it. Whole bytes are counted: up to 8 bits are 1, up to 16 are 2.\n"
     } else if key.ends_with("station") || key.ends_with("_at") {
-        ADDRESS
+        "A number has no letters behind it; one of base 16 has 0x in front.\n"
     } else {
-        MEASURE
+        "A number has no letters behind it. A period is in ticks, and tick_ns in ns: 1 ms is 1000000.\n"
     }
 }
 
@@ -138,13 +111,14 @@ fn hint_of_value(stop: Stop<'_>) -> &'static str {
     let value = rest.split([',', '}', ']']).next().unwrap_or("").trim();
     let before = stop.line.strip_suffix(stop.rest).unwrap_or("").trim_end();
     let key = before.strip_suffix('=').unwrap_or("").trim_end();
+    let behind_zero = value.trim_start_matches(['+', '-']).strip_prefix('0');
     if key.ends_with("name") {
         VALUE
     } else if is_count(key) && has_measure(value) {
         measure_of(key)
     } else if digits_at(stop).is_some() || stop.rest.starts_with("#x") {
         BASE
-    } else if has_zero(value) {
+    } else if behind_zero.is_some_and(|digits| digits.starts_with(is_digit)) {
         "A number has no 0 in front.\n"
     } else if is_spaced_number(value) {
         NUMBER
@@ -209,7 +183,8 @@ fn has_other_comment(stop: Stop<'_>, word: &str) -> bool {
         && is_begun(behind)
         && behind.contains(' ')
         && !behind.contains('=');
-    has_slashes(stop.line)
+    let before_slashes = uncommented(stop.line).split_once("//");
+    before_slashes.is_some_and(|(before, _)| !lacks_quote(before))
         || is_begun(word)
         || is_behind
         || word.starts_with("REM ")
@@ -290,34 +265,25 @@ fn hint_in_list(stop: Stop<'_>, word: &str) -> Option<&'static str> {
     }
 }
 
-/// Whether a line has plain words, and more than one, in place of a key before its `=`.
-fn has_key_of_words(line: &str) -> bool {
+/// Whether plain words, and more than one, stand in place of a key.
+fn has_words(key: &str) -> bool {
     let is_plain = |word: &str| {
         word.starts_with(|letter: char| letter.is_ascii_alphabetic())
             && word.chars().all(|letter| letter.is_ascii_alphanumeric()
                 || matches!(letter, '_' | '-'))
     };
-    let key = uncommented(line)
-        .split_once('=')
-        .map_or("", |(key, _)| key.trim());
-    key.contains(' ') && key.split_whitespace().all(is_plain)
-}
-
-/// Whether a letter that isn't plain stands before the `=` of a line.
-fn has_strange_key(line: &str) -> bool {
-    uncommented(line)
-        .split_once('=')
-        .is_some_and(|(key, _)| !key.is_ascii())
+    key.trim().contains(' ') && key.split_whitespace().all(is_plain)
 }
 
 /// What was likely meant by a line with nothing but plain signs, by the reader's message; empty where that isn't known.
 fn hint_of_message(stop: Stop<'_>, word: &str) -> &'static str {
     let Stop { rest, message, .. } = stop;
+    let (key, _) = uncommented(word).split_once('=').unwrap_or(("", ""));
     if message.starts_with("invalid escape") && name_of(word) == "name" {
         "A name has no other characters than a-z, A-Z, 0-9, _ and -.\n"
-    } else if message.starts_with("key with no value") && has_key_of_words(word) {
+    } else if message.starts_with("key with no value") && has_words(key) {
         "A key is one word, as out_bytes, with _ and no space.\n"
-    } else if has_strange_key(word) {
+    } else if !key.is_ascii() {
         "A key has plain letters and _ alone, as out_bytes.\n"
     } else if message.starts_with("key with no value") {
         FORM

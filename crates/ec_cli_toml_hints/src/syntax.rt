@@ -3,9 +3,8 @@
 use crate::mixed::add_mixed;
 use crate::others::kind_of;
 use crate::slips::{Stop, add_likely};
-use ec_cli_spots::{Bytes, Coded, Letter, MOST_OF_LINE, is_strange, line_at, position_of};
+use ec_cli_spots::{Bytes, Front, MOST_OF_LINE, line_at, position_of};
 use ec_text_builder::Draft;
-use std::fmt;
 use toml::de::Error;
 
 /// Adds what was likely meant where the reader stopped with a message behind so many bytes, at a line, from 0.
@@ -25,24 +24,6 @@ fn add_hint(out: &mut Draft, text: &str, line: usize, count: usize, message: &st
     }
 }
 
-/// The first characters of a line, letters and plain ones as they stand, of others each byte as `\xNN`, and dots where there are more.
-#[derive(Clone, Copy)]
-struct Excerpt<'a>(&'a str);
-
-impl fmt::Display for Excerpt<'_> {
-    fn fmt<W: fmt::Write>(&self, f: &mut fmt::Formatter<W>) -> fmt::Result {
-        for letter in self.0.chars().take(MOST_OF_LINE) {
-            if is_strange(letter) {
-                write!(f, "{}", Coded(letter))?;
-            } else {
-                write!(f, "{}", Letter(letter))?;
-            }
-        }
-        let is_cut = self.0.chars().nth(MOST_OF_LINE).is_some();
-        f.write_str(if is_cut { "..." } else { "" })
-    }
-}
-
 /// Adds a line as it stands, of a long one the part about a column, from 1.
 fn add_excerpt(out: &mut Draft, line: &str, column: usize) {
     let skipped = if column <= MOST_OF_LINE {
@@ -54,7 +35,7 @@ fn add_excerpt(out: &mut Draft, line: &str, column: usize) {
     let from = begun.map_or(line.len(), |(index, _)| index);
     let dots = if skipped > 0 { "..." } else { "" };
     let rest = line.get(from..).unwrap_or("");
-    out.add(format_args!("    {dots}{}\n", Excerpt(rest)));
+    out.add(format_args!("    {dots}{}\n", Front(rest, MOST_OF_LINE, true)));
 }
 
 /// The same of a line that isn't UTF-8.

@@ -5,20 +5,16 @@ use ec_text_builder::Draft;
 use ec_unit_text::Key;
 use std::alloc::{AllocError, Global};
 
-/// Whether a slave has bytes in a direction whose address isn't given.
-fn lacks_area(slave: Fields<'_>, is_input: bool) -> bool {
-    let bytes = if is_input {
-        Key::InBytes
-    } else {
-        Key::OutBytes
-    };
-    slave.number(bytes).unwrap_or(0) > 0 && !slave.has(Key::Area(is_input))
+/// Whether a slave has bytes by this key, and the address of their area isn't given.
+fn lacks_area(slave: Fields<'_>, bytes: Key, area: Key) -> bool {
+    slave.number(bytes).unwrap_or(0) > 0 && !slave.has(area)
 }
 
 /// The first slave of a unit that lacks an address.
 fn first_in(doc: Doc<'_>, unit: usize) -> Option<usize> {
     let mut slaves = doc.slaves(Some(unit)).iter().map(Fields::of);
-    slaves.position(|slave| lacks_area(slave, false) || lacks_area(slave, true))
+    slaves.position(|slave| lacks_area(slave, Key::OutBytes, Key::Area(false))
+        || lacks_area(slave, Key::InBytes, Key::Area(true)))
 }
 
 /// The first slave of a line that lacks an address.

@@ -2,12 +2,11 @@
 
 use crate::nearest::nearest;
 use ec_cli_spots::{
-    AtLine, Doc, Fields, In, Kind, Quoted, SLAVE, Shown, TOP, UNIT, before_comment, first_header,
-    header_line, header_of, line_named, line_within, name_of, other_base,
+    AtLine, Doc, Fields, In, Kind, Quoted, SLAVE, Shown, TOP, UNIT, before_comment, header_line,
+    header_of, line_named, line_within, name_of, other_base,
 };
 use ec_text_builder::Draft;
 use ec_unit_text::{Key, Spot};
-use std::alloc::AllocError;
 use toml::Value;
 
 /// What a key says, and what it takes.
@@ -95,14 +94,14 @@ fn place_of(doc: Doc<'_>, word: &str, spot: Spot) -> Option<&'static str> {
     })
 }
 
-/// Whether a unit has a text at `unit`, where its name was meant.
-fn is_name(unit: Fields<'_>, word: &str) -> bool {
-    word == "unit" && !unit.has(Key::Name) && matches!(unit.named(word), Some(Value::String(_)))
-}
-
-/// Whether a unit has `slots`, where its slot was meant.
-fn is_slot(unit: Fields<'_>, word: &str) -> bool {
-    word == "slots" && unit.has(Key::Phase) && !unit.has(Key::Slot)
+/// The key that a unit lacks, and that was meant by a key of another table: its name by `unit` with a text, its slot by `slots`.
+fn unit_key(unit: Fields<'_>, word: &str) -> Option<Key> {
+    let is_text = matches!(unit.named(word), Some(Value::String(_)));
+    match word {
+        "unit" if is_text && !unit.has(Key::Name) => Some(Key::Name),
+        "slots" if unit.has(Key::Phase) && !unit.has(Key::Slot) => Some(Key::Slot),
+        _ => None,
+    }
 }
 
 /// Whether a word that was meant for a key counts bits, where the key counts bytes.
@@ -146,11 +145,10 @@ pub(crate) fn add_unknown(out: &mut Draft, doc: Doc<'_>, word: &str, spot: Spot)
     let at = line_named(doc, word).or_else(|| line_within(doc, word));
     let line = AtLine(at.filter(|_| spot.unit.is_none()));
     out.add(format_args!("the key {}{line} is not known there.\n", Quoted(word)));
-    if spot.slave.is_none() && is_name(doc.unit(spot.unit), word) {
-        return add_meant(out, word, Key::Name);
-    }
-    if spot.slave.is_none() && is_slot(doc.unit(spot.unit), word) {
-        return add_meant(out, word, Key::Slot);
+    if spot.slave.is_none()
+        && let Some(key) = unit_key(doc.unit(spot.unit), word)
+    {
+        return add_meant(out, word, key);
     }
     if let Some(line) = unbegun_slave(doc, word, spot) {
         return out.add(format_args!(
@@ -161,31 +159,21 @@ pub(crate) fn add_unknown(out: &mut Draft, doc: Doc<'_>, word: &str, spot: Spot)
         return out.add(place);
     }
     match nearest(doc.alloc, word, kind.keys) {
-        Ok(Some(key)) if key == Key::Unit || !doc.table(spot).has(key) => {
-            add_meant(out, word, key);
-        }
-        Ok(_) => out.add(kind.told),
-        Err(_) => out.give_up(),
+        Some(key) if key == Key::Unit || !doc.table(spot).has(key) => add_meant(out, word, key),
+        _ => out.add(kind.told),
     }
 }
 
 /// The first key at a spot that isn't known there, and was meant for this one.
-pub(crate) fn meant_for<'a>(
-    doc: Doc<'a>,
-    spot: Spot,
-    key: Key,
-) -> Result<Option<&'a str>, AllocError> {
+pub(crate) fn meant_for<'a>(doc: Doc<'a>, spot: Spot, key: Key) -> Option<&'a str> {
     let kind = Kind::at(spot);
-    let Some(table) = doc.table(spot).0 else {
-        return Ok(None);
-    };
-    for word in table.keys() {
+    for word in doc.table(spot).0?.keys() {
         let word = word.as_str();
-        if !kind.has(word) && nearest(doc.alloc, word, kind.keys)? == Some(key) {
-            return Ok(Some(word));
+        if !kind.has(word) && nearest(doc.alloc, word, kind.keys) == Some(key) {
+            return Some(word);
         }
     }
-    Ok(None)
+    None
 }
 
 /// Tells a key that isn't known.
@@ -242,21 +230,21 @@ fn tell_unbegun(out: &mut Draft, doc: Doc<'_>, spot: Spot) -> bool {
         return false;
     };
     let is_of_slaves = begun.keys().all(|key| key.as_str() == Key::Slave.as_str());
-    let slave = first_header(doc);
+    let mut lines = doc.text.lines();
+    let slave = lines.position(|line| header_of(line).is_some());
     match meant_for(doc, spot, Key::Unit) {
-        Err(_) => out.give_up(),
-        Ok(Some(word)) if is_of_slaves && matches!(doc.top().named(word), Some(Value::Array(_))) =>
+        Some(word) if is_of_slaves && matches!(doc.top().named(word), Some(Value::Array(_))) =>
             out.add(format_args!(
                 "No unit is begun: at the top of the file stands {} in place of unit.\nEach unit begins with a line [[unit]].\n",
                 Quoted(word)
             )),
-        Ok(_) if is_of_slaves && line_named(doc, "unit").is_none() && slave.is_some() => out.add(
+        _ if is_of_slaves && line_named(doc, "unit").is_none() && slave.is_some() => out.add(
             format_args!(
                 "No unit is begun: before the first [[unit.slave]]{} a line [[unit]] is missing.\n",
-                AtLine(slave)
+                AtLine(slave.map(|index| index.saturating_add(1)))
             ),
         ),
-        Ok(_) => return false,
+        _ => return false,
     }
     true
 }

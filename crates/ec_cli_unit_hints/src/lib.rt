@@ -5,7 +5,6 @@ mod areas;
 mod keys;
 mod missing;
 mod nearest;
-mod periods;
 mod places;
 mod ranges;
 mod telling;

@@ -68,18 +68,12 @@ fn add_other(out: &mut Draft, doc: Doc<'_>, spot: Spot, other: Spot) {
 
 /// Adds a key that isn't known where one is missing: one that was meant for it, else the first.
 fn add_beside(out: &mut Draft, doc: Doc<'_>, spot: Spot, key: Key) {
-    match meant_for(doc, spot, key) {
-        Err(_) => out.give_up(),
-        Ok(Some(word)) => {
-            out.add(format_args!("Beside it, the key {} is not known there.\n", Quoted(word)));
-            add_meant(out, word, key);
-        }
-        Ok(None) => {
-            if let Some(word) = unknown_in(doc.table(spot), Kind::at(spot)) {
-                out.add("Beside it, ");
-                add_unknown(out, doc, word, spot);
-            }
-        }
+    if let Some(word) = meant_for(doc, spot, key) {
+        out.add(format_args!("Beside it, the key {} is not known there.\n", Quoted(word)));
+        add_meant(out, word, key);
+    } else if let Some(word) = unknown_in(doc.table(spot), Kind::at(spot)) {
+        out.add("Beside it, ");
+        add_unknown(out, doc, word, spot);
     }
 }
 

@@ -1,7 +1,7 @@
 //! Which key was meant by a word that is none.
 
 use ec_unit_text::Key;
-use std::alloc::{AllocError, Global};
+use std::alloc::Global;
 use strsim::levenshtein;
 
 /// The longest word that is compared with the keys, in bytes.
@@ -29,23 +29,18 @@ fn key_for(word: &str) -> Option<Key> {
     }
 }
 
-/// Whether so many edits lead to the key from a word that was meant for it: a third of its letters, roughly.
-fn is_near(edits: usize, key: Key) -> bool {
-    edits < 32 && edits * 3 <= key.as_str().len() + 1
-}
-
-/// The key that so few edits lead to as to no other before it, if it is near.
-fn by_letters(alloc: Global, word: &str, keys: &[Key]) -> Result<Option<Key>, AllocError> {
+/// The key that so few edits lead to as to no other before it, where they are few for its letters: a third of them, roughly.
+fn by_letters(alloc: Global, word: &str, keys: &[Key]) -> Option<Key> {
     let mut best = None;
     let mut least = usize::MAX;
     for key in keys {
-        let edits = levenshtein(alloc, word, key.as_str())?;
-        if edits < least && is_near(edits, *key) {
+        let edits = levenshtein(alloc, word, key.as_str()).ok()?;
+        if edits < least && edits.saturating_mul(3) <= key.as_str().len().saturating_add(1) {
             least = edits;
             best = Some(*key);
         }
     }
-    Ok(best)
+    best
 }
 
 /// The key of these that a word has in front, before the unit of its value or what else, as `period_ms` has.
@@ -57,15 +52,15 @@ fn by_front(word: &str, keys: &[Key]) -> Option<Key> {
     keys.iter().find(has_front).copied()
 }
 
-/// The key of these that a word was meant for, if one is near, whatever letters are capital.
-pub(crate) fn nearest(alloc: Global, word: &str, keys: &[Key]) -> Result<Option<Key>, AllocError> {
+/// The key of these that a word was meant for, if one is near, whatever letters are capital. None also where memory runs out.
+pub(crate) fn nearest(alloc: Global, word: &str, keys: &[Key]) -> Option<Key> {
     if word.len() > LONGEST {
-        return Ok(None);
+        return None;
     }
-    let small = word.to_ascii_lowercase(alloc)?;
+    let small = word.to_ascii_lowercase(alloc).ok()?;
     let word = small.as_str();
     match key_for(word).or_else(|| by_front(word, keys)) {
-        Some(key) if keys.contains(&key) => Ok(Some(key)),
+        Some(key) if keys.contains(&key) => Some(key),
         _ => by_letters(alloc, word, keys),
     }
 }

@@ -89,10 +89,7 @@ pub fn tell_no_place(out: &mut Draft, doc: Doc<'_>, unit: usize) {
 /// Whether a unit with this place travels in a tick and a slot.
 fn travels(unit: Fields<'_>, tick: i64, slot: i64) -> bool {
     let rest = tick.checked_rem(unit.number(Key::Period).unwrap_or(0));
-    let is_then = unit
-        .number(Key::Phase)
-        .is_some_and(|phase| rest == Some(phase));
-    is_then && unit.number(Key::Slot) == Some(slot)
+    rest.is_some() && unit.number(Key::Phase) == rest && unit.number(Key::Slot) == Some(slot)
 }
 
 /// Adds the names of the units that travel in a tick and a slot.

@@ -1,6 +1,6 @@
-//! Values out of their range, and areas of a slave's memory that lie wrong.
+//! Values out of their range, a hyperperiod that is too long, and areas of a slave's memory that lie wrong.
 
-use ec_cli_spots::{Doc, Fields, In, Pair};
+use ec_cli_spots::{Doc, Fields, In, Pair, has_period, ticks_of};
 use ec_text_builder::Draft;
 use ec_unit_text::{Key, Spot};
 
@@ -48,18 +48,20 @@ pub(crate) fn tell_period(out: &mut Draft, doc: Doc<'_>, spot: Spot) {
     }
 }
 
-/// What is told of a slave whose process data are registers.
-const REGISTERS: &str =
-    "A slave that has its data there, as digital outputs at 3840, can't be planned: leave it out, and let your master write it.\n";
-
-/// Where the outputs of a slave lie whose text doesn't say it.
-const OUT_AT: i64 = 4096;
-
-/// The same of the inputs.
-const IN_AT: i64 = 8192;
-
-/// Addresses from here on are told as they stand, and not asked for their base: digital outputs are at 3840, which is 0x0F00.
-const DIGITAL_OUTPUTS: i64 = 3840;
+/// Tells the periods, each once, the least first, and the ticks after which all units stand as they did.
+pub(crate) fn tell_hyper(out: &mut Draft, doc: Doc<'_>) {
+    let units = doc.units();
+    out.add("The hyperperiod is too long: the least common multiple of these periods ");
+    match ticks_of(units) {
+        Some(ticks) => out.add(format_args!("is {ticks} ticks")),
+        None => out.add("has more than 19 digits"),
+    }
+    out.add(", and at most 1024 can be planned.\n   ");
+    for period in (1..61i64).filter(|period| has_period(units, *period)) {
+        out.add(format_args!(" {period}"));
+    }
+    out.add("\nTake periods that divide one another, as 2, 4 and 8.\n");
+}
 
 /// The number that digits of base 16 say, if they say one that isn't too great; `_` may stand between them.
 fn hex_value(digits: &str) -> Option<i64> {
@@ -78,20 +80,28 @@ fn is_hex_in(text: &str, number: i64) -> bool {
         .any(|digits| hex_value(digits) == Some(number))
 }
 
-/// An area: the key of its address, where it begins, and its bytes.
+/// An area: what it has, the key of its address, where it begins, and its bytes.
 #[derive(Clone, Copy)]
 struct Area {
+    name: &'static str,
     key: Key,
     at: i64,
     bytes: i64,
 }
 
 impl Area {
-    /// An area of a slave, with the address that stands for one that isn't given.
-    fn of(slave: Fields<'_>, key: Key, default: i64, bytes: Key) -> Area {
+    /// The outputs of a slave, or its inputs; where their address isn't given they begin at 4096, or at 8192.
+    fn of(slave: Fields<'_>, is_input: bool) -> Area {
+        let (name, bytes, usual) = if is_input {
+            ("inputs", Key::InBytes, 8192)
+        } else {
+            ("outputs", Key::OutBytes, 4096)
+        };
+        let key = Key::Area(is_input);
         Area {
+            name,
             key,
-            at: slave.number(key).unwrap_or(default),
+            at: slave.number(key).unwrap_or(usual),
             bytes: slave.number(bytes).unwrap_or(0),
         }
     }
@@ -104,9 +114,10 @@ impl Area {
     /// Adds that it lies where registers are. One of four digits may be meant in base 16, unless it stands so in the text, and one that is a
     /// base, as 16, may be read of a number behind `16#`.
     fn add_registers(self, out: &mut Draft, text: &str) {
-        let Area { key, at, bytes } = self;
+        let Area { key, at, bytes, .. } = self;
         let is_hex = is_hex_in(text, at);
-        let is_asked = !is_hex && bytes > 0 && (1000..DIGITAL_OUTPUTS).contains(&at);
+        // Digital outputs are at 3840, which is 0x0F00: that isn't asked for its base.
+        let is_asked = !is_hex && bytes > 0 && (1000..3840).contains(&at);
         if is_hex {
             out.add(format_args!(
                 "{key} is {at}, below 4096 (0x1000), where a slave has registers.\n"
@@ -117,13 +128,20 @@ impl Area {
         if is_asked {
             out.add(format_args!("Is {at} of base 16? Then write {key} = 0x{at}.\n"));
         } else if bytes > 0 && !matches!(at, 2 | 8 | 16) {
-            out.add(REGISTERS);
+            out.add(
+                "A slave that has its data there, as digital outputs at 3840, can't be planned: leave it out, and let your master write it.\n",
+            );
         }
     }
 
     /// Adds what is wrong with it, and says whether something is.
     fn add_fault(self, out: &mut Draft, text: &str) -> bool {
-        let Area { key, at, bytes } = self;
+        let Area {
+            name,
+            key,
+            at,
+            bytes,
+        } = self;
         if at < 0 {
             out.add(format_args!("{key} = {at}, but an address is 4096 to 65535.\n"));
         } else if at < 4096 {
@@ -138,11 +156,6 @@ impl Area {
             return false;
         }
         if bytes == 0 {
-            let name = if key == Key::Area(false) {
-                "outputs"
-            } else {
-                "inputs"
-            };
             out.add(format_args!("The slave has no {name}: take {key} out.\n"));
         }
         true
@@ -173,8 +186,7 @@ pub(crate) fn tell_area(out: &mut Draft, doc: Doc<'_>, spot: Spot) {
     if slave.0.is_none() {
         return;
     }
-    let outputs = Area::of(slave, Key::Area(false), OUT_AT, Key::OutBytes);
-    let inputs = Area::of(slave, Key::Area(true), IN_AT, Key::InBytes);
+    let (outputs, inputs) = (Area::of(slave, false), Area::of(slave, true));
     let first = outputs.add_fault(out, doc.text);
     let second = inputs.add_fault(out, doc.text);
     if !first && !second && outputs.bytes > 0 && inputs.bytes > 0 {

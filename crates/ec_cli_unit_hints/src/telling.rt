@@ -1,7 +1,9 @@
 //! What is told of each fault of a unit text.
 
-use crate::ranges::{SLAVE_BYTES, SLOTS, STATION, TICK, tell_area, tell_period, tell_range};
-use crate::{keys, missing, periods, places, units};
+use crate::ranges::{
+    SLAVE_BYTES, SLOTS, STATION, TICK, tell_area, tell_hyper, tell_period, tell_range,
+};
+use crate::{keys, missing, places, units};
 use ec_cli_spots::Doc;
 use ec_text_builder::Draft;
 use ec_unit_text::{Spot, UnitFault};
@@ -39,7 +41,7 @@ pub fn tell_units(out: &mut Draft, doc: Doc<'_>, fault: UnitFault) {
         UnitFault::StationRange(spot) => tell_range(out, doc, spot, STATION),
         UnitFault::DuplicateStation(spot) => units::tell_same_station(out, doc, spot),
         UnitFault::AreaRange(spot) => tell_area(out, doc, spot),
-        UnitFault::HyperTooLong => periods::tell_hyper(out, doc),
+        UnitFault::HyperTooLong => tell_hyper(out, doc),
         UnitFault::SlotsRange => tell_range(out, doc, TOP_TABLE, SLOTS),
         UnitFault::TickRange => tell_range(out, doc, TOP_TABLE, TICK),
         UnitFault::PlaceRange(spot) => places::tell_range(out, doc, spot),

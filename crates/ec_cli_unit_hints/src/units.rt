@@ -46,17 +46,12 @@ fn add_two(out: &mut Draft, first: Option<Named<'_>>, second: Named<'_>, rule: &
     out.add(format_args!("{second}.\n{rule}"));
 }
 
-/// The first unit with a name.
-fn unit_named<'a>(doc: Doc<'a>, name: &str) -> Option<Named<'a>> {
-    let mut units = doc.units().iter().map(Fields::of);
-    let unit = units.position(|unit| unit.text(Key::Name) == Some(name))?;
-    Some(Named(doc, unit, None))
-}
-
 /// Tells which two units have one name.
 pub(crate) fn tell_same_name(out: &mut Draft, doc: Doc<'_>, spot: Spot) {
     let name = doc.unit(spot.unit).text(Key::Name);
-    let first = name.and_then(|name| unit_named(doc, name));
+    let mut units = doc.units().iter().map(Fields::of);
+    let first = units.position(|unit| name.is_some() && unit.text(Key::Name) == name);
+    let first = first.map(|unit| Named(doc, unit, None));
     let second = Named(doc, spot.unit.unwrap_or(0), None);
     out.add("Two units have one name: ");
     add_two(out, first, second, "Give each unit a name of its own.\n");
@@ -142,7 +137,7 @@ fn slave_with(doc: Doc<'_>, station: i64) -> Option<Named<'_>> {
 
 /// Tells which two slaves have one station.
 pub(crate) fn tell_same_station(out: &mut Draft, doc: Doc<'_>, spot: Spot) {
-    let station = doc.slave(spot.unit, spot.slave).number(Key::Station);
+    let station = doc.table(spot).number(Key::Station);
     let first = station.and_then(|station| slave_with(doc, station));
     let second = Named(doc, spot.unit.unwrap_or(0), Some(spot.slave.unwrap_or(0)));
     out.add("Two slaves have one station address: ");
