@@ -3,7 +3,7 @@
 
 use crate::again::{Again, Command};
 use crate::cycle::{Cycle, USE};
-use crate::help::{help, other_rules};
+use crate::help::{add_other_rules, help};
 use ec_cert_text::MOST_BYTES;
 use ec_cli_spots::{PathPiece, is_told_whole};
 use ec_outcome::{Cut, Ending};
@@ -203,7 +203,7 @@ impl Search<'_> {
         if leaves_room || asked == Asked::Merged || ending.cut == Cut::Journal {
             out.add(help(ending, asked));
         }
-        out.add(other_rules(ending, asked, !matches!(filed, Filed::Unasked)));
+        add_other_rules(out, ending, asked, !matches!(filed, Filed::Unasked));
         match filed {
             Filed::There(cert) if !is_too_large => {
                 if !is_full {
@@ -218,28 +218,9 @@ impl Search<'_> {
         }
     }
 
-    /// Adds what is known of each plan of a line, with the level that its bytes alone give where that is greater, what would help,
-    /// and how one goes on.
-    fn add_known(self, out: &mut Draft, cycle: Cycle<'_>) {
-        let level = cycle.mean.cost;
-        if level <= self.ending.level {
-            return self.add_unproved(out);
-        }
-        cycle.add_mean(out);
-        if self.ending.best == Some(level) {
-            return out.add(format_args!(
-                "No plan's busiest tick costs less than {level} bytes, so none is better.\nIt is not told as optimal, since its certificate does not show that. No longer search is needed.\n"
-            ));
-        }
-        let ending = Ending {
-            level,
-            ..self.ending
-        };
-        Search { ending, ..self }.add_unproved(out);
-    }
-
-    /// Adds what its end is good for, and what would help; less where the line isn't known.
-    fn add_ending(self, out: &mut Draft, cycle: Option<Cycle<'_>>) {
+    /// Adds what its end is good for, what is known of each plan of a line, with the level that its bytes alone give where that is greater,
+    /// what would help, and how one goes on; less where the line isn't known.
+    fn add_ending(mut self, out: &mut Draft, cycle: Option<Cycle<'_>>) {
         let Some(cycle) = cycle else {
             if self.ending.best.is_some() {
                 out.add(USE);
@@ -255,13 +236,22 @@ impl Search<'_> {
         }
         let least = self.ending.level.max(cycle.least());
         if cycle.is_beyond(least) {
-            cycle.add_beyond(out, least);
-        } else {
-            if self.ending.best.is_some_and(|best| cycle.is_beyond(best)) {
-                cycle.add_unknown(out, least);
-            }
-            self.add_known(out, cycle);
+            return cycle.add_beyond(out, least);
         }
+        if self.ending.best.is_some_and(|best| cycle.is_beyond(best)) {
+            cycle.add_unknown(out, least);
+        }
+        let level = cycle.mean.cost;
+        if level > self.ending.level {
+            cycle.add_mean(out);
+            if self.ending.best == Some(level) {
+                return out.add(format_args!(
+                    "No plan's busiest tick costs less than {level} bytes, so none is better.\nIt is not told as optimal, since its certificate does not show that. No longer search is needed.\n"
+                ));
+            }
+            self.ending.level = level;
+        }
+        self.add_unproved(out);
     }
 }
 
@@ -280,10 +270,8 @@ fn add_too_large(out: &mut Draft, filed: Filed<'_>, asked: Asked) {
     });
 }
 
-/// What to do after a search, or after certificates were merged, in a few sentences, each a line. Of any: whether the plan fits
-/// into its ticks, and that its certificate, if one was written, has more bytes than are read again. Of an end without a proof
-/// also: what the plan is good for, what is proved of every plan, what would help, by what was asked for, and how one goes on from
-/// it. Without a plan: what would make room. Less where the units aren't known. Only want of memory is an error (own profile).
+/// What to do after a search, or after certificates were merged, in a few sentences, each a line. Less where the units aren't known. Only
+/// want of memory is an error (own profile).
 pub fn counsel(
     alloc: Global,
     found: Found,

@@ -36,11 +36,6 @@ impl<'a> Again<'a> {
             ..self
         }
     }
-
-    /// The nodes that it visits where its number isn't told.
-    fn usual_nodes(self) -> u32 {
-        self.minutes.map_or(USUAL_NODES, |_| MOST_NODES)
-    }
 }
 
 impl fmt::Display for Again<'_> {
@@ -48,7 +43,7 @@ impl fmt::Display for Again<'_> {
         if self.workers > 1 {
             write!(f, " --workers {}", self.workers)?;
         }
-        if self.nodes != self.usual_nodes() {
+        if self.nodes != self.minutes.map_or(USUAL_NODES, |_| MOST_NODES) {
             write!(f, " --nodes {}", self.nodes)?;
         }
         if let Some(minutes) = self.minutes {

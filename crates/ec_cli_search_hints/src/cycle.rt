@@ -7,31 +7,36 @@ use ec_units::{Slave, Unit, Units, bytes_of};
 use ec_wire::{BYTE_NS, fits, frame_wire};
 
 /// The most slots of a line.
-const MOST_SLOTS: u8 = 8;
-
-/// The bytes of a frame with one datagram, beside those of its units.
-const DATAGRAM: u32 = 14;
+const MOST_SLOTS: u64 = 8;
 
 /// The wire bytes of the least frame.
 const LEAST_FRAME: u64 = 84;
 
-/// The most bytes of a unit.
-const MOST_OF_UNIT: u32 = 1486;
+/// The most bytes of two units.
+const MOST_OF_TWO: u32 = 2972;
 
-/// The wire bytes of a frame with one datagram of so many bytes.
-fn wire_of(bytes: u32) -> u64 {
-    u64::from(frame_wire(DATAGRAM + bytes.min(MOST_OF_UNIT)))
+/// The most bytes of two units in one frame.
+const MOST_OF_FRAME: u32 = 1474;
+
+/// The wire bytes of a frame with one or two datagrams of so many bytes together.
+fn wire_of(datagrams: u8, bytes: u32) -> u64 {
+    u64::from(frame_wire(2 + 12 * u32::from(datagrams) + bytes.min(MOST_OF_TWO)))
 }
 
 /// The wire bytes of a frame with one unit alone.
 fn wire_of_unit(unit: &Unit) -> u64 {
-    wire_of(u32::from(bytes_of(unit)))
+    wire_of(1, u32::from(bytes_of(unit)))
+}
+
+/// The least that two units which meet take on the wire in one tick, in bytes.
+fn wire_of_both(meeting: Meeting<'_>) -> u64 {
+    wire_of(2, meeting.bytes())
 }
 
 /// Whether a slave alone goes into a tick.
 fn fits_alone(slave: &Slave, tick_ns: u32) -> bool {
     let bytes = u32::from(slave.out_bytes) + u32::from(slave.in_bytes);
-    fits(wire_of(bytes), tick_ns)
+    fits(wire_of(1, bytes), tick_ns)
 }
 
 /// Whether a unit goes into a tick alone, or could be two that travel in different ticks: it has ticks for that, and each of its slaves
@@ -52,7 +57,7 @@ pub(crate) const USE: &str = "The plan is legal and can be used as it stands.\n"
 #[derive(Clone, Copy)]
 pub struct Cycle<'a> {
     pub tick_ns: u32,
-    pub slots: u8,
+    pub slots: u64,
     /// The wire bytes of a frame with its largest unit alone.
     pub largest: u64,
     /// Whether each unit that is too long for a tick alone could be two.
@@ -72,7 +77,7 @@ impl<'a> Cycle<'a> {
         let (all, tick_ns) = (units.units.as_slice(), units.tick_ns);
         Cycle {
             tick_ns,
-            slots: units.slots,
+            slots: u64::from(units.slots),
             largest: all.iter().map(wire_of_unit).max().unwrap_or(0),
             is_divisible: all.iter().all(|unit| is_divisible(unit, tick_ns)),
             meeting: heaviest(all),
@@ -84,7 +89,7 @@ impl<'a> Cycle<'a> {
 
     /// What some tick of each plan costs at least, by the bytes of all units or by two of them that meet.
     pub fn least(self) -> u64 {
-        let meeting = self.meeting.map_or(0, |meeting| meeting.wire());
+        let meeting = self.meeting.map_or(0, wire_of_both);
         self.mean.cost.max(meeting)
     }
 
@@ -136,23 +141,16 @@ impl<'a> Cycle<'a> {
                     "Two units in place of such a one, each with some of its slaves, may help, too.\n",
                 );
             }
+        } else if let Some(meeting) = self.meeting
+            && self.is_beyond(wire_of_both(meeting))
+        {
+            let ns = wire_of_both(meeting).saturating_mul(BYTE_NS);
+            out.add(format_args!(
+                "{meeting}, and take at least {ns} ns there.\n{PARTED}A longer tick or fewer bytes would.\n"
+            ));
         } else {
-            self.add_cures(out);
+            out.add("A longer tick, longer periods or fewer bytes would help.\n");
         }
-    }
-
-    /// Adds what would help where no plan fits, and each unit alone does.
-    fn add_cures(self, out: &mut Draft) {
-        let meeting = self
-            .meeting
-            .filter(|meeting| self.is_beyond(meeting.wire()));
-        let Some(meeting) = meeting else {
-            return out.add("A longer tick, longer periods or fewer bytes would help.\n");
-        };
-        let ns = meeting.wire().saturating_mul(BYTE_NS);
-        out.add(format_args!(
-            "{meeting}, and take at least {ns} ns there.\n{PARTED}A longer tick or fewer bytes would.\n"
-        ));
     }
 
     /// Adds what some tick of each plan carries at least.
@@ -184,7 +182,7 @@ impl<'a> Cycle<'a> {
 
     /// Whether some tick of each plan has more frames than there are slots.
     pub fn is_overfull(self) -> bool {
-        self.frames().0 > u64::from(self.slots)
+        self.frames().0 > self.slots
     }
 
     /// Adds why there is no plan.
@@ -209,12 +207,12 @@ impl<'a> Cycle<'a> {
         let slots = self.slots;
         let overfull = self
             .meeting
-            .filter(|meeting| slots == 1 && !meeting.is_one_frame());
+            .filter(|meeting| slots == 1 && meeting.bytes() > MOST_OF_FRAME);
         self.add_why_none(out);
         if let Some(meeting) = overfull {
             out.add(format_args!("{meeting}, and are too much for one frame.\n{PARTED}"));
         }
-        if frames > u64::from(MOST_SLOTS) {
+        if frames > MOST_SLOTS {
             out.add(format_args!(
                 "No number of slots is enough: fewer bytes would help, or {periods}.\n"
             ));

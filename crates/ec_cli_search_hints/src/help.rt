@@ -2,6 +2,7 @@
 
 use crate::advising::Asked;
 use ec_outcome::{Cut, Ending};
+use ec_text_builder::Draft;
 
 /// What would help a search of a whole tree, by whether it found a plan, and whether that is shown to be the best.
 fn help_whole(ending: Ending) -> &'static str {
@@ -61,20 +62,23 @@ pub(crate) fn help(ending: Ending, asked: Asked) -> &'static str {
     }
 }
 
-/// Which other rules may end with a proof where a search didn't. A path at which its certificate was to
+/// Adds which other rules may end with a proof where a search didn't. A path at which its certificate was to
 /// be written, if it `has_path`, is none for one by other rules, which may say less.
-pub(crate) fn other_rules(ending: Ending, asked: Asked, has_path: bool) -> &'static str {
+pub(crate) fn add_other_rules(out: &mut Draft, ending: Ending, asked: Asked, has_path: bool) {
     if matches!(asked, Asked::Part | Asked::Merged) || ending.cut == Cut::Journal {
-        return "";
+        return;
     }
-    match (ending.strong, has_path) {
-        (true, false) =>
-            "The command plan without --strong searches in another order, and may end with a proof.\n",
-        (true, true) =>
-            "The command plan without --strong, with another --out, searches in another order, and may end with a proof.\n",
-        (false, false) =>
-            "The command plan --strong searches by stronger rules, and may end with a proof.\n",
-        (false, true) =>
-            "The command plan --strong, with another --out, searches by stronger rules, and may end with a proof.\n",
-    }
+    let (rules, how) = if ending.strong {
+        ("without --strong", "in another order")
+    } else {
+        ("--strong", "by stronger rules")
+    };
+    let path = if has_path {
+        ", with another --out,"
+    } else {
+        ""
+    };
+    out.add(format_args!(
+        "The command plan {rules}{path} searches {how}, and may end with a proof.\n"
+    ));
 }

@@ -2,61 +2,34 @@
 
 use ec_cli_spots::are_coprime;
 use ec_units::{Unit, bytes_of};
-use ec_wire::frame_wire;
 use std::fmt;
 
-/// The bytes of a frame with two datagrams, beside those of their units.
-const DATAGRAMS: u32 = 26;
-
-/// The most bytes of two units.
-const MOST_OF_TWO: u32 = 2972;
-
-/// The most bytes of two units in one frame.
-const MOST_BYTES: u32 = 1474;
-
-/// Two units of different periods that have no common divisor but 1: in some tick both travel, whatever their phases are.
+/// Two units that may meet.
 #[derive(Clone, Copy)]
-pub struct Meeting<'a> {
-    pub names: (&'a str, &'a str),
-    pub periods: (u16, u16),
-    /// The bytes of both.
-    pub bytes: u32,
-}
+pub struct Meeting<'a>(&'a Unit, &'a Unit);
 
 impl Meeting<'_> {
-    /// The least that both take on the wire in one tick, in bytes.
-    pub(crate) fn wire(self) -> u64 {
-        u64::from(frame_wire(self.bytes.min(MOST_OF_TWO) + DATAGRAMS))
+    /// Whether their periods are different and have no common divisor but 1: in some tick both travel, whatever their phases are.
+    fn is_met(self) -> bool {
+        let (one, other) = (self.0.period, self.1.period);
+        one != other && are_coprime(u64::from(one), u64::from(other))
     }
 
-    /// Whether both go into one frame.
-    pub(crate) fn is_one_frame(self) -> bool {
-        self.bytes <= MOST_BYTES
+    /// The bytes of both.
+    pub(crate) fn bytes(self) -> u32 {
+        u32::from(bytes_of(self.0)) + u32::from(bytes_of(self.1))
     }
 }
 
 impl fmt::Display for Meeting<'_> {
     fn fmt<W: fmt::Write>(&self, f: &mut fmt::Formatter<W>) -> fmt::Result {
-        let ((one, other), (period, its)) = (self.names, self.periods);
+        let (one, other) = (self.0.name.as_str(), self.1.name.as_str());
+        let (period, its) = (self.0.period, self.1.period);
         write!(
             f,
             "The units \"{one}\" and \"{other}\", with periods {period} and {its}, meet in some tick wherever they are placed"
         )
     }
-}
-
-/// The meeting of two units, if their periods are different and have no common divisor but 1.
-fn meeting_of<'a>(one: &'a Unit, other: &'a Unit) -> Option<Meeting<'a>> {
-    let names = (one.name.as_str(), other.name.as_str());
-    let periods = (one.period, other.period);
-    let bytes = u32::from(bytes_of(one)) + u32::from(bytes_of(other));
-    let is_met = periods.0 != periods.1 && are_coprime(u64::from(periods.0), u64::from(periods.1));
-    Some(Meeting {
-        names,
-        periods,
-        bytes,
-    })
-    .filter(|_| is_met)
 }
 
 /// The least bytes of a unit of which no two go into one frame, also in one datagram.
@@ -76,15 +49,7 @@ pub(crate) fn crowd(units: &[Unit]) -> u64 {
     count
 }
 
-/// The one of two meetings that has more bytes, the first where both have as many.
-fn heavier<'a>(one: Option<Meeting<'a>>, other: Meeting<'a>) -> Option<Meeting<'a>> {
-    match one {
-        Some(one) if one.bytes >= other.bytes => Some(one),
-        _ => Some(other),
-    }
-}
-
-/// The heaviest meeting of a unit with one of some others, if it has one, or a heavier one that was found before.
+/// The meeting of a unit with one of some others that has the most bytes, if it has one, or one that was found before and has as many.
 fn heaviest_with<'a>(
     found: Option<Meeting<'a>>,
     unit: &'a Unit,
@@ -92,8 +57,9 @@ fn heaviest_with<'a>(
 ) -> Option<Meeting<'a>> {
     let mut most = found;
     for other in others {
-        if let Some(meeting) = meeting_of(unit, other) {
-            most = heavier(most, meeting);
+        let meeting = Meeting(unit, other);
+        if meeting.is_met() && most.is_none_or(|most| most.bytes() < meeting.bytes()) {
+            most = Some(meeting);
         }
     }
     most
