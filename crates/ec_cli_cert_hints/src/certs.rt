@@ -1,6 +1,5 @@
 //! Faults of a certificate's text.
 
-use crate::due::CertText;
 use ec_cert_text::CertFault;
 use ec_cli_spots::{Bytes, CertName, Inputs, header_of, line_at, position_of};
 use ec_text_builder::Draft;
@@ -28,19 +27,16 @@ fn add_stranger(out: &mut Draft, cert: &[u8]) {
     };
     let (line, column) = position_of(cert, at);
     out.add(format_args!("Line {line}, column {column} has the byte {byte:02x}.\n"));
-    match byte {
-        b'\r' => out.add(
+    out.add(match byte {
+        b'\r' =>
             "It is a carriage return: each line ends with a line feed alone. Was the file changed by an editor?\n",
-        ),
-        b'\t' => out.add("It is a tabulator: words are separated by one space.\n"),
-        0xef if at == 0 => out.add(
+        b'\t' => "It is a tabulator: words are separated by one space.\n",
+        0xef if at == 0 =>
             "It may be a byte order mark, which editors put before a text: no certificate has one.\n",
-        ),
-        0xfe | 0xff if cert.starts_with(b"\xff\xfe") || cert.starts_with(b"\xfe\xff") => out.add(
+        0xfe | 0xff if cert.starts_with(b"\xff\xfe") || cert.starts_with(b"\xfe\xff") =>
             "It is UTF-16, as some editors save a text: take the file as plan --out wrote it.\n",
-        ),
-        _ => {}
-    }
+        _ => "",
+    });
 }
 
 /// Whether a text begins as a certificate of a version that isn't known yet.
@@ -80,36 +76,24 @@ fn tell_version(out: &mut Draft, inputs: &Inputs<'_>) {
     }
 }
 
-/// What is told of a tree that isn't whole where its text ends.
-const CHANGED: &str =
-    "A line of the tree above it is missing, or was changed, perhaps far above.\n";
-
-/// Whether a line of a certificate, from 0, is the one that ends it.
-fn is_end(cert: &[u8], line: usize) -> bool {
-    line_at(cert, line) == Some(b"end")
-}
-
-/// Adds what a line, from 0, of a certificate should be, by its fault.
-fn add_wanted(out: &mut Draft, inputs: &Inputs<'_>, text: &[u8], line: usize, fault: CertFault) {
-    let is_behind = line.checked_sub(1).is_some_and(|last| is_end(text, last));
-    let is_due = !is_behind && !matches!(fault, CertFault::Late(_) | CertFault::TooDeep(_));
-    if let Some(cert) = CertText::of(inputs).filter(|_| is_due) {
-        let (form, note) = cert.wanted_at(line);
-        out.add(format_args!("Due there: {form}.\n{note}"));
-    }
+/// Adds why a text has no whole tree where it ends at a line, from 0, or doesn't end where its tree does.
+fn add_end(out: &mut Draft, text: &[u8], line: usize, fault: CertFault) {
+    let last = line.checked_sub(1).and_then(|last| line_at(text, last));
+    let is_end = line_at(text, line) == Some(b"end");
     out.add(match fault {
-        CertFault::Early(_) | CertFault::Late(_) if is_behind =>
+        CertFault::Early(_) | CertFault::Late(_) if last == Some(b"end") =>
             "The last line is end, behind the tree, and nothing follows it.\n",
-        CertFault::Early(_) if is_end(text, line) && text.ends_with(b"\n") => CHANGED,
+        CertFault::Early(_) if is_end && text.ends_with(b"\n") =>
+            "A line of the tree above it is missing, or was changed, perhaps far above.\n",
         CertFault::Early(_) =>
             "Was the file cut off? Each line ends with a line feed, also the last.\n",
         CertFault::Late(_) =>
-            "Due there: end.\nThis line was added or changed, or one of the tree above it, perhaps far above.\n",
+            "This line was added or changed, or one of the tree above it, perhaps far above.\n",
         _ => "",
     });
 }
 
-/// Tells a fault of a certificate's text: of one of a line that, from 1, its text, and what was due.
+/// Tells a fault of a certificate's text: of one of a line that, from 1, and its text.
 pub fn tell_cert(out: &mut Draft, inputs: &Inputs<'_>, fault: CertFault) {
     let name = CertName(inputs.cert_path);
     let (number, words) = match fault {
@@ -133,6 +117,6 @@ pub fn tell_cert(out: &mut Draft, inputs: &Inputs<'_>, fault: CertFault) {
     out.add(format_args!("{name}: line {number} {words}.\n"));
     if let (Some(cert), Some(line)) = (inputs.cert, (number as usize).checked_sub(1)) {
         add_line(out, cert, line);
-        add_wanted(out, inputs, cert, line, fault);
+        add_end(out, cert, line, fault);
     }
 }

@@ -1,8 +1,6 @@
 //! Certificates that are texts, but show nothing of the units.
 
 use crate::certs::add_line;
-use crate::due::CertText;
-use crate::leaves::add_leaf_fault;
 use crate::others::add_differences;
 use ec_checker::CheckFault;
 use ec_cli_search_hints::Cycle;
@@ -12,26 +10,20 @@ use ec_unit_text::read_units;
 use std::alloc::Global;
 use std::fmt::Display;
 
+/// The number, from 0, of the first line of a certificate that begins so.
+fn line_of(inputs: &Inputs<'_>, front: &[u8]) -> Option<usize> {
+    let mut lines = inputs.cert?.split(|byte| *byte == b'\n');
+    lines.position(|line| line.starts_with(front))
+}
+
 /// Tells that a certificate is of other units, and what differs.
 fn tell_others(out: &mut Draft, inputs: &Inputs<'_>, doc: Doc<'_>) {
     out.add(format_args!("{} is not for these units.\n", CertName(inputs.cert_path)));
-    if let (Some(cert), Ok(_)) = (CertText::of(inputs), doc.top) {
+    let cert = inputs.cert.and_then(|cert| std::str::from_utf8(cert).ok());
+    if let (Some(cert), Ok(_)) = (cert, doc.top) {
         add_differences(out, doc, cert);
     }
     out.add("Have plan make a new certificate, or give the units that it was made for.\n");
-}
-
-/// Tells that the order of a certificate doesn't name each unit once.
-fn tell_order(out: &mut Draft, inputs: &Inputs<'_>) {
-    let name = CertName(inputs.cert_path);
-    out.add(format_args!("{name} does not name each unit once in its line order.\n"));
-    if let Some(cert) = inputs.cert {
-        add_line(
-            out,
-            cert,
-            CertText::of(inputs).map_or(0, CertText::order_line),
-        );
-    }
 }
 
 /// Ends a sentence with the number of a line of a certificate, from 0, if it is known, and adds the line.
@@ -46,7 +38,8 @@ fn add_line_of(out: &mut Draft, inputs: &Inputs<'_>, line: Option<usize>) {
 /// Tells what is wrong with a node of a certificate's tree, from 0, and its line.
 fn tell_node<D: Display + Drop>(out: &mut Draft, inputs: &Inputs<'_>, node: usize, fault: D) {
     let name = CertName(inputs.cert_path);
-    let line = CertText::of(inputs).map(|cert| cert.node_line(node));
+    let tree = line_of(inputs, b"tree");
+    let line = tree.map(|tree| tree.saturating_add(1).saturating_add(node));
     out.add(format_args!(
         "{name} does not show what it says: node {node} of its tree, from 0, {fault}"
     ));
@@ -64,15 +57,15 @@ fn add_outlook(out: &mut Draft, alloc: Global, units: &[u8]) {
 
 /// Tells that a certificate holds no plan.
 pub fn tell_no_plan(out: &mut Draft, alloc: Global, inputs: &Inputs<'_>) {
-    let is_open = CertText::of(inputs).map(CertText::is_open);
-    let why = match is_open {
-        Some(true) => "is that of a search that has found no plan so far",
-        Some(false) => "shows that there is no plan",
+    let is_open = line_of(inputs, b"O").is_some();
+    let why = match inputs.cert {
+        Some(_) if is_open => "is that of a search that has found no plan so far",
+        Some(_) => "shows that there is no plan",
         None => "holds no plan",
     };
     let name = CertName(inputs.cert_path);
     out.add(format_args!("{name} is right, and {why}: there is nothing to tell.\n"));
-    if is_open == Some(true) {
+    if is_open {
         add_outlook(out, alloc, inputs.units);
     }
 }
@@ -93,7 +86,12 @@ pub fn tell_check(out: &mut Draft, inputs: &Inputs<'_>, doc: Doc<'_>, fault: Che
     match fault {
         CheckFault::OutOfMemory => tell_memory(out, inputs),
         CheckFault::OtherUnits => tell_others(out, inputs, doc),
-        CheckFault::Order => tell_order(out, inputs),
+        CheckFault::Order => {
+            out.add(format_args!("{name} does not name each unit once in its line order.\n"));
+            if let (Some(cert), Some(line)) = (inputs.cert, line_of(inputs, b"order")) {
+                add_line(out, cert, line);
+            }
+        }
         CheckFault::Plan(illegal) => {
             out.add(format_args!("{name} has a plan that is not legal.\n"));
             add_illegal(out, doc, illegal);
@@ -105,7 +103,7 @@ pub fn tell_check(out: &mut Draft, inputs: &Inputs<'_>, doc: Doc<'_>, fault: Che
             out.add(format_args!(
                 "{name} states the level {level}, and the busiest tick of its plan costs {value} bytes"
             ));
-            add_line_of(out, inputs, CertText::of(inputs).map(CertText::level_line));
+            add_line_of(out, inputs, line_of(inputs, b"level"));
             out.add(
                 "A level is what the busiest tick of each plan costs at least, so it is at most that.\n",
             );
@@ -119,9 +117,6 @@ pub fn tell_check(out: &mut Draft, inputs: &Inputs<'_>, doc: Doc<'_>, fault: Che
         }
         CheckFault::Leaf(node) => {
             tell_node(out, inputs, node, "is a leaf whose reason does not hold");
-            if let Some(cert) = CertText::of(inputs) {
-                add_leaf_fault(out, doc, cert, node);
-            }
         }
     }
 }

@@ -3,8 +3,6 @@
 
 mod certs;
 mod checks;
-mod due;
-mod leaves;
 mod others;
 
 pub use certs::tell_cert;

@@ -1,44 +1,58 @@
 //! A certificate of other units: which unit differs, and how.
 
-use crate::due::CertText;
 use ec_cli_spots::{Bytes, Doc, Fields, Named, Quoted, bytes_of};
 use ec_text_builder::Draft;
 use ec_unit_text::Key;
 
-/// A unit as a certificate has it.
-#[derive(Clone, Copy)]
-struct CertUnit<'a> {
-    name: &'a str,
-    bytes: i64,
-    period: i64,
-}
+/// A unit by its name, its bytes and its period.
+type Listed<'a> = (&'a str, i128, i64);
 
-/// The number that a word is.
-fn number_of(word: Option<&str>) -> Option<i64> {
-    word?.parse::<i64>().ok()
+/// The unit of the file with this number, from 0.
+fn our_unit(doc: Doc<'_>, unit: usize) -> Option<Listed<'_>> {
+    let table = doc.unit(Some(unit));
+    let bytes = bytes_of(doc.slaves(Some(unit)));
+    Some((table.text(Key::Name)?, bytes, table.number(Key::Period)?))
 }
 
 /// The unit of a certificate with this number, from 0.
-fn cert_unit(cert: CertText<'_>, unit: usize) -> Option<CertUnit<'_>> {
-    let line = cert.line(unit.saturating_add(2))?;
+fn cert_unit(cert: &str, unit: usize) -> Option<Listed<'_>> {
+    let line = cert.split('\n').nth(unit.saturating_add(2))?;
     let mut words = line.strip_prefix("unit ")?.split(' ');
-    Some(CertUnit {
-        name: words.next()?,
-        bytes: number_of(words.next())?,
-        period: number_of(words.next())?,
-    })
+    let name = words.next()?;
+    let bytes = words.next()?.parse::<i64>().ok()?;
+    let period = words.next()?.parse::<i64>().ok()?;
+    Some((name, i128::from(bytes), period))
 }
 
-/// Whether the certificate has a unit of this name.
-fn is_in_cert(cert: CertText<'_>, name: &str) -> bool {
-    (0..cert.units).any(|unit| cert_unit(cert, unit).is_some_and(|it| it.name == name))
+/// How many units a certificate has.
+fn count_units(cert: &str) -> usize {
+    let lines = cert.split('\n').skip(2);
+    lines.take_while(|line| line.starts_with("unit ")).count()
 }
 
-/// Whether the file has a unit of this name.
-fn is_in_file(doc: Doc<'_>, name: &str) -> bool {
-    doc.units()
-        .iter()
-        .any(|unit| Fields::of(unit).text(Key::Name) == Some(name))
+/// The unit of a certificate with this name.
+fn cert_named<'a>(cert: &'a str, name: &str) -> Option<Listed<'a>> {
+    let mut units = (0..count_units(cert)).filter_map(|unit| cert_unit(cert, unit));
+    units.find(|unit| unit.0 == name)
+}
+
+/// Whether file and certificate have the same units, in whatever order.
+fn have_same_units(doc: Doc<'_>, cert: &str) -> bool {
+    let count = doc.units().len();
+    let mut units = (0..count).map(|unit| our_unit(doc, unit));
+    count == count_units(cert)
+        && units.all(|ours| ours.is_some_and(|ours| cert_named(cert, ours.0) == Some(ours)))
+}
+
+/// The line of the certificate that says the slots, where the file says other ones.
+fn other_slots<'a>(doc: Doc<'_>, cert: &'a str) -> Option<&'a str> {
+    let line = cert.split('\n').nth(1)?;
+    let slots = line
+        .strip_prefix("slots ")
+        .unwrap_or("")
+        .parse::<i64>()
+        .ok();
+    Some(line).filter(|_| slots != doc.top().number(Key::Slots))
 }
 
 /// Adds that the certificate has a unit which the file has not.
@@ -47,48 +61,30 @@ fn add_missing(out: &mut Draft, name: &str) {
     out.add(format_args!("The certificate has another unit {name}, which the file has not.\n"));
 }
 
-/// Whether a unit of the file has the bytes and the period of one of the certificate.
-fn is_like(doc: Doc<'_>, unit: usize, theirs: CertUnit<'_>) -> bool {
-    bytes_of(doc.slaves(Some(unit))) == i128::from(theirs.bytes)
-        && doc.unit(Some(unit)).number(Key::Period) == Some(theirs.period)
-}
-
-/// Whether a unit of the file is one of the certificate, wherever it stands there.
-fn has_like(doc: Doc<'_>, unit: usize, cert: CertText<'_>) -> bool {
-    let name = doc.unit(Some(unit)).text(Key::Name);
-    (0..cert.units).any(|at| {
-        cert_unit(cert, at).is_some_and(|theirs| name == Some(theirs.name)
-            && is_like(doc, unit, theirs))
-    })
-}
-
-/// Whether file and certificate have the same units, in whatever order.
-fn have_same_units(doc: Doc<'_>, cert: CertText<'_>) -> bool {
-    let count = doc.units().len();
-    count == cert.units && (0..count).all(|unit| has_like(doc, unit, cert))
-}
-
-/// The line of the certificate that says the slots, where the file says other ones.
-fn other_slots<'a>(doc: Doc<'_>, cert: CertText<'a>) -> Option<&'a str> {
-    let line = cert.line(1)?;
-    let slots = number_of(line.strip_prefix("slots "));
-    Some(line).filter(|_| slots != doc.top().number(Key::Slots))
-}
-
-/// Adds that a unit of the file is another than that of the certificate: one is new or gone, or each is elsewhere or has another name.
-fn add_other(out: &mut Draft, doc: Doc<'_>, unit: usize, cert: CertText<'_>, theirs: CertUnit<'_>) {
-    let name = doc.unit(Some(unit)).text(Key::Name);
-    let is_new = !name.is_some_and(|name| is_in_cert(cert, name));
+/// Adds that a unit of the file has another name than that of the certificate: one is new or gone, or each is elsewhere or has another name.
+fn add_other(
+    out: &mut Draft,
+    doc: Doc<'_>,
+    unit: usize,
+    cert: &str,
+    both: (Listed<'_>, Listed<'_>),
+) {
+    let ((name, bytes, period), theirs) = both;
+    let is_new = cert_named(cert, name).is_none();
+    let mut names = doc
+        .units()
+        .iter()
+        .map(|unit| Fields::of(unit).text(Key::Name));
     let ours = Named(doc, unit, None);
-    match (is_new, is_in_file(doc, theirs.name)) {
+    match (is_new, names.any(|name| name == Some(theirs.0))) {
         (true, true) => out.add(format_args!("{ours} is not in the certificate.\n")),
-        (false, false) => add_missing(out, theirs.name),
-        (is_new, _) => {
-            let name = Quoted(theirs.name);
+        (false, false) => add_missing(out, theirs.0),
+        _ => {
+            let name = Quoted(theirs.0);
             out.add(format_args!("{ours} stands where the certificate has unit {name}.\n"));
             if is_new
-                && is_like(doc, unit, theirs)
-                && doc.units().len() == cert.units
+                && (bytes, period) == (theirs.1, theirs.2)
+                && doc.units().len() == count_units(cert)
                 && other_slots(doc, cert).is_none()
             {
                 out.add(format_args!(
@@ -104,46 +100,29 @@ fn add_other(out: &mut Draft, doc: Doc<'_>, unit: usize, cert: CertText<'_>, the
     }
 }
 
-/// Adds how a unit of the file differs from that of the certificate, if there is one, and says whether it does.
-fn add_difference(out: &mut Draft, doc: Doc<'_>, unit: usize, cert: CertText<'_>) -> bool {
-    let ours = Named(doc, unit, None);
-    let Some(theirs) = cert_unit(cert, unit) else {
-        out.add(format_args!("{ours} is not in the certificate.\n"));
-        return true;
-    };
-    let table = doc.unit(Some(unit));
-    let bytes = bytes_of(doc.slaves(Some(unit)));
-    let period = table.number(Key::Period).unwrap_or(0);
-    if table.text(Key::Name) != Some(theirs.name) {
-        add_other(out, doc, unit, cert, theirs);
-    } else if bytes != i128::from(theirs.bytes) {
-        let other = theirs.bytes;
-        out.add(format_args!("{ours} has {bytes} bytes, in the certificate {other}.\n"));
-    } else if period != theirs.period {
-        let other = theirs.period;
-        out.add(format_args!("{ours} has period {period}, in the certificate {other}.\n"));
-    } else {
-        return false;
+/// Adds how file and certificate differ in the unit with this number, from 0, if one of them has it, and says whether they do.
+fn add_difference(out: &mut Draft, doc: Doc<'_>, unit: usize, cert: &str) -> bool {
+    let name = Named(doc, unit, None);
+    match (our_unit(doc, unit), cert_unit(cert, unit)) {
+        (Some(ours), Some(theirs)) if ours.0 != theirs.0 => {
+            add_other(out, doc, unit, cert, (ours, theirs));
+        }
+        (Some((_, bytes, _)), Some((_, other, _))) if bytes != other => {
+            out.add(format_args!("{name} has {bytes} bytes, in the certificate {other}.\n"));
+        }
+        (Some((_, _, period)), Some((_, _, other))) if period != other => {
+            out.add(format_args!("{name} has period {period}, in the certificate {other}.\n"));
+        }
+        (Some(_), None) => out.add(format_args!("{name} is not in the certificate.\n")),
+        (None, Some(theirs)) => add_missing(out, theirs.0),
+        _ => return false,
     }
     true
 }
 
-/// Adds the first unit that differs, if one does, or that only one of the two has.
-fn add_first(out: &mut Draft, doc: Doc<'_>, cert: CertText<'_>) {
-    let count = doc.units().len();
-    for unit in 0..count {
-        if add_difference(out, doc, unit, cert) {
-            return;
-        }
-    }
-    if let Some(theirs) = cert_unit(cert, count) {
-        add_missing(out, theirs.name);
-    }
-}
-
-/// Adds what differs between the file's units and those of a certificate.
-pub(crate) fn add_differences(out: &mut Draft, doc: Doc<'_>, cert: CertText<'_>) {
-    let (ours, theirs) = (doc.units().len(), cert.units);
+/// Adds what differs between the file's units and those of a certificate, of single units the first.
+pub(crate) fn add_differences(out: &mut Draft, doc: Doc<'_>, cert: &str) {
+    let (ours, theirs) = (doc.units().len(), count_units(cert));
     if let Some(line) = other_slots(doc, cert) {
         let slots = doc.top().number(Key::Slots).unwrap_or(0);
         out.add(format_args!(
@@ -155,5 +134,9 @@ pub(crate) fn add_differences(out: &mut Draft, doc: Doc<'_>, cert: CertText<'_>)
         let noun = if ours == 1 { "unit" } else { "units" };
         out.add(format_args!("The file has {ours} {noun}, the certificate {theirs}.\n"));
     }
-    add_first(out, doc, cert);
+    for unit in 0..ours.saturating_add(1) {
+        if add_difference(out, doc, unit, cert) {
+            return;
+        }
+    }
 }
