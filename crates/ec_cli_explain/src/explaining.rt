@@ -16,10 +16,7 @@ use std::alloc::{AllocError, Global};
 fn is_ascii(path: Option<&str>) -> bool
     ensures { IsTrue result ↔ IfSome path.entry (λ p. IsAscii p.now) }
 {
-    match path {
-        Some(path) => path.is_ascii(),
-        None => true,
-    }
+    path.is_none_or(|path| path.is_ascii())
 }
 
 /// Whether the units and the path that a refusal is told of are ASCII.

@@ -2,7 +2,6 @@
 #![tactic(auto)]
 
 mod explaining;
-mod paths;
 mod plain;
 mod sheet;
 mod telling;

@@ -30,11 +30,6 @@ fn told_letter(letter: char) -> char
     }
 }
 
-/// Whether a line has more columns than are told.
-fn is_long(line: &str) -> bool {
-    line.chars().filter(|letter| *letter != PIECE).count() > COLUMNS
-}
-
 impl Sheet {
     /// No line; takes no memory.
     pub(crate) fn new(alloc: Global) -> Sheet {
@@ -101,7 +96,8 @@ impl Sheet {
 
     /// Adds a line.
     pub(crate) fn add_line(&mut self, line: &str) -> Result<(), AllocError> {
-        if is_long(line) && line.contains(PIECE) {
+        let columns = line.chars().filter(|letter| *letter != PIECE).count();
+        if columns > COLUMNS && line.contains(PIECE) {
             self.add_parts(line)?;
         } else {
             self.add_cut(line)?;

@@ -1,15 +1,38 @@
 //! What is told of each refusal.
 
-use crate::paths::{tell_read, tell_write};
 use ec_cli_cert_hints::{tell_cert, tell_check, tell_no_plan};
 use ec_cli_refusals::Refusal;
-use ec_cli_spots::{Doc, Inputs};
+use ec_cli_spots::{Bytes, CertName, Doc, Inputs};
 use ec_cli_toml_hints::{add_marked, tell_large, tell_not_toml};
 use ec_cli_unit_hints::{tell_illegal, tell_no_place, tell_units};
 use ec_outcome::{PlayFault, SolveFault};
 use ec_text_builder::Draft;
 use ec_unit_text::UnitFault;
 use std::alloc::{AllocError, Global};
+
+/// Adds why the system refused, if that is known.
+fn add_reason(out: &mut Draft, inputs: &Inputs<'_>) {
+    if let Some(reason) = inputs.reason {
+        out.add(format_args!(": {}", Bytes(reason.as_bytes(), 80)));
+    }
+    out.add(".\n");
+}
+
+/// Tells what couldn't be read, and why.
+fn tell_read(out: &mut Draft, inputs: &Inputs<'_>) {
+    match inputs.cert_path {
+        Some(_) => out.add(format_args!("{} cannot be read", CertName(inputs.cert_path))),
+        None => out.add("The units cannot be read from standard input"),
+    }
+    add_reason(out, inputs);
+}
+
+/// Tells that a file couldn't be written, and why.
+fn tell_write(out: &mut Draft, inputs: &Inputs<'_>) {
+    out.add("The file cannot be written");
+    add_reason(out, inputs);
+    out.add("Give a path in a folder that is there and can be written.\n");
+}
 
 /// Tells what is refused, of units that are this document.
 fn tell(out: &mut Draft, inputs: &Inputs<'_>, doc: Doc<'_>, refusal: Refusal) {
