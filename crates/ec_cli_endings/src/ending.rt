@@ -9,7 +9,7 @@ use ec_cli_answers::{File, Told};
 use ec_cli_command::{Effort, Line, MOST_MINUTES, MOST_NODES};
 use ec_cli_explain::{Again, Asked, Cycle, Filed, Found, Written, advice, misread, unset_areas};
 use ec_cli_files::{FileFault, is_no_file};
-use ec_cli_paths::{Target, replaced_at, tell, tell_fault, tell_whole};
+use ec_cli_paths::{Host, Target, replaced_at, tell, tell_fault, tell_whole};
 use ec_cli_places::{lacks_place, legal_cost, placed_cost};
 use ec_cli_refusals::Refusal;
 use ec_loads::{Plan, busiest};
@@ -56,7 +56,7 @@ fn parts_of(line: &Line) -> u16 {
 }
 
 /// What was asked of a search, where that ended so.
-fn asked_of<R: Files + AllocGlobal>(rt: &R, line: &Line, effort: &Effort, told: &Told) -> Asked {
+fn asked_of(rt: &impl Host, line: &Line, effort: &Effort, told: &Told) -> Asked {
     if parts_of(line) > 1 && replaced_at(rt, line).is_none() {
         return Asked::Part;
     }
@@ -225,7 +225,7 @@ impl Own {
 }
 
 /// Tells that a plan whose busiest tick costs so many wire bytes doesn't fit into its ticks, if it doesn't.
-fn tell_unfit<R: AllocGlobal + Eprint>(rt: &R, cycle: Cycle<'_>, cost: u64) {
+fn tell_unfit(rt: &impl Host, cycle: Cycle<'_>, cost: u64) {
     let given = Found::Given(cost);
     if let Ok(text) = advice(rt.alloc(), given, Some(cycle), Filed::Unasked, Asked::Whole) {
         let _ = rt.eprint(text.as_str());
@@ -234,7 +234,7 @@ fn tell_unfit<R: AllocGlobal + Eprint>(rt: &R, cycle: Cycle<'_>, cost: u64) {
 
 /// Tells that the places of the units are another plan than that of a certificate, which costs so many wire bytes, if they are a legal
 /// one.
-fn tell_other<R: AllocGlobal + Eprint>(rt: &R, units: &Units, plan: &Plan, cost: u64) {
+fn tell_other(rt: &impl Host, units: &Units, plan: &Plan, cost: u64) {
     match placed_cost(rt.alloc(), units) {
         Some((_, own)) if own < cost => tell(rt, better_text(rt.alloc(), own, cost)),
         Some((own, _)) if own.places.as_slice() != plan.places.as_slice() => {
@@ -246,7 +246,7 @@ fn tell_other<R: AllocGlobal + Eprint>(rt: &R, units: &Units, plan: &Plan, cost:
 
 /// Tells of the plan of a job that doesn't search: that it doesn't fit into its ticks, if it doesn't, and, where it is that of a
 /// certificate, that the places of the units are another one, if they are.
-pub fn tell_given<R: AllocGlobal + Eprint>(rt: &R, line: &Line, plan: &Plan, units: &Units) {
+pub fn tell_given(rt: &impl Host, line: &Line, plan: &Plan, units: &Units) {
     let Some(cost) = legal_cost(units, plan) else {
         return;
     };
@@ -316,7 +316,7 @@ pub struct Done<'a> {
 
 /// Tells at the end of a job which number of its units is read otherwise than it looks, if one is, and why its file isn't at its
 /// path, or where it lies where standard output hasn't got the text.
-fn tell_end<R: Files + AllocGlobal + Eprint>(rt: &R, done: Done<'_>) {
+fn tell_end(rt: &impl Host, done: Done<'_>) {
     tell(rt, misread(rt.alloc(), done.record.text));
     match (done.target, done.fault, done.untold) {
         (Some(target), Some(fault), _) => tell_fault(rt, target, fault),
@@ -326,13 +326,7 @@ fn tell_end<R: Files + AllocGlobal + Eprint>(rt: &R, done: Done<'_>) {
 }
 
 /// Tells of the units' own places, beside those that were found; `keep` says whether a search was to keep them, if it could have.
-fn tell_own<R: AllocGlobal + Eprint>(
-    rt: &R,
-    told: &Told,
-    units: &Units,
-    own: Option<Own>,
-    keep: Option<bool>,
-) {
+fn tell_own(rt: &impl Host, told: &Told, units: &Units, own: Option<Own>, keep: Option<bool>) {
     if let Some(own) = own {
         tell(rt, own.text(rt.alloc()));
     }
@@ -352,8 +346,8 @@ fn tell_own<R: AllocGlobal + Eprint>(
 }
 
 /// Tells what a search or a merge found, where standard output hasn't got it, what to do next, and where the units' own places are better.
-fn tell_found<R: Files + AllocGlobal + Eprint>(
-    rt: &R,
+fn tell_found(
+    rt: &impl Host,
     told: &Told,
     done: Done<'_>,
     asked: Asked,
@@ -386,13 +380,13 @@ fn tell_found<R: Files + AllocGlobal + Eprint>(
 }
 
 /// Tells what came of certificates that were merged, as it is told of a search.
-pub fn tell_merged<R: Files + AllocGlobal + Eprint>(rt: &R, told: &Told, done: Done<'_>) {
+pub fn tell_merged(rt: &impl Host, told: &Told, done: Done<'_>) {
     tell_end(rt, done);
     tell_found(rt, told, done, Asked::Merged, Again::usual(), None);
 }
 
 /// Tells what came of the job of a line.
-fn tell_done<R: Files + AllocGlobal + Eprint>(rt: &R, line: &Line, told: &Told, done: Done<'_>) {
+fn tell_done(rt: &impl Host, line: &Line, told: &Told, done: Done<'_>) {
     tell_end(rt, done);
     if let Some(effort) = done.asked {
         let asked = asked_of(rt, line, &effort, told);
@@ -418,12 +412,7 @@ fn tell_done<R: Files + AllocGlobal + Eprint>(rt: &R, line: &Line, told: &Told, 
 /// Tells what came of a line: why standard output hasn't got the text, what a refusal means, why a file isn't at its path or
 /// where it lies, what was found where standard output hasn't got it, what would help a search that ended without a proof, where the
 /// units' own places are better, and of frames which addresses the units don't give. Where that can't be written or made, nothing is told.
-pub fn tell_line<R: Files + AllocGlobal + Eprint>(
-    rt: &R,
-    line: &Line,
-    told: &Result<Told, Refusal>,
-    done: Done<'_>,
-) {
+pub fn tell_line(rt: &impl Host, line: &Line, told: &Result<Told, Refusal>, done: Done<'_>) {
     tell_untold(rt, done.untold);
     match told {
         Ok(told) => tell_done(rt, line, told, done),

@@ -1,13 +1,11 @@
 //! Lines that the text of the units has and the unit text at a path of places has not, and the other way round.
 
-use crate::ending::Done;
-use ec_cli_explain::{TextLine, quoted_path};
-use ec_cli_files::{Content, KeepReason};
-use ec_cli_paths::{Target, tell};
+use ec_cli_explain::TextLine;
+use ec_cli_paths::{Host, tell};
 use ec_cli_places::{others_in, standing_text};
+use ec_cli_spots::PathPiece;
 use ec_text_builder::Draft;
 use std::alloc::{AllocError, Global};
-use std::rt::Files;
 
 /// What other lines mean for what is made of a text.
 const STALE: &str = "So frames of what stands there may be other ones.\n";
@@ -36,7 +34,7 @@ fn add_lines(out: &mut Draft, others: &[(usize, &[u8])]) {
 
 /// That these lines of the unit text that stood at a path are gone.
 fn gone_text(alloc: Global, path: &str, others: &[(usize, &[u8])]) -> Result<String, AllocError> {
-    let (path, lines) = (quoted_path(alloc, path)?, lines_of(others.len()));
+    let (path, lines) = (PathPiece(path), lines_of(others.len()));
     let mut out = Draft::new(alloc);
     out.add(format_args!("What stood at {path} had {lines} that the text of the units has not:\n"));
     add_lines(&mut out, others);
@@ -47,10 +45,13 @@ fn gone_text(alloc: Global, path: &str, others: &[(usize, &[u8])]) -> Result<Str
     out.finish()
 }
 
-/// Under which name that lies which stood at a path.
-pub(crate) fn old_text(alloc: Global, path: &str, old: &str) -> Result<String, AllocError> {
-    let (path, old) = (quoted_path(alloc, path)?, quoted_path(alloc, old)?);
-    format!(in alloc; "What stood at {path} lies at {old} now.\n")
+/// Tells under which name that lies which stood at a path.
+pub(crate) fn tell_old(rt: &impl Host, path: &str, old: &str) {
+    let (path, old) = (PathPiece(path), PathPiece(old));
+    tell(
+        rt,
+        format!(in rt.alloc(); "What stood at {path} lies at {old} now.\n"),
+    );
 }
 
 /// Adds that a text has these lines and the other hasn't.
@@ -67,7 +68,7 @@ fn stale_text(
     missing: &[(usize, &[u8])],
     beside: &[(usize, &[u8])],
 ) -> Result<String, AllocError> {
-    let path = quoted_path(alloc, path)?;
+    let path = PathPiece(path);
     let mut out = Draft::new(alloc);
     if !missing.is_empty() {
         add_others(&mut out, "The text of the units", missing);
@@ -84,41 +85,20 @@ fn stale_text(
 
 /// What is told once places were written over the unit text that stands at a path, where it has lines that the units' text hasn't. Nothing
 /// where that can't be read, or memory runs out over it.
-pub(crate) fn gone_at<R: Files + AllocGlobal>(
-    rt: &R,
-    target: Target<'_>,
-    done: Done<'_>,
-) -> Option<String> {
-    if target.content != Content::Units || target.is_own {
-        return None;
-    }
-    let text = standing_text(rt, rt.alloc(), target.path)?;
-    let others = others_in(rt.alloc(), text.as_slice(), done.record.text).ok()?;
+pub(crate) fn gone_at(rt: &impl Host, path: &str, units: &[u8]) -> Option<String> {
+    let text = standing_text(rt, rt.alloc(), path)?;
+    let others = others_in(rt.alloc(), text.as_slice(), units).ok()?;
     if others.is_empty() {
         return None;
     }
-    gone_text(rt.alloc(), target.path, others.as_slice()).ok()
+    gone_text(rt.alloc(), path, others.as_slice()).ok()
 }
 
 /// How the unit text at a path differs from the units' text, as it is told.
-fn stale_at<R: Files + AllocGlobal>(rt: &R, target: Target<'_>, done: Done<'_>) -> Option<String> {
+pub(crate) fn stale_at(rt: &impl Host, path: &str, units: &[u8]) -> Option<String> {
     let alloc = rt.alloc();
-    let text = standing_text(rt, alloc, target.path)?;
-    let missing = others_in(alloc, done.record.text, text.as_slice()).ok()?;
-    let beside = others_in(alloc, text.as_slice(), done.record.text).ok()?;
-    stale_text(alloc, target.path, missing.as_slice(), beside.as_slice()).ok()
-}
-
-/// Tells how the unit text at a path differs from the units' text, where its cheaper places stay for this reason.
-pub(crate) fn tell_stale<R: Files + AllocGlobal + Eprint>(
-    rt: &R,
-    target: Target<'_>,
-    done: Done<'_>,
-    why: KeepReason,
-) {
-    if why == KeepReason::Cheaper
-        && let Some(text) = stale_at(rt, target, done)
-    {
-        tell(rt, Ok(text));
-    }
+    let text = standing_text(rt, alloc, path)?;
+    let missing = others_in(alloc, units, text.as_slice()).ok()?;
+    let beside = others_in(alloc, text.as_slice(), units).ok()?;
+    stale_text(alloc, path, missing.as_slice(), beside.as_slice()).ok()
 }

@@ -5,7 +5,7 @@ use ec_cert_text::{CertFault, MOST_BYTES};
 use ec_checker::CheckFault;
 use ec_cli_explain::{Inputs, explain};
 use ec_cli_files::read_file;
-use ec_cli_paths::{reason_at, tell_unread};
+use ec_cli_paths::{Host, reason_at, tell_unread};
 use ec_cli_refusals::Refusal;
 use std::alloc::AllocError;
 use std::io::Read;
@@ -51,7 +51,7 @@ fn is_of_cert(refusal: &Refusal) -> bool {
 }
 
 /// The certificate at a path that a refusal is about, if it can be read again.
-fn cert_for<R: Files + AllocGlobal>(rt: &R, refusal: &Refusal, path: &str) -> Option<Vec<u8>> {
+fn cert_for(rt: &impl Host, refusal: &Refusal, path: &str) -> Option<Vec<u8>> {
     if !is_of_cert(refusal) {
         return None;
     }
@@ -61,8 +61,8 @@ fn cert_for<R: Files + AllocGlobal>(rt: &R, refusal: &Refusal, path: &str) -> Op
 }
 
 /// What there is to tell of a refusal.
-fn refusal_text<'x, R: Files + AllocGlobal>(
-    rt: &R,
+fn refusal_text<'x>(
+    rt: &impl Host,
     refusal: &Refusal,
     cert_path: Option<&'x String>,
     record: Record<'x>,
@@ -85,8 +85,8 @@ fn refusal_text<'x, R: Files + AllocGlobal>(
 }
 
 /// Tells what a refusal means: of the units, or of the certificate that was to be read. Where that can't be written or made, nothing is.
-pub fn tell_refusal<'x, R: Files + AllocGlobal + Eprint>(
-    rt: &R,
+pub fn tell_refusal<'x>(
+    rt: &impl Host,
     refusal: &Refusal,
     cert: Option<&'x String>,
     record: Record<'x>,

@@ -1,14 +1,13 @@
 //! What the lines of a certificate say before its tree.
 
-use crate::telling::tell;
-use ec_cli_explain::quoted_path;
+use crate::telling::{Host, tell};
 use ec_cli_files::{
     MOST_HEAD, Others, has_level, is_proof, names_in, others_by, read_file, unit_names,
 };
+use ec_cli_spots::PathPiece;
 use ec_units::{Units, bytes_of};
 use std::alloc::{AllocError, Global};
 use std::fmt::Write as _;
-use std::rt::Files;
 
 /// How the certificate of a search by the strong rules begins.
 const STRONG: &[u8] = b"ecplan 4\n";
@@ -30,7 +29,7 @@ pub(crate) struct Head(Vec<u8>);
 
 impl Head {
     /// Those of the certificate at a path, if they can be read.
-    pub(crate) fn at<H: Files + AllocGlobal>(rt: &H, path: &str) -> Option<Head> {
+    pub(crate) fn at(rt: &impl Host, path: &str) -> Option<Head> {
         Some(Head(read_file(rt, rt.alloc(), path, MOST_HEAD).ok()??))
     }
 
@@ -53,7 +52,7 @@ impl Head {
 }
 
 /// Whether the certificate at a path, which was found right, is a proof: it has no level.
-pub fn is_proof_at<H: Files + AllocGlobal>(rt: &H, path: &str) -> bool {
+pub fn is_proof_at(rt: &impl Host, path: &str) -> bool {
     Head::at(rt, path).is_some_and(|head| is_proof(&head.0))
 }
 
@@ -68,40 +67,33 @@ fn unit_lines(alloc: Global, units: &Units) -> Result<String, AllocError> {
     Ok(lines)
 }
 
-/// That what is of other units makes room at the path of an option, and what becomes of it then, or stays, being of another line.
-fn others_text(
-    alloc: Global,
+/// Tells that what is of other units makes room at the path of an option, and what becomes of it then, or stays, being of another line.
+fn tell_others(
+    rt: &impl Host,
     path: &str,
     (what, then): (&str, &str),
     option: &str,
     others: Others,
-) -> Result<String, AllocError> {
-    let path = quoted_path(alloc, path)?;
-    match others {
-        Others::Units => format!(in alloc;
+) {
+    let path = PathPiece(path);
+    let text = match others {
+        Others::Units => format!(in rt.alloc();
             "{path} holds {what} of other units, and this run may put its own there.\n{then}.\n"
         ),
-        Others::Line => format!(in alloc;
+        Others::Line => format!(in rt.alloc();
             "{path} holds {what} of another line, by the names of its units, and keeps it: give another {option}.\n"
         ),
-    }
+    };
+    tell(rt, text);
 }
 
 /// Tells, before a run that writes a unit text to a path, that one of other units stands there.
-pub fn tell_other_text<H: AllocGlobal + Eprint>(rt: &H, path: &str, others: Others) {
-    tell(
-        rt,
-        others_text(rt.alloc(), path, ("a text", TEXT_THEN), "--places", others),
-    );
+pub fn tell_other_text(rt: &impl Host, path: &str, others: Others) {
+    tell_others(rt, path, ("a text", TEXT_THEN), "--places", others);
 }
 
-/// What is told of the certificate that begins so, at a path to which one for these units is written: nothing where it is for them.
-fn cert_text(
-    alloc: Global,
-    head: &Head,
-    path: &str,
-    units: &Units,
-) -> Result<Option<String>, AllocError> {
+/// How the units of the certificate that begins so differ from these; none where it is for them.
+fn others_in(alloc: Global, head: &Head, units: &Units) -> Result<Option<Others>, AllocError> {
     let lines = unit_lines(alloc, units)?;
     let (these, those) = (names_in(alloc, &head.0)?, unit_names(alloc, units)?);
     let others = others_by(these.as_slice(), those.as_slice());
@@ -110,23 +102,20 @@ fn cert_text(
         Some(rest) => rest.starts_with(lines.as_bytes()),
         None => others == Others::Units,
     };
-    if is_own {
-        return Ok(None);
-    }
+    Ok(Some(others).filter(|_| !is_own))
+}
+
+/// Tells, before a run that writes a certificate to a path, that one of other units stands there, if one does.
+pub fn tell_other_units(rt: &impl Host, path: &str, units: &Units) {
+    let Some(head) = Head::at(rt, path) else {
+        return;
+    };
     let what = if is_proof(&head.0) {
         ("a proof", PROOF_THEN)
     } else {
         ("a certificate", CERT_THEN)
     };
-    Ok(Some(others_text(alloc, path, what, "--out", others)?))
-}
-
-/// Tells, before a run that writes a certificate to a path, that one of other units stands there, if one does.
-pub fn tell_other_units<H: Files + AllocGlobal + Eprint>(rt: &H, path: &str, units: &Units) {
-    let Some(head) = Head::at(rt, path) else {
-        return;
-    };
-    if let Ok(Some(text)) = cert_text(rt.alloc(), &head, path, units) {
-        tell(rt, Ok(text));
+    if let Ok(Some(others)) = others_in(rt.alloc(), &head, units) {
+        tell_others(rt, path, what, "--out", others);
     }
 }

@@ -1,9 +1,8 @@
 //! The files that a run reads, looked at before it: standard output may not go to one.
 
-use crate::telling::{tell, tell_path};
+use crate::telling::{Host, tell, tell_path};
 use ec_cli_files::are_same_file;
 use std::fs;
-use std::rt::Files;
 
 /// What is told before the path of a file that is read, and to which standard output goes.
 const GOES_TO: &str = "Standard output goes to";
@@ -20,7 +19,7 @@ const IS_EMPTY: &str =
 const STDIN: &str = "/dev/stdin";
 
 /// Tells that standard output goes to the file at a path, or without one to that of standard input.
-fn tell_taken<H: AllocGlobal + Eprint>(rt: &H, path: Option<&str>, why: &str) {
+fn tell_taken(rt: &impl Host, path: Option<&str>, why: &str) {
     match path {
         Some(path) => tell_path(rt, GOES_TO, path, why),
         None => tell(
@@ -32,7 +31,7 @@ fn tell_taken<H: AllocGlobal + Eprint>(rt: &H, path: Option<&str>, why: &str) {
 
 /// Whether standard output goes to the file at a path, or without one to that of standard input, which is read; tells that. The text
 /// would stand in what is read then.
-pub fn takes_text<H: Files + AllocGlobal + Eprint>(rt: &H, path: Option<&str>) -> bool {
+pub fn takes_text(rt: &impl Host, path: Option<&str>) -> bool {
     let at = path.unwrap_or(STDIN);
     let Ok(found) = fs::metadata(rt, at) else {
         return false;

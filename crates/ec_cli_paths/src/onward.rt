@@ -4,11 +4,12 @@
 ghost use Rattle.ec_cli_command.specs.Words.{JobFits, job_of};
 
 use crate::heads::Head;
-use crate::telling::tell;
+use crate::telling::{Host, tell};
 use ec_cert_text::MOST_BYTES;
 use ec_cli_command::Line;
-use ec_cli_explain::{quoted_path, room_beside};
+use ec_cli_explain::room_beside;
 use ec_cli_files::are_one;
+use ec_cli_spots::PathPiece;
 use std::alloc::{AllocError, Global};
 use std::fs;
 use std::rt::Files;
@@ -21,7 +22,7 @@ struct Room<'a> {
 }
 
 /// The room beside the certificate at a path, unless it isn't a file, is too large to be read, or is a proof: no search goes on with these.
-fn room_at<'a, H: Files + AllocGlobal>(rt: &H, path: &'a str) -> Option<Room<'a>> {
+fn room_at<'a>(rt: &impl Host, path: &'a str) -> Option<Room<'a>> {
     let bytes = fs::metadata(rt, path).ok()?.len();
     let head = Head::at(rt, path).filter(|_| bytes <= MOST_BYTES as u64)?;
     let room = Room {
@@ -32,7 +33,7 @@ fn room_at<'a, H: Files + AllocGlobal>(rt: &H, path: &'a str) -> Option<Room<'a>
 }
 
 /// The room of a search that a line asks for.
-fn room_of<'a, H: Files + AllocGlobal>(rt: &H, line: &'a Line) -> Option<Room<'a>> {
+fn room_of<'a>(rt: &impl Host, line: &'a Line) -> Option<Room<'a>> {
     match line {
         Line::Plan { strong, .. } => Some(Room {
             nodes: room_beside(0, *strong),
@@ -48,7 +49,7 @@ fn bytes_text(alloc: Global, room: Room<'_>) -> Result<String, AllocError> {
     let Some((path, bytes)) = room.beside else {
         return format!(in alloc; "At most {MOST_BYTES} bytes of a certificate are read.\n");
     };
-    let path = quoted_path(alloc, path)?;
+    let path = PathPiece(path);
     format!(in alloc;
         "The certificate {path} has {bytes} bytes, and at most {MOST_BYTES} are read.\n"
     )
@@ -78,12 +79,15 @@ fn room_text(alloc: Global, room: Room<'_>, is_asked: bool) -> Result<String, Al
     }
 }
 
-/// That a part of a certificate takes its place.
-fn replaced_text(alloc: Global, cert: &str) -> Result<String, AllocError> {
-    let path = quoted_path(alloc, cert)?;
-    format!(in alloc;
-        "Parts are those of the open leaves of {path}, and what this part finds is written over it.\nThe other parts can be made only of a copy from before: give each part an --out of its own.\n"
-    )
+/// Tells that a part of a certificate takes its place.
+fn tell_replaced(rt: &impl Host, cert: &str) {
+    let path = PathPiece(cert);
+    tell(
+        rt,
+        format!(in rt.alloc();
+            "Parts are those of the open leaves of {path}, and what this part finds is written over it.\nThe other parts can be made only of a copy from before: give each part an --out of its own.\n"
+        ),
+    );
 }
 
 /// The path of the certificate that a search goes on with, where its own takes that place and is a part of it (own profile).
@@ -100,7 +104,7 @@ pub fn replaced_at<'a, F: Files>(files: &F, line: &'a Line) -> Option<&'a str> {
 }
 
 /// How many nodes leave a certificate that can be read of the search of a line, where it would visit more; tells that.
-fn most_nodes<H: Files + AllocGlobal + Eprint>(rt: &H, line: &Line, is_asked: bool) -> Option<u32> {
+fn most_nodes(rt: &impl Host, line: &Line, is_asked: bool) -> Option<u32> {
     let effort = line.effort().filter(|_| line.out().is_some())?;
     let room = room_of(rt, line)?;
     if u64::from(effort.nodes) <= room.nodes {
@@ -112,13 +116,13 @@ fn most_nodes<H: Files + AllocGlobal + Eprint>(rt: &H, line: &Line, is_asked: bo
 
 /// Tells, before a search, that its certificate may have more bytes than are read, and that it is a part of the one whose place it takes.
 /// Where no number of nodes is asked for, it visits no more than there is room for. Whether there is room for some.
-pub fn tell_onward<H: Files + AllocGlobal + Eprint>(rt: &H, line: &mut Line, is_asked: bool) -> bool
+pub fn tell_onward(rt: &impl Host, line: &mut Line, is_asked: bool) -> bool
     requires { JobFits (job_of line.old) }
     ensures { JobFits (job_of line.new) }
 {
     let most = most_nodes(rt, line, is_asked);
     if let Some(cert) = replaced_at(rt, line) {
-        tell(rt, replaced_text(rt.alloc(), cert));
+        tell_replaced(rt, cert);
     }
     match most {
         Some(nodes) if !is_asked && nodes > 0 => {

@@ -1,9 +1,9 @@
 //! What the words write to paths, looked at before the job.
 
-use crate::telling::{more_on, reason_at, tell};
+use crate::telling::{Host, more_on, reason_at, tell};
 use ec_cli_command::Line;
-use ec_cli_explain::quoted_path;
 use ec_cli_files::{Content, KeepReason, Late, are_one, are_same_file, is_no_file, reason_to_keep};
+use ec_cli_spots::PathPiece;
 use ec_cli_words::Words;
 use std::alloc::{AllocError, Global};
 use std::io;
@@ -41,15 +41,15 @@ pub fn target_at(path: &Option<String>, content: Content) -> Option<Target<'_>> 
 }
 
 /// Whether a path leads to the file of the units: the one at their path, else the one that standard input comes from.
-fn is_own_file<H: Files + AllocGlobal>(rt: &H, path: &str, units: Option<&str>) -> bool {
+fn is_own_file<F: Files>(files: &F, path: &str, units: Option<&str>) -> bool {
     match units {
-        Some(units) => are_one(rt, path, units),
-        None => are_same_file(rt, path, "/dev/stdin"),
+        Some(units) => are_one(files, path, units),
+        None => are_same_file(files, path, "/dev/stdin"),
     }
 }
 
 /// Whether a path leads to what is no file, and has the units at their path: what is written there would be read there.
-fn is_own_pipe<H: Files>(files: &H, path: &str, units: Option<&str>) -> bool {
+fn is_own_pipe<F: Files>(files: &F, path: &str, units: Option<&str>) -> bool {
     match units {
         Some(units) => is_no_file(files, path) && are_same_file(files, path, units),
         None => false,
@@ -89,7 +89,7 @@ fn named_targets(words: &Words) -> Targets<'_> {
 }
 
 /// What the words of a line write.
-pub fn targets_of<'a, H: Files + AllocGlobal>(rt: &H, words: &'a Words) -> Targets<'a> {
+pub fn targets_of<'a>(rt: &impl Host, words: &'a Words) -> Targets<'a> {
     let mut targets = named_targets(words);
     for i in 0..targets.len() {
         if let Some(target) = &mut targets[i] {
@@ -117,41 +117,46 @@ fn nameless_text(alloc: Global, target: Target<'_>) -> Result<String, AllocError
 const IS_UNITS: &str =
     "It is the file of the units: give another path. plan --places PATH writes a unit text";
 
-/// That what stands at a path is left as it is, and why.
-fn kept_text(alloc: Global, target: Target<'_>, why: KeepReason) -> Result<String, AllocError> {
-    let Target { path, content, .. } = target;
-    let (name, path) = (content.as_str(), quoted_path(alloc, path)?);
+/// Tells that what stands at a path is left as it is, and why.
+fn tell_kept(rt: &impl Host, target: Target<'_>, why: KeepReason) {
+    let (name, path) = (target.content.as_str(), PathPiece(target.path));
     let why = match why {
         KeepReason::HoldsElse if target.is_own => IS_UNITS,
         _ => why.as_str(),
     };
-    format!(in alloc; "The {name} is not written over the file {path}.\n{why}.\n")
+    tell(
+        rt,
+        format!(in rt.alloc(); "The {name} is not written over the file {path}.\n{why}.\n"),
+    );
 }
 
-/// That something isn't written to a pipe, since the units come from it.
-fn own_pipe_text(alloc: Global, target: Target<'_>) -> Result<String, AllocError> {
-    let (name, path) = (target.content.as_str(), quoted_path(alloc, target.path)?);
-    format!(in alloc;
-        "The {name} is not written to {path}.\nThe units come from there, and would take it up again: give another path.\n"
-    )
+/// Tells that something isn't written to a pipe, since the units come from it.
+fn tell_own_pipe(rt: &impl Host, target: Target<'_>) {
+    let (name, path) = (target.content.as_str(), PathPiece(target.path));
+    tell(
+        rt,
+        format!(in rt.alloc();
+            "The {name} is not written to {path}.\nThe units come from there, and would take it up again: give another path.\n"
+        ),
+    );
 }
 
 /// Whether nothing may be written to a path: it is empty or -, the units come from it and it is no file, or what stands there is left as
 /// it is; tells why. The units' own file is judged as the units are, and kept only where standard output or standard error goes to it.
-fn is_kept<H: Files + AllocGlobal + Eprint>(rt: &H, target: Target<'_>) -> bool {
+fn is_kept(rt: &impl Host, target: Target<'_>) -> bool {
     if matches!(target.path, "" | "-") {
         tell(rt, nameless_text(rt.alloc(), target));
         return true;
     }
     if target.is_read {
-        tell(rt, own_pipe_text(rt.alloc(), target));
+        tell_own_pipe(rt, target);
         return true;
     }
     match reason_to_keep(rt, rt.alloc(), target.path, target.content) {
         Some(why)
             if !target.takes_places() || matches!(why, KeepReason::IsOutput | KeepReason::IsTold) =>
             {
-                tell(rt, kept_text(rt.alloc(), target, why));
+                tell_kept(rt, target, why);
                 true
             }
         _ => false,
@@ -160,43 +165,26 @@ fn is_kept<H: Files + AllocGlobal + Eprint>(rt: &H, target: Target<'_>) -> bool 
 
 /// That two paths to write are one file.
 fn same_text(alloc: Global, one: &str, other: &str) -> Result<String, AllocError> {
-    let path = quoted_path(alloc, one)?;
-    let lead = format!(in alloc; "Two files are to be written to one path, {path}.\n")?;
+    let (path, same) = (PathPiece(one), PathPiece(other));
     if one == other {
-        return format!(in alloc; "{lead}Give each a path of its own.\n");
+        return format!(in alloc;
+            "Two files are to be written to one path, {path}.\nGive each a path of its own.\n"
+        );
     }
-    let other = quoted_path(alloc, other)?;
-    format!(in alloc; "{lead}{other} is the same file: give each a path of its own.\n")
-}
-
-/// Whether two paths to write are one file; tells that.
-fn are_same<H: Files + AllocGlobal + Eprint>(rt: &H, one: &str, other: &str) -> bool {
-    let is_one = are_one(rt, one, other);
-    if is_one {
-        tell(rt, same_text(rt.alloc(), one, other));
-    }
-    is_one
-}
-
-/// Whether a path to write, if it is there, is one of some others; tells that.
-fn is_among<H: Files + AllocGlobal + Eprint>(
-    rt: &H,
-    one: Option<Target<'_>>,
-    others: &[Option<Target<'_>>],
-) -> bool {
-    let Some(one) = one else {
-        return false;
-    };
-    others
-        .iter()
-        .flatten()
-        .any(|other| are_same(rt, one.path, other.path))
+    format!(in alloc;
+        "Two files are to be written to one path, {path}.\n{same} is the same file: give each a path of its own.\n"
+    )
 }
 
 /// Whether two of some paths to write are one file; tells that.
-fn has_same<H: Files + AllocGlobal + Eprint>(rt: &H, targets: &[Option<Target<'_>>]) -> bool {
+fn has_same(rt: &impl Host, targets: &[Option<Target<'_>>]) -> bool {
     for at in 0..targets.len() {
-        if is_among(rt, targets[at], &targets[at + 1..]) {
+        let Some(Target { path, .. }) = targets[at] else {
+            continue;
+        };
+        let mut others = targets[at + 1..].iter().flatten();
+        if let Some(other) = others.find(|other| are_one(rt, path, other.path)) {
+            tell(rt, same_text(rt.alloc(), path, other.path));
             return true;
         }
     }
@@ -205,30 +193,26 @@ fn has_same<H: Files + AllocGlobal + Eprint>(rt: &H, targets: &[Option<Target<'_
 
 /// Whether all that is to be written may be: none of the paths is one whose file is left as it is, and no two are one. Tells
 /// what is wrong. The file of `--places` may be the units' own.
-pub fn may_write<H: Files + AllocGlobal + Eprint>(rt: &H, targets: &[Option<Target<'_>>]) -> bool {
+pub fn may_write(rt: &impl Host, targets: &[Option<Target<'_>>]) -> bool {
     let is_any_kept = targets.iter().flatten().any(|target| is_kept(rt, *target));
     !is_any_kept && !has_same(rt, targets)
 }
 
 /// That a path can't be written, while a search goes on.
-fn unwritable_text<H: Files + AllocGlobal>(
-    rt: &H,
+fn unwritable_text(
+    rt: &impl Host,
     target: Target<'_>,
     why: io::Error,
 ) -> Result<String, AllocError> {
-    let alloc = rt.alloc();
-    let (name, path) = (target.content.as_str(), quoted_path(alloc, target.path)?);
+    let (name, path) = (target.content.as_str(), PathPiece(target.path));
     let (reason, more) = (reason_at(rt, target.path, why)?, more_on(why));
-    format!(in alloc;
+    format!(in rt.alloc();
         "A search tells its plan all the same, but the {name} cannot be written to {path}.\n{reason}.\n{more}"
     )
 }
 
 /// Tells that a path can't be written, if it can't.
-fn try_target<H: Files + AllocGlobal + Eprint>(
-    rt: &H,
-    target: Target<'_>,
-) -> Result<(), AllocError> {
+fn try_target(rt: &impl Host, target: Target<'_>) -> Result<(), AllocError> {
     let mut late = Late::new(rt, rt.alloc(), target.path, target.content)?;
     if let Err(why) = late.try_path() {
         tell(rt, unwritable_text(rt, target, why));
@@ -237,10 +221,7 @@ fn try_target<H: Files + AllocGlobal + Eprint>(
 }
 
 /// Tells which paths can't be written, before a search begins.
-pub fn try_targets<H: Files + AllocGlobal + Eprint>(
-    rt: &H,
-    targets: &Targets<'_>,
-) -> Result<(), AllocError> {
+pub fn try_targets(rt: &impl Host, targets: &Targets<'_>) -> Result<(), AllocError> {
     for target in targets.iter().flatten() {
         try_target(rt, *target)?;
     }

@@ -2,13 +2,18 @@
 
 use crate::targets::Target;
 use ec_cert_text::MOST_BYTES;
-use ec_cli_explain::{quoted_path, shown_text};
-use ec_cli_files::{Content, FileFault, KeepReason};
+use ec_cli_explain::shown_text;
+use ec_cli_files::{Content, FileFault, Folders, KeepReason};
+use ec_cli_spots::PathPiece;
 use std::alloc::{AllocError, Global};
 use std::fmt::Display;
 use std::io::ErrorKind;
-use std::rt::Files;
 use std::{fs, io};
+
+/// A runtime that reads and writes files, gives memory, and writes to standard error.
+pub trait Host: Folders + AllocGlobal + Eprint {}
+
+impl<R: Folders + AllocGlobal + Eprint> Host for R {}
 
 /// The system's number of an error: to give a file to another user or group isn't permitted.
 const NOT_PERMITTED: i32 = 1;
@@ -27,7 +32,7 @@ const NO_STREAM: &str = "No such file, since - stands for standard input for the
 const LONG_NAME: i32 = 36;
 
 /// Tells some sentences, with nothing in them but what a terminal shows as it stands.
-pub fn tell<R: AllocGlobal + Eprint>(rt: &R, sentences: Result<String, AllocError>) {
+pub fn tell(rt: &impl Host, sentences: Result<String, AllocError>) {
     let Ok(sentences) = sentences else {
         return;
     };
@@ -36,24 +41,9 @@ pub fn tell<R: AllocGlobal + Eprint>(rt: &R, sentences: Result<String, AllocErro
     }
 }
 
-/// A sentence that ends with a path, and in a line of its own why.
-fn path_text<W: Display + Drop>(
-    alloc: Global,
-    words: &str,
-    path: &str,
-    why: W,
-) -> Result<String, AllocError> {
-    let path = quoted_path(alloc, path)?;
-    format!(in alloc; "{words} {path}.\n{why}.\n")
-}
-
 /// Why the system refuses to read or to write a path; of a link that leads nowhere that it is one, of a word that is no path that it is
 /// none, and where no name is free for a new file that this is so.
-pub fn reason_at<R: Files + AllocGlobal>(
-    rt: &R,
-    path: &str,
-    why: io::Error,
-) -> Result<String, AllocError> {
+pub fn reason_at(rt: &impl Host, path: &str, why: io::Error) -> Result<String, AllocError> {
     let leads_nowhere = fs::symlink_metadata(rt, path).is_ok() && fs::metadata(rt, path).is_err();
     if why.kind() == ErrorKind::NotFound && leads_nowhere {
         return String::from_str(rt.alloc(), "It is a link to a file that isn't there");
@@ -68,7 +58,7 @@ pub fn reason_at<R: Files + AllocGlobal>(
 }
 
 /// Tells that the units at a path can't be read, and why.
-pub fn tell_unread<R: Files + AllocGlobal + Eprint>(rt: &R, path: &str, why: io::Error) {
+pub fn tell_unread(rt: &impl Host, path: &str, why: io::Error) {
     if let Ok(reason) = reason_at(rt, path, why) {
         tell_path(rt, "The units cannot be read from", path, reason);
     }
@@ -86,24 +76,20 @@ pub(crate) fn more_on(why: io::Error) -> &'static str {
     }
 }
 
-/// Tells a sentence that ends with a path, and why.
-pub fn tell_path<R: AllocGlobal + Eprint, W: Display + Drop>(
-    rt: &R,
-    words: &str,
-    path: &str,
-    why: W,
-) {
-    tell(rt, path_text(rt.alloc(), words, path, why));
+/// Tells a sentence that ends with a path, and in a line of its own why.
+pub fn tell_path<W: Display + Drop>(rt: &impl Host, words: &str, path: &str, why: W) {
+    let path = PathPiece(path);
+    tell(rt, format!(in rt.alloc(); "{words} {path}.\n{why}.\n"));
 }
 
 /// That a whole file lies at a path.
 fn whole_text(alloc: Global, content: Content, path: &str) -> Result<String, AllocError> {
-    let (name, path) = (content.as_str(), quoted_path(alloc, path)?);
+    let (name, path) = (content.as_str(), PathPiece(path));
     format!(in alloc; "The {name} is whole and lies at {path}.\n")
 }
 
 /// Tells that a whole file lies at its path. What is no file, as a pipe, isn't told.
-pub fn tell_whole<R: Files + AllocGlobal + Eprint>(rt: &R, target: Target<'_>) {
+pub fn tell_whole(rt: &impl Host, target: Target<'_>) {
     let Target { path, content, .. } = target;
     if fs::metadata(rt, path).is_ok_and(|found| found.is_file()) {
         tell(rt, whole_text(rt.alloc(), content, path));
@@ -123,21 +109,16 @@ fn kept_since(why: KeepReason) -> &'static str {
 }
 
 /// Why a file isn't at its path, and where it lies.
-fn fault_text<R: Files + AllocGlobal>(
-    rt: &R,
-    target: Target<'_>,
-    fault: &FileFault,
-) -> Result<String, AllocError> {
-    let alloc = rt.alloc();
-    let Target { path, content, .. } = target;
-    let (name, path) = (content.as_str(), quoted_path(alloc, path)?);
+fn fault_text(rt: &impl Host, target: Target<'_>, fault: &FileFault) -> Result<String, AllocError> {
+    let (alloc, content) = (rt.alloc(), target.content);
+    let (name, path) = (content.as_str(), PathPiece(target.path));
     match fault {
         FileFault::Unwritten { why } => {
             let (reason, more) = (reason_at(rt, target.path, *why)?, more_on(*why));
             format!(in alloc; "The {name} cannot be written to {path}.\n{reason}.\n{more}")
         }
         FileFault::Unsure { at, why } => {
-            let at = quoted_path(alloc, at.as_str())?;
+            let at = PathPiece(at.as_str());
             format!(in alloc;
                 "The {name} lies at {at}, and may not be whole: it cannot be synced, {why}.\nIt does not take the place of {path}.\n"
             )
@@ -165,6 +146,6 @@ fn fault_text<R: Files + AllocGlobal>(
 }
 
 /// Tells why a file isn't at its path, and where it lies.
-pub fn tell_fault<R: Files + AllocGlobal + Eprint>(rt: &R, target: Target<'_>, fault: &FileFault) {
+pub fn tell_fault(rt: &impl Host, target: Target<'_>, fault: &FileFault) {
     tell(rt, fault_text(rt, target, fault));
 }

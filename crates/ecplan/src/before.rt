@@ -2,7 +2,7 @@
 
 use ec_cli_command::Line;
 use ec_cli_files::{are_one, read_file};
-use ec_cli_paths::{tell_other_text, tell_other_units, tell_path};
+use ec_cli_paths::{Host, tell_other_text, tell_other_units, tell_path};
 use ec_cli_places::{others_at, unfit_text};
 use ec_unit_text::{MOST_BYTES, read_units};
 use ec_units::Units;
@@ -14,17 +14,17 @@ const UNPLACEABLE: &str =
 
 /// The path of the certificate that a search writes, unless it takes the place of the one that it goes on with: that is one of these units,
 /// or none is written.
-pub(crate) fn other_cert<'a, H: Files>(rt: &H, line: &'a Line) -> Option<&'a str> {
+pub(crate) fn other_cert<'a, F: Files>(files: &F, line: &'a Line) -> Option<&'a str> {
     line.effort()?;
     let out = line.out()?.as_str();
     match line.cert() {
-        Some(cert) if are_one(rt, cert.as_str(), out) => None,
+        Some(cert) if are_one(files, cert.as_str(), out) => None,
         _ => Some(out),
     }
 }
 
 /// Tells, before a run, that a text can't have places, or that one of other units stands where it is to be written with them.
-fn tell_of_places<H: Files + AllocGlobal + Eprint>(rt: &H, text: &[u8], units: &Units, to: &str) {
+fn tell_of_places(rt: &impl Host, text: &[u8], units: &Units, to: &str) {
     if let Some(why) = unfit_text(rt.alloc(), text, units) {
         return tell_path(rt, UNPLACEABLE, to, why);
     }
@@ -35,8 +35,8 @@ fn tell_of_places<H: Files + AllocGlobal + Eprint>(rt: &H, text: &[u8], units: &
 
 /// Tells, before a run that writes a certificate and a text with places to these paths, that the units at a path can't have places, and
 /// that a text or a certificate of other units stands there. Nothing of units that are refused, or can't be read twice.
-pub(crate) fn tell_of_units<H: Files + AllocGlobal + Eprint>(
-    rt: &H,
+pub(crate) fn tell_of_units(
+    rt: &impl Host,
     units: &Option<String>,
     cert: Option<&str>,
     places: Option<&String>,

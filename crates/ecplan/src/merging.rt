@@ -10,16 +10,15 @@ use crate::units::{Recorder, open_units};
 use ec_cert_merge::Misfit;
 use ec_cli_answers::Told;
 use ec_cli_endings::{Done, FAILED, tell_merged, tell_refusal, tell_untold};
-use ec_cli_explain::quoted_path;
-use ec_cli_files::{Content, Folders};
-use ec_cli_paths::{Target, is_proof_at, may_write, takes_text, target_at, tell};
+use ec_cli_files::Content;
+use ec_cli_paths::{Host, Target, is_proof_at, may_write, takes_text, target_at, tell};
 use ec_cli_refusals::Refusal;
 use ec_cli_run::{MergeFault, do_merge};
+use ec_cli_spots::PathPiece;
 use ec_cli_words::Merging;
 use ec_wire::Io;
-use std::alloc::{AllocError, Global};
+use std::alloc::AllocError;
 use std::io::Read;
-use std::rt::Files;
 
 /// What to do with certificates that don't fit together.
 const ONE_LINE_OF_DESCENT: &str =
@@ -31,9 +30,8 @@ fn path_of(merging: &Merging, number: usize) -> Option<&String> {
 }
 
 /// That path, as it is told.
-fn quoted(alloc: Global, merging: &Merging, number: usize) -> Result<String, AllocError> {
-    let path = path_of(merging, number);
-    quoted_path(alloc, path.map_or("", |path| path.as_str()))
+fn piece_of(merging: &Merging, number: usize) -> PathPiece<'_> {
+    PathPiece(path_of(merging, number).map_or("", |path| path.as_str()))
 }
 
 /// Why two certificates don't fit together.
@@ -47,14 +45,10 @@ fn words_of(misfit: Misfit) -> &'static str {
 }
 
 /// What to do where two certificates don't fit together: one of them may be a proof by itself.
-fn instead_of<H: Files + AllocGlobal>(
-    rt: &H,
-    merging: &Merging,
-    number: usize,
-) -> Result<String, AllocError> {
+fn instead_of(rt: &impl Host, merging: &Merging, number: usize) -> Result<String, AllocError> {
     for at in [1, number] {
         if path_of(merging, at).is_some_and(|path| is_proof_at(rt, path.as_str())) {
-            let path = quoted(rt.alloc(), merging, at)?;
+            let path = piece_of(merging, at);
             return format!(in rt.alloc(); "{path} is a proof by itself: take it alone.\n");
         }
     }
@@ -62,29 +56,21 @@ fn instead_of<H: Files + AllocGlobal>(
 }
 
 /// What is told of the certificate of this number, which doesn't fit with the first. Both were judged right.
-fn misfit_text<H: Files + AllocGlobal>(
-    rt: &H,
+fn misfit_text(
+    rt: &impl Host,
     merging: &Merging,
     number: usize,
     why: Misfit,
 ) -> Result<String, AllocError> {
-    let alloc = rt.alloc();
-    let first = quoted(alloc, merging, 1)?;
-    let other = quoted(alloc, merging, number)?;
-    let words = words_of(why);
-    let instead = instead_of(rt, merging, number)?;
-    format!(in alloc;
+    let (first, other) = (piece_of(merging, 1), piece_of(merging, number));
+    let (words, instead) = (words_of(why), instead_of(rt, merging, number)?);
+    format!(in rt.alloc();
         "The certificate {other} cannot be merged\nwith the first one, {first}.\n{words}{instead}"
     )
 }
 
 /// Tells what came of a merge, as it is told of a line.
-fn tell_merge<H: Files + AllocGlobal + Eprint>(
-    rt: &H,
-    merging: &Merging,
-    told: &Result<Told, MergeFault>,
-    done: Done<'_>,
-) {
+fn tell_merge(rt: &impl Host, merging: &Merging, told: &Result<Told, MergeFault>, done: Done<'_>) {
     tell_untold(rt, done.untold);
     match told {
         Ok(told) => tell_merged(rt, told, done),
@@ -99,7 +85,7 @@ fn tell_merge<H: Files + AllocGlobal + Eprint>(
 }
 
 /// Merges certificates for the units that a reader has, and tells what comes of it. The status.
-fn merge_units<H: Folders + AllocGlobal + Eprint + Print, R: Read + Drop>(
+fn merge_units<H: Host + Print, R: Read + Drop>(
     rt: &H,
     merging: &Merging,
     target: Option<Target<'_>>,
@@ -134,7 +120,7 @@ fn merge_units<H: Folders + AllocGlobal + Eprint + Print, R: Read + Drop>(
 }
 
 /// Whether standard output goes to a file that is merged, or to that of the units; tells that.
-fn writes_to_input<H: Files + AllocGlobal + Eprint>(rt: &H, merging: &Merging) -> bool {
+fn writes_to_input(rt: &impl Host, merging: &Merging) -> bool {
     takes_text(rt, merging.units.as_deref())
         || merging
             .certs
@@ -144,11 +130,7 @@ fn writes_to_input<H: Files + AllocGlobal + Eprint>(rt: &H, merging: &Merging) -
 
 /// Merges the certificates that the words name, unless the file that they name as one to write is to be left as it is. The
 /// status.
-pub(crate) fn do_merging<H: Folders + AllocGlobal + Eprint + Print + Input>(
-    rt: &H,
-    merging: &Merging,
-    streams: Streams,
-) -> u8
+pub(crate) fn do_merging<H: Host + Print + Input>(rt: &H, merging: &Merging, streams: Streams) -> u8
     requires { MergingFits merging.now }
 {
     if writes_to_input(rt, merging) {

@@ -3,6 +3,7 @@
 use crate::progress::BLANKS;
 use ec_cli_endings::tell_untold;
 use ec_cli_explain::shown_text;
+use ec_cli_paths::Host;
 use ec_cli_refusals::Refusal;
 use ec_cli_run::{refuse, refuse_words};
 use ec_unit_text::UnitFault;
@@ -72,12 +73,12 @@ fn plain_words(alloc: Global, text: &str) -> Result<String, AllocError> {
 }
 
 /// Refuses for want of memory; tells why, where it can't. The status.
-pub(crate) fn refuse_memory<H: AllocGlobal + Eprint + Print>(rt: &H) -> u8 {
+pub(crate) fn refuse_memory<H: Host + Print>(rt: &H) -> u8 {
     refuse_line(rt, Refusal::Unit(UnitFault::OutOfMemory))
 }
 
 /// Writes the line that refuses; tells why, where it can't. The status.
-pub(crate) fn refuse_line<H: AllocGlobal + Eprint + Print>(rt: &H, refusal: Refusal) -> u8 {
+pub(crate) fn refuse_line<H: Host + Print>(rt: &H, refusal: Refusal) -> u8 {
     let mut output = Output::new(rt, false);
     let status = refuse(refusal, &mut Io::new(&mut output));
     tell_untold(rt, output.fault());
@@ -86,7 +87,7 @@ pub(crate) fn refuse_line<H: AllocGlobal + Eprint + Print>(rt: &H, refusal: Refu
 
 /// Says by this text why words are no command line; tells why, where it can't. What a terminal would take as a command isn't
 /// told as it stands. The status.
-pub(crate) fn refuse_text<H: AllocGlobal + Eprint + Print>(rt: &H, text: &str) -> u8 {
+pub(crate) fn refuse_text<H: Host + Print>(rt: &H, text: &str) -> u8 {
     let Ok(text) = plain_words(rt.alloc(), text) else {
         return refuse_memory(rt);
     };

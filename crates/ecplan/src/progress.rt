@@ -1,9 +1,7 @@
 //! The progress of a search, told on standard error while it runs.
 
-use crossbeam_utils::CachePadded;
-use ec_cli_command::{Effort, Line, MOST_WORKERS};
+use ec_cli_command::{Effort, Line};
 use ec_workers::Gate;
-use std::alloc::{AllocError, Global};
 use std::rt::Clock;
 use std::sync::atomic::{AtomicU64, Ordering};
 use std::time::Instant;
@@ -61,22 +59,10 @@ pub(crate) struct Progress<'a, H> {
     began: Option<Instant>,
     /// The milliseconds at which the search asked for the time first: what it reads may take long to come.
     asked_at: AtomicU64,
-    /// How many nodes of its pieces each worker has visited.
-    counts: Vec<CachePadded<AtomicU64>>,
+    /// How many nodes all workers have visited.
+    nodes: AtomicU64,
     /// The milliseconds at which the last line was told.
     told_at: AtomicU64,
-}
-
-/// A count for each worker; none where memory runs out.
-fn new_counts(alloc: Global, telling: Telling) -> Vec<CachePadded<AtomicU64>> {
-    let mut counts = Vec::new(alloc);
-    if telling == Telling::Nothing {
-        return counts;
-    }
-    for _ in 0..MOST_WORKERS {
-        let _ = counts.push(CachePadded::new(AtomicU64::new(0)));
-    }
-    counts
 }
 
 impl<'a, H: AllocGlobal + Eprint + Clock> Progress<'a, H> {
@@ -90,18 +76,9 @@ impl<'a, H: AllocGlobal + Eprint + Clock> Progress<'a, H> {
             most: most_millis(effort),
             began: Instant::now(rt).ok(),
             asked_at: AtomicU64::new(UNASKED),
-            counts: new_counts(rt.alloc(), telling),
+            nodes: AtomicU64::new(0),
             told_at: AtomicU64::new(0),
         }
-    }
-
-    /// How many nodes all workers have visited.
-    fn nodes(&self) -> u64 {
-        let mut nodes = 0u64;
-        for count in self.counts.as_slice() {
-            nodes = nodes.saturating_add(count.load(Ordering::SeqCst));
-        }
-        nodes
     }
 
     /// The milliseconds since the search asked for them first.
@@ -117,29 +94,24 @@ impl<'a, H: AllocGlobal + Eprint + Clock> Progress<'a, H> {
         })
     }
 
-    /// What is told now, with the best value that a worker knows.
-    fn line(&self, value: Option<u64>, millis: u64) -> Result<String, AllocError> {
-        let (nodes, budget, seconds) = (self.nodes(), self.budget, millis / 1000);
-        match value {
-            Some(best) => {
-                format!(in self.rt.alloc();
-                    "{nodes} of {budget} nodes, best value {best}, {seconds} s"
-                )
-            }
-            None => {
-                format!(in self.rt.alloc(); "{nodes} of {budget} nodes, no plan yet, {seconds} s")
-            }
-        }
-    }
-
-    /// Tells a line.
-    fn tell(&self, line: &str) {
-        if self.telling == Telling::Over {
-            let _ = self.rt.eprint(BLANKS);
-            let _ = self.rt.eprint(line);
-        } else {
-            let _ = self.rt.eprint(line);
-            let _ = self.rt.eprint("\n");
+    /// Tells a line, with the best value that a worker knows.
+    fn tell(&self, value: Option<u64>, millis: u64) {
+        let (nodes, seconds) = (self.nodes.load(Ordering::SeqCst), millis / 1000);
+        let (budget, alloc) = (self.budget, self.rt.alloc());
+        let (front, end) = match self.telling {
+            Telling::Over => (BLANKS, ""),
+            _ => ("", "\n"),
+        };
+        let line = match value {
+            Some(best) => format!(in alloc;
+                "{front}{nodes} of {budget} nodes, best value {best}, {seconds} s{end}"
+            ),
+            None => format!(in alloc;
+                "{front}{nodes} of {budget} nodes, no plan yet, {seconds} s{end}"
+            ),
+        };
+        if let Ok(line) = line {
+            let _ = self.rt.eprint(line.as_str());
         }
     }
 
@@ -155,11 +127,8 @@ impl<'a, H: AllocGlobal + Eprint + Clock> Progress<'a, H> {
         let swapped = self
             .told_at
             .compare_exchange(told_at, millis, Ordering::SeqCst, Ordering::SeqCst);
-        if swapped.is_err() {
-            return;
-        }
-        if let Ok(line) = self.line(value, millis) {
-            self.tell(line.as_str());
+        if swapped.is_ok() {
+            self.tell(value, millis);
         }
     }
 }
@@ -168,9 +137,9 @@ impl<'a, H: AllocGlobal + Eprint + Clock> Gate for Progress<'a, H> {
     fn before(&self, _worker: usize, _piece: u64, _value: Option<u64>) {}
 
     /// A piece has few thousand nodes, so a line comes in time.
-    fn after(&self, worker: usize, nodes: u64, value: Option<u64>) {
-        if let Some(count) = self.counts.as_slice().get(worker) {
-            count.fetch_add(nodes, Ordering::SeqCst);
+    fn after(&self, _worker: usize, nodes: u64, value: Option<u64>) {
+        if self.telling != Telling::Nothing {
+            self.nodes.fetch_add(nodes, Ordering::SeqCst);
             self.look(value);
         }
     }

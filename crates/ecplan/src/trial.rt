@@ -9,8 +9,8 @@ use crate::units::Recorder;
 use ec_cli_answers::Told;
 use ec_cli_endings::{FAILED, tell_given, tell_refusal, tell_untold};
 use ec_cli_explain::misread;
-use ec_cli_files::{FileFault, Folders, write_whole};
-use ec_cli_paths::{Target, tell, tell_fault, tell_whole};
+use ec_cli_files::{FileFault, write_whole};
+use ec_cli_paths::{Host, Target, tell, tell_fault, tell_whole};
 use ec_cli_refusals::Refusal;
 use ec_cli_run::do_line;
 use ec_cli_words::Words;
@@ -26,7 +26,7 @@ use std::alloc::{AllocError, Global};
 use std::fmt::Write as _;
 use std::io;
 use std::io::{ErrorKind, Read};
-use std::rt::{Clock, Files};
+use std::rt::Clock;
 use std::sync::Wait;
 use std::thread::Threads;
 
@@ -141,11 +141,7 @@ fn refusal_of(fault: &FileFault) -> Refusal {
 }
 
 /// Writes the capture file of a play. The refusal where it can't; tells why.
-fn write_capture<H: Folders + AllocGlobal + Eprint>(
-    rt: &H,
-    target: Target<'_>,
-    bytes: &[u8],
-) -> Result<(), Refusal> {
+fn write_capture(rt: &impl Host, target: Target<'_>, bytes: &[u8]) -> Result<(), Refusal> {
     let written = write_whole(rt, rt.alloc(), target.path, target.content, bytes);
     written.map_err(|fault| {
         tell_fault(rt, target, &fault);
@@ -154,11 +150,7 @@ fn write_capture<H: Folders + AllocGlobal + Eprint>(
 }
 
 /// Writes the lines of a play; tells why, where it can't, and where the capture file lies. The status.
-fn write_text<H: Files + AllocGlobal + Eprint + Print>(
-    rt: &H,
-    target: Option<Target<'_>>,
-    text: &str,
-) -> u8 {
+fn write_text<H: Host + Print>(rt: &H, target: Option<Target<'_>>, text: &str) -> u8 {
     let mut output = Output::new(rt, false);
     let written = Io::new(&mut output).write_whole(text.as_bytes());
     let untold = output.fault();
@@ -170,11 +162,7 @@ fn write_text<H: Files + AllocGlobal + Eprint + Print>(
 }
 
 /// Writes what comes of a play, its capture file first. The status.
-fn write_played<H: Folders + AllocGlobal + Eprint + Print>(
-    rt: &H,
-    target: Option<Target<'_>>,
-    played: &Played,
-) -> u8 {
+fn write_played<H: Host + Print>(rt: &H, target: Option<Target<'_>>, played: &Played) -> u8 {
     if let (Some(target), Some(bytes)) = (target, &played.capture)
         && let Err(refusal) = write_capture(rt, target, bytes.as_slice())
     {
@@ -184,10 +172,12 @@ fn write_played<H: Folders + AllocGlobal + Eprint + Print>(
 }
 
 /// Does the job of a play on its units, and tells and writes what comes of it as the words say. The status.
-pub(crate) fn do_trial<
-    H: Folders + AllocGlobal + Eprint + Print + Clock + Threads + Wait + Sync,
-    R: Read,
->(rt: &H, words: &Words, target: Option<Target<'_>>, recorder: &mut Recorder<'_, R>) -> u8
+pub(crate) fn do_trial<H: Host + Print + Clock + Threads + Wait + Sync, R: Read>(
+    rt: &H,
+    words: &Words,
+    target: Option<Target<'_>>,
+    recorder: &mut Recorder<'_, R>,
+) -> u8
     requires { JobFits (job_of words.now.line) }
 {
     let line = &words.line;

@@ -2,12 +2,11 @@
 
 use crate::output::refuse_line;
 use ec_cli_endings::Record;
-use ec_cli_paths::tell_unread;
+use ec_cli_paths::{Host, tell_unread};
 use ec_cli_refusals::Refusal;
 use ec_unit_text::MOST_BYTES;
 use std::alloc::Global;
 use std::io::Read;
-use std::rt::Files;
 use std::{fs, io};
 
 /// The most bytes of a unit text that are read, and one, by which a longer one shows.
@@ -95,7 +94,7 @@ impl<'a, R: Read> Read for Recorder<'a, R> {
 
 /// The file of the units, where they have a path; none where they come on standard input. Where they can't be opened, or
 /// standard input is closed, that is refused and told: the status.
-pub(crate) fn open_units<H: Files + AllocGlobal + Eprint + Print>(
+pub(crate) fn open_units<H: Host + Print>(
     rt: &H,
     path: &Option<String>,
     is_closed: bool,
