@@ -1,5 +1,6 @@
 //! Faults of a certificate's text.
 
+use crate::due::CertText;
 use ec_cert_text::CertFault;
 use ec_cli_spots::{Bytes, CertName, Inputs, header_of, line_at, position_of};
 use ec_text_builder::Draft;
@@ -71,20 +72,31 @@ fn tell_version(out: &mut Draft, inputs: &Inputs<'_>) {
                 out.add("It is a unit text: a certificate is what plan --out writes.\n");
             } else if is_newer(cert) {
                 out.add("A newer ecplan may have written it: check it with that one.\n");
+            } else if !cert.contains(&b'\n') {
+                out.add("Was the file cut off? Each line ends with a line feed.\n");
             }
         }
     }
 }
 
-/// Adds why a text has no whole tree where it ends at a line, from 0, or doesn't end where its tree does.
-fn add_end(out: &mut Draft, text: &[u8], line: usize, fault: CertFault) {
-    let last = line.checked_sub(1).and_then(|last| line_at(text, last));
-    let is_end = line_at(text, line) == Some(b"end");
+/// What is told of a tree that isn't whole where its text ends.
+const CHANGED: &str =
+    "A line of the tree above it is missing, or was changed, perhaps far above.\n";
+
+/// Adds what is due at a line, from 0, of a certificate, by its fault.
+fn add_due(out: &mut Draft, cert: CertText<'_>, line: usize, fault: CertFault) {
+    let is_behind = line
+        .checked_sub(1)
+        .is_some_and(|last| cert.line(last) == Some("end"));
+    if !is_behind && !matches!(fault, CertFault::TooDeep(_)) {
+        let (form, note) = cert.wanted_at(line);
+        out.add(format_args!("Due there: {form}.\n{note}"));
+    }
+    let is_end = cert.line(line) == Some("end") && cert.line(line.saturating_add(1)).is_some();
     out.add(match fault {
-        CertFault::Early(_) | CertFault::Late(_) if last == Some(b"end") =>
+        CertFault::Early(_) | CertFault::Late(_) if is_behind =>
             "The last line is end, behind the tree, and nothing follows it.\n",
-        CertFault::Early(_) if is_end && text.ends_with(b"\n") =>
-            "A line of the tree above it is missing, or was changed, perhaps far above.\n",
+        CertFault::Early(_) if is_end => CHANGED,
         CertFault::Early(_) =>
             "Was the file cut off? Each line ends with a line feed, also the last.\n",
         CertFault::Late(_) =>
@@ -93,7 +105,7 @@ fn add_end(out: &mut Draft, text: &[u8], line: usize, fault: CertFault) {
     });
 }
 
-/// Tells a fault of a certificate's text: of one of a line that, from 1, and its text.
+/// Tells a fault of a certificate's text: of one of a line that, from 1, its text, and what is due there.
 pub fn tell_cert(out: &mut Draft, inputs: &Inputs<'_>, fault: CertFault) {
     let name = CertName(inputs.cert_path);
     let (number, words) = match fault {
@@ -117,6 +129,8 @@ pub fn tell_cert(out: &mut Draft, inputs: &Inputs<'_>, fault: CertFault) {
     out.add(format_args!("{name}: line {number} {words}.\n"));
     if let (Some(cert), Some(line)) = (inputs.cert, (number as usize).checked_sub(1)) {
         add_line(out, cert, line);
-        add_end(out, cert, line, fault);
+        if let Some(cert) = CertText::of(inputs) {
+            add_due(out, cert, line, fault);
+        }
     }
 }

@@ -1,6 +1,8 @@
 //! Certificates that are texts, but show nothing of the units.
 
 use crate::certs::add_line;
+use crate::due::CertText;
+use crate::leaves::add_leaf_fault;
 use crate::others::add_differences;
 use ec_checker::CheckFault;
 use ec_cli_search_hints::Cycle;
@@ -19,8 +21,7 @@ fn line_of(inputs: &Inputs<'_>, front: &[u8]) -> Option<usize> {
 /// Tells that a certificate is of other units, and what differs.
 fn tell_others(out: &mut Draft, inputs: &Inputs<'_>, doc: Doc<'_>) {
     out.add(format_args!("{} is not for these units.\n", CertName(inputs.cert_path)));
-    let cert = inputs.cert.and_then(|cert| std::str::from_utf8(cert).ok());
-    if let (Some(cert), Ok(_)) = (cert, doc.top) {
+    if let (Some(cert), Ok(_)) = (CertText::of(inputs), doc.top) {
         add_differences(out, doc, cert);
     }
     out.add("Have plan make a new certificate, or give the units that it was made for.\n");
@@ -35,15 +36,28 @@ fn add_line_of(out: &mut Draft, inputs: &Inputs<'_>, line: Option<usize>) {
     add_line(out, cert, line);
 }
 
+/// The line, from 0, that is this node of a certificate's tree, from 0.
+fn node_line(inputs: &Inputs<'_>, node: usize) -> Option<usize> {
+    let tree = CertText::of(inputs)?.tree_line();
+    Some(tree.saturating_add(1).saturating_add(node))
+}
+
 /// Tells what is wrong with a node of a certificate's tree, from 0, and its line.
 fn tell_node<D: Display + Drop>(out: &mut Draft, inputs: &Inputs<'_>, node: usize, fault: D) {
     let name = CertName(inputs.cert_path);
-    let tree = line_of(inputs, b"tree");
-    let line = tree.map(|tree| tree.saturating_add(1).saturating_add(node));
+    let line = node_line(inputs, node);
     out.add(format_args!(
         "{name} does not show what it says: node {node} of its tree, from 0, {fault}"
     ));
     add_line_of(out, inputs, line);
+}
+
+/// Tells that a node of a certificate's tree, from 0, is a leaf that doesn't hold, and why.
+fn tell_leaf(out: &mut Draft, inputs: &Inputs<'_>, doc: Doc<'_>, node: usize) {
+    tell_node(out, inputs, node, "is a leaf whose reason does not hold");
+    if let (Some(cert), Some(line)) = (CertText::of(inputs), node_line(inputs, node)) {
+        add_leaf_fault(out, doc, cert, line);
+    }
 }
 
 /// Adds whether a search that found no plan so far may find one.
@@ -115,8 +129,6 @@ pub fn tell_check(out: &mut Draft, inputs: &Inputs<'_>, doc: Doc<'_>, fault: Che
         CheckFault::Depth(node) => {
             tell_node(out, inputs, node, "is a split where every unit has a place");
         }
-        CheckFault::Leaf(node) => {
-            tell_node(out, inputs, node, "is a leaf whose reason does not hold");
-        }
+        CheckFault::Leaf(node) => tell_leaf(out, inputs, doc, node),
     }
 }

@@ -3,6 +3,8 @@
 
 mod certs;
 mod checks;
+mod due;
+mod leaves;
 mod others;
 
 pub use certs::tell_cert;

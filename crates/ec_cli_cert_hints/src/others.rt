@@ -1,5 +1,6 @@
 //! A certificate of other units: which unit differs, and how.
 
+use crate::due::CertText;
 use ec_cli_spots::{Bytes, Doc, Fields, Named, Quoted, bytes_of};
 use ec_text_builder::Draft;
 use ec_unit_text::Key;
@@ -15,8 +16,8 @@ fn our_unit(doc: Doc<'_>, unit: usize) -> Option<Listed<'_>> {
 }
 
 /// The unit of a certificate with this number, from 0.
-fn cert_unit(cert: &str, unit: usize) -> Option<Listed<'_>> {
-    let line = cert.split('\n').nth(unit.saturating_add(2))?;
+fn cert_unit(cert: CertText<'_>, unit: usize) -> Option<Listed<'_>> {
+    let line = cert.line(unit.saturating_add(2))?;
     let mut words = line.strip_prefix("unit ")?.split(' ');
     let name = words.next()?;
     let bytes = words.next()?.parse::<i64>().ok()?;
@@ -24,29 +25,23 @@ fn cert_unit(cert: &str, unit: usize) -> Option<Listed<'_>> {
     Some((name, i128::from(bytes), period))
 }
 
-/// How many units a certificate has.
-fn count_units(cert: &str) -> usize {
-    let lines = cert.split('\n').skip(2);
-    lines.take_while(|line| line.starts_with("unit ")).count()
-}
-
 /// The unit of a certificate with this name.
-fn cert_named<'a>(cert: &'a str, name: &str) -> Option<Listed<'a>> {
-    let mut units = (0..count_units(cert)).filter_map(|unit| cert_unit(cert, unit));
+fn cert_named<'a>(cert: CertText<'a>, name: &str) -> Option<Listed<'a>> {
+    let mut units = (0..cert.units).filter_map(|unit| cert_unit(cert, unit));
     units.find(|unit| unit.0 == name)
 }
 
 /// Whether file and certificate have the same units, in whatever order.
-fn have_same_units(doc: Doc<'_>, cert: &str) -> bool {
+fn have_same_units(doc: Doc<'_>, cert: CertText<'_>) -> bool {
     let count = doc.units().len();
     let mut units = (0..count).map(|unit| our_unit(doc, unit));
-    count == count_units(cert)
+    count == cert.units
         && units.all(|ours| ours.is_some_and(|ours| cert_named(cert, ours.0) == Some(ours)))
 }
 
 /// The line of the certificate that says the slots, where the file says other ones.
-fn other_slots<'a>(doc: Doc<'_>, cert: &'a str) -> Option<&'a str> {
-    let line = cert.split('\n').nth(1)?;
+fn other_slots<'a>(doc: Doc<'_>, cert: CertText<'a>) -> Option<&'a str> {
+    let line = cert.line(1)?;
     let slots = line
         .strip_prefix("slots ")
         .unwrap_or("")
@@ -66,7 +61,7 @@ fn add_other(
     out: &mut Draft,
     doc: Doc<'_>,
     unit: usize,
-    cert: &str,
+    cert: CertText<'_>,
     both: (Listed<'_>, Listed<'_>),
 ) {
     let ((name, bytes, period), theirs) = both;
@@ -84,7 +79,7 @@ fn add_other(
             out.add(format_args!("{ours} stands where the certificate has unit {name}.\n"));
             if is_new
                 && (bytes, period) == (theirs.1, theirs.2)
-                && doc.units().len() == count_units(cert)
+                && doc.units().len() == cert.units
                 && other_slots(doc, cert).is_none()
             {
                 out.add(format_args!(
@@ -100,8 +95,28 @@ fn add_other(
     }
 }
 
+/// Whether a unit of the file has bytes and period of the certificate's unit with its number, from 0.
+fn is_like(doc: Doc<'_>, unit: usize, cert: CertText<'_>) -> bool {
+    match (our_unit(doc, unit), cert_unit(cert, unit)) {
+        (Some((_, bytes, period)), Some((_, other, cycle))) => (bytes, period) == (other, cycle),
+        _ => false,
+    }
+}
+
+/// Whether file and certificate have several units each, and no name in common, and the units didn't get other names alone.
+fn are_strangers(doc: Doc<'_>, cert: CertText<'_>) -> bool {
+    let mut names = doc
+        .units()
+        .iter()
+        .filter_map(|unit| Fields::of(unit).text(Key::Name));
+    let count = doc.units().len();
+    1 < count.min(cert.units)
+        && !names.any(|name| cert_named(cert, name).is_some())
+        && !(count == cert.units && (0..count).all(|unit| is_like(doc, unit, cert)))
+}
+
 /// Adds how file and certificate differ in the unit with this number, from 0, if one of them has it, and says whether they do.
-fn add_difference(out: &mut Draft, doc: Doc<'_>, unit: usize, cert: &str) -> bool {
+fn add_difference(out: &mut Draft, doc: Doc<'_>, unit: usize, cert: CertText<'_>) -> bool {
     let name = Named(doc, unit, None);
     match (our_unit(doc, unit), cert_unit(cert, unit)) {
         (Some(ours), Some(theirs)) if ours.0 != theirs.0 => {
@@ -121,8 +136,8 @@ fn add_difference(out: &mut Draft, doc: Doc<'_>, unit: usize, cert: &str) -> boo
 }
 
 /// Adds what differs between the file's units and those of a certificate, of single units the first.
-pub(crate) fn add_differences(out: &mut Draft, doc: Doc<'_>, cert: &str) {
-    let (ours, theirs) = (doc.units().len(), count_units(cert));
+pub(crate) fn add_differences(out: &mut Draft, doc: Doc<'_>, cert: CertText<'_>) {
+    let (ours, theirs) = (doc.units().len(), cert.units);
     if let Some(line) = other_slots(doc, cert) {
         let slots = doc.top().number(Key::Slots).unwrap_or(0);
         out.add(format_args!(
@@ -133,6 +148,9 @@ pub(crate) fn add_differences(out: &mut Draft, doc: Doc<'_>, cert: &str) {
     if ours != theirs {
         let noun = if ours == 1 { "unit" } else { "units" };
         out.add(format_args!("The file has {ours} {noun}, the certificate {theirs}.\n"));
+    }
+    if are_strangers(doc, cert) {
+        return out.add("No unit has a name that the certificate has: it may be of another line.\n");
     }
     for unit in 0..ours.saturating_add(1) {
         if add_difference(out, doc, unit, cert) {

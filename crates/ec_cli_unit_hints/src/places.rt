@@ -41,6 +41,10 @@ fn count_outside(units: &[Value], slots: i64) -> usize {
     count
 }
 
+/// What finds places for units from which they were taken.
+const FINDING: &str =
+    "Without them plan --places PATH finds places for all units; with --keep it begins at those that are left.\n";
+
 /// Tells a phase or a slot out of range, with both limits, and how many units have such.
 pub(crate) fn tell_range(out: &mut Draft, doc: Doc<'_>, spot: Spot) {
     let unit = doc.unit(spot.unit);
@@ -52,13 +56,12 @@ pub(crate) fn tell_range(out: &mut Draft, doc: Doc<'_>, spot: Spot) {
         ", but with its period its phase is 0 to {last_phase}, and with the slots of the file its slot is 0 to {last_slot}.\n"
     ));
     match count_outside(doc.units(), slots) {
-        0 | 1 => out.add(
-            "Write one of these; or take phase and slot of this unit out: plan --places PATH finds places for all units.\n",
-        ),
+        0 | 1 => out.add("Write one of these; or take phase and slot of this unit out.\n"),
         count => out.add(format_args!(
-            "{count} units have places out of range. Take phase and slot out of each: plan --places PATH finds places for all units.\n"
+            "{count} units have places out of range. Take phase and slot out of each.\n"
         )),
     }
+    out.add(FINDING);
     let slot = unit.number(Key::Slot).unwrap_or(0);
     if slot > last_slot {
         add_more_slots(out, doc, slot);
@@ -82,7 +85,7 @@ pub fn tell_no_place(out: &mut Draft, doc: Doc<'_>, unit: usize) {
         .iter()
         .any(|unit| Fields::of(unit).has(Key::Phase))
     {
-        out.add("It may move units that have places, too.\n");
+        out.add("It may move units that have places, too; with --keep it begins at these.\n");
     }
 }
 
