@@ -196,7 +196,7 @@ plan_unread workers nodes strong bytes r (inl memory) = inr (inl memory)
 plan_unread workers nodes strong bytes r (inr fault) = inl fault
 
 pub unread_tells : (j : Job) (bytes : List ℕ) (cert : Option (List ℕ)) (r : Refusal) (t : Result Told Refusal) → HasInput j cert → t ≡ Err r → IsUnread bytes cert r → TellsFor j bytes cert t
-unread_tells (job.Plan workers nodes strong keep) bytes None r t has is h = search_untold (IsPlanOf (asked_for strong workers nodes) bytes) (IsPlanFault (asked_for strong workers nodes) bytes) r t is (plan_unread workers nodes strong bytes r h)
+unread_tells (job.Plan workers nodes strong keep) bytes None r t has is h = search_untold (IsPlanOf keep (asked_for strong workers nodes) bytes) (IsPlanFault (asked_for strong workers nodes) bytes) r t is (plan_unread workers nodes strong bytes r h)
 unread_tells (job.Plan workers nodes strong keep) bytes (Some text) r t has is h = absurd cc
 unread_tells (job.Resume workers nodes part) bytes None r t has is h = absurd has
 unread_tells (job.Resume workers nodes part) bytes (Some text) r t has is h = search_untold (IsResumeOf workers nodes part bytes text) (IsResumeFault workers bytes text) r t is (unresumed workers bytes text r h)

@@ -1,5 +1,5 @@
 -- What a search writes, begun or resumed: the text of an outcome, and before it its certificate.
-use Rattle.std.specs.Prelude.{◌≡◌, ◌⊎◌, ℕ, List, Option, Some, None, Ok, option_map}
+use Rattle.std.specs.Prelude.{◌≡◌, ◌⊎◌, ℕ, Bool, true, List, Option, Some, None, Ok, option_map}
 use Rattle.std.specs.Io.KnownBytes.{Appends}
 use Rattle.ec_wire.specs.declared.io.Io.{Io}
 use Rattle.ec_wire.specs.Stream.{stream, WritesFront}
@@ -16,7 +16,7 @@ use Rattle.ec_checker.specs.declared.fault.Verdict.TheVariants as verdict
 use Rattle.ec_outcome.specs.declared.search.Outcome.{Outcome}
 use Rattle.ec_outcome.specs.declared.search.Outcome.TheVariants as outcome
 use Rattle.ec_outcome.specs.declared.search.SolveFault.{SolveFault}
-use Rattle.ec_workers.specs.Answers.{Asked, asked_beyond, GoesBeyond, HasLevelFrom, HasRules, IsOutcome, IsSolveFault, HasOrder, HasSearchOrder, is_strong, KeepsToPart}
+use Rattle.ec_workers.specs.Answers.{Asked, asked_beyond, GoesBeyond, HasLevelFrom, HasRules, IsNoDearer, IsOutcome, IsSolveFault, HasOrder, HasSearchOrder, is_strong, KeepsToPart}
 use Rattle.ec_workers.specs.Outcomes.{partial_for, Shows}
 use Rattle.ec_cli_refusals.specs.declared.refusal.Refusal.{Refusal}
 use Rattle.ec_cli_refusals.specs.declared.refusal.Refusal.TheVariants as refusal
@@ -36,13 +36,14 @@ outcome_cert us (outcome.Unproved best order tree strong why) level =
 -- ---- what comes of a search over the units that were read, and why nothing does
 
 -- of a plan: what comes of a search over the units that the bytes say, which begins afresh, within this budget, in the order of a search and by the rules that were
--- asked for
-pub record IsPlanOf (asked : Asked) (bytes : List ℕ) (us : Units) (o : Outcome) : Type 0 where
+-- asked for; where it is to keep the places of the units, and these are a legal plan, it finds none that costs more
+pub record IsPlanOf (keep : Bool) (asked : Asked) (bytes : List ℕ) (us : Units) (o : Outcome) : Type 0 where
   pub read : AnswersUnits (Ok us) bytes
   pub answer : IsOutcome us.units us.slots asked o
   pub beyond : GoesBeyond open_leaf None asked.nodes o
   pub order : HasSearchOrder asked.strong (loads_of us.units) o
   pub rules : HasRules asked.strong o
+  pub kept : keep ≡ true → IsNoDearer us.units us.slots o
 
 -- why a search by so many workers over the units that bytes say has no outcome: they give no units, memory ran out over them, before the search or over the text
 -- that is written, or the search has none: memory ran out before it began, or none of several workers could be started
@@ -124,8 +125,8 @@ abbrev pub IsSearchWritten : (Units → Outcome → Type 0) → (Refusal → Typ
 IsSearchWritten is fault w cert = IsOutcomeWritten is w cert ⊎ IsUnplanned fault w cert
 
 -- for the bytes of units
-abbrev pub IsPlanWritten : Asked → List ℕ → Written → Option (List ℕ) → Type 0
-IsPlanWritten asked bytes w cert = IsSearchWritten (IsPlanOf asked bytes) (IsPlanFault asked bytes) w cert
+abbrev pub IsPlanWritten : Bool → Asked → List ℕ → Written → Option (List ℕ) → Type 0
+IsPlanWritten keep asked bytes w cert = IsSearchWritten (IsPlanOf keep asked bytes) (IsPlanFault asked bytes) w cert
 
 -- for the bytes of units and the text of a certificate
 abbrev pub IsResumeWritten : ℕ → ℕ → Part → List ℕ → List ℕ → Written → Option (List ℕ) → Type 0

@@ -120,7 +120,7 @@ pub record HandsNothing (t : Told) : Type 0 where
 
 -- what a job hands on for the bytes of units, and of a certificate where there is one
 abbrev pub HandsOn : Job → List ℕ → Option (List ℕ) → Told → Type 0
-HandsOn (job.Plan workers nodes strong keep) bytes cert t = HandsOutcome (IsPlanOf (asked_for strong workers nodes) bytes) t
+HandsOn (job.Plan workers nodes strong keep) bytes cert t = HandsOutcome (IsPlanOf keep (asked_for strong workers nodes) bytes) t
 HandsOn (job.Resume workers nodes part) bytes None t = ⊥
 HandsOn (job.Resume workers nodes part) bytes (Some text) t = HandsOutcome (IsResumeOf workers nodes part bytes text) t
 HandsOn job.Check bytes cert t = HandsNothing t
@@ -134,7 +134,7 @@ IsPlainTold j bytes cert w file = (IsOutput j bytes cert w ⊎ IsNoMemory j w) �
 
 -- what is told of a job for the bytes of units, and of a certificate where there is one
 abbrev pub IsTold : Job → List ℕ → Option (List ℕ) → Written → Option (List ℕ) → Type 0
-IsTold (job.Plan workers nodes strong keep) bytes cert w file = IsPlanWritten (asked_for strong workers nodes) bytes w file
+IsTold (job.Plan workers nodes strong keep) bytes cert w file = IsPlanWritten keep (asked_for strong workers nodes) bytes w file
 IsTold (job.Resume workers nodes part) bytes None w file = ⊥
 IsTold (job.Resume workers nodes part) bytes (Some text) w file = IsResumeWritten workers nodes part bytes text w file
 IsTold job.Capture bytes cert w file = IsFramesWritten cert bytes w file

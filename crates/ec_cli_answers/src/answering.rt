@@ -1,11 +1,11 @@
 //! What each job tells of its inputs.
 
-ghost use Rattle.std.specs.Prelude.{◌≡◌, ◌≤◌, ℕ, List, Option, Ok as OkOf, Some, None, IfOk, IfErr};
+ghost use Rattle.std.specs.Prelude.{◌≡◌, ◌≤◌, ℕ, List, Option, Ok as OkOf, Some, None, IfOk, IfErr, true};
 ghost use Rattle.ec_units.specs.Load.{loads_of};
 ghost use Rattle.ec_loads.specs.Held.{no_places};
 ghost use Rattle.ec_loads.specs.Shape.{open_leaf};
 ghost use Rattle.ec_cert.specs.Parts.{IsPart};
-ghost use Rattle.ec_workers.specs.Answers.{asked_for, GoesBeyond, HasRules, HasSearchOrder, IsOutcome, IsSolveFault};
+ghost use Rattle.ec_workers.specs.Answers.{asked_for, GoesBeyond, HasRules, HasSearchOrder, IsNoDearer, IsOutcome, IsSolveFault};
 ghost use Rattle.ec_cli_command.specs.Words.{JobFits};
 ghost use Rattle.ec_cli_command.specs.declared.job.Job.TheVariants.{Plan, Resume};
 ghost use Rattle.ec_cli_inputs.specs.Input.{AnswersUnits, Says, HasRoom, text_given};
@@ -45,6 +45,7 @@ fn searched<T: Threads + Wait + Sync, G: Gate + Sync>(
     ensures beyond { IfOk result (GoesBeyond open_leaf None nodes) }
     ensures order { IfOk result (HasSearchOrder strong (loads_of units.now.units)) }
     ensures rules { IfOk result (HasRules strong) }
+    ensures kept { keep ≡ true → IfOk result (IsNoDearer units.now.units units.now.slots) }
     ensures fault { IfErr result (IsSolveFault workers) }
 {
     if keep {

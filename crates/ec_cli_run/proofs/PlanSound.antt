@@ -75,8 +75,8 @@ outcome_true levels asked bytes us (outcome.Unproved best order tree strong why)
     })
 
 pub plan_true : LevelsBound → PlanIsTrue
-plan_true levels asked bytes w cert (inl h) = outcome_true levels asked bytes h.units h.found h.level w cert h.answer.read.1 h.answer.answer h.shown h.text h.certificate h.shows
-plan_true levels asked bytes w cert (inr h) = by_refusal w h.refusal h.line
+plan_true levels keep asked bytes w cert (inl h) = outcome_true levels asked bytes h.units h.found h.level w cert h.answer.read.1 h.answer.answer h.shown h.text h.certificate h.shows
+plan_true levels keep asked bytes w cert (inr h) = by_refusal w h.refusal h.line
 
 pub resume_true : LevelsBound → ResumeIsTrue
 resume_true levels workers nodes part bytes text w cert (inl h) =
@@ -88,7 +88,7 @@ merge_true levels bytes w cert (_, h) = outcome_true levels h.answer.asked bytes
 
 -- the certificate of what was told, and its truth
 pub told_true : LevelsBound → (bytes : List ℕ) (w : Written) → IsSearchTold bytes w → (cert : Option (List ℕ)) × TellsTruth bytes w cert
-told_true levels bytes w (inl (asked, cert, h)) = (cert, plan_true levels asked bytes w cert h)
+told_true levels bytes w (inl (keep, asked, cert, h)) = (cert, plan_true levels keep asked bytes w cert h)
 told_true levels bytes w (inr (inl (workers, nodes, part, text, cert, h))) = (cert, resume_true levels workers nodes part bytes text w cert h)
 told_true levels bytes w (inr (inr (cert, h))) = (cert, merge_true levels bytes w cert h)
 

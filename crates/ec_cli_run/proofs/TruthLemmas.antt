@@ -35,7 +35,7 @@ Searches (job.Resume workers nodes part) = Unit {0}
 Searches _ = ⊥
 
 search_true : LevelsBound → (j : Job) → Searches j → (bytes : List ℕ) (cert : Option (List ℕ)) (w : Written) (file : Option (List ℕ)) → IsTold j bytes cert w file → TellsTruth bytes w file
-search_true levels (job.Plan workers nodes strong keep) is bytes cert w file h = plan_true levels (asked_for strong workers nodes) bytes w file h
+search_true levels (job.Plan workers nodes strong keep) is bytes cert w file h = plan_true levels keep (asked_for strong workers nodes) bytes w file h
 search_true levels (job.Resume workers nodes part) is bytes None w file h = absurd h
 search_true levels (job.Resume workers nodes part) is bytes (Some text) w file h = resume_true levels workers nodes part bytes text w file h
 search_true levels j is bytes cert w file h = absurd is

@@ -1,5 +1,5 @@
 -- What the answers of a check and of a plan are worth.
-use Rattle.std.specs.Prelude.{◌≡◌, ◌≢◌, ◌⊎◌, ℕ, ◌≤◌, List, ◌++◌, Option, Some, None, Ok, IfSome}
+use Rattle.std.specs.Prelude.{◌≡◌, ◌≢◌, ◌⊎◌, ℕ, ◌≤◌, Bool, List, ◌++◌, Option, Some, None, Ok, IfSome}
 use Rattle.ec_cli_inputs.specs.Use.{Use, before, IsSound, Lent, IfLent}
 use Rattle.ec_units.specs.declared.slave.Place.{Place}
 use Rattle.ec_units.specs.declared.units.Units.{Units}
@@ -118,9 +118,9 @@ pub record TellsUnproved (bytes : List ℕ) (w : Written) (cert : Option (List �
 abbrev pub TellsTruth : List ℕ → Written → Option (List ℕ) → Type 0
 TellsTruth bytes w cert = ByStatus w.code (TellsOptimal bytes w cert) (TellsWithoutPlan bytes w cert) (TellsUnproved bytes w cert)
 
--- whatever workers and nodes were asked for
+-- whatever workers and nodes were asked for, and whether or not it keeps places
 abbrev pub PlanIsTrue : Type 0
-PlanIsTrue = (asked : Asked) (bytes : List ℕ) (w : Written) (cert : Option (List ℕ)) → IsPlanWritten asked bytes w cert → TellsTruth bytes w cert
+PlanIsTrue = (keep : Bool) (asked : Asked) (bytes : List ℕ) (w : Written) (cert : Option (List ℕ)) → IsPlanWritten keep asked bytes w cert → TellsTruth bytes w cert
 
 -- and whatever certificate it went on with
 abbrev pub ResumeIsTrue : Type 0
@@ -162,7 +162,7 @@ BeginsOptimal b w = (rest : List ℕ) × (w.text ≡ optimal_line b ++ rest)
 -- certificates for them that were merged
 abbrev pub IsSearchTold : List ℕ → Written → Type 0
 IsSearchTold bytes w =
-    ((asked : Asked) × (cert : Option (List ℕ)) × IsPlanWritten asked bytes w cert)
+    ((keep : Bool) × (asked : Asked) × (cert : Option (List ℕ)) × IsPlanWritten keep asked bytes w cert)
     ⊎ (((workers : ℕ) × (nodes : ℕ) × (part : Part) × (text : List ℕ) × (cert : Option (List ℕ)) × IsResumeWritten workers nodes part bytes text w cert)
     ⊎ ((cert : Option (List ℕ)) × IsMergeWritten bytes w cert))
 

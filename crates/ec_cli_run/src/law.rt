@@ -31,7 +31,7 @@ pub fn law_a_yes_is_true()
 /// busiest at B, every legal plan has a tick that costs at least B, and the certificate that it writes before shows it.
 /// Where it writes `no plan`, status 1, none of their plans is legal, and the certificate shows that. Where it writes
 /// `unproved` and `at least L`, status 2, the plan of its lines, if any, is legal and costs what is stated, and every legal
-/// plan has a tick that costs at least L. Whatever workers and nodes were asked for.
+/// plan has a tick that costs at least L. Whatever workers and nodes were asked for, and whether or not places are kept.
 pub fn law_a_plan_is_true()
     ensures { PlanIsTrue }
 {

@@ -1,9 +1,12 @@
 -- What each outcome of a search says.
-use Rattle.std.specs.Prelude.{◌≡◌, ℕ, ◌+◌, ◌<◌, ◌≤◌, nat_lt, Bool, true, false, List, length, Option, Some, None}
+use Rattle.std.specs.Prelude.{◌≡◌, ℕ, ◌+◌, ◌<◌, ◌≤◌, nat_lt, Bool, true, false, List, length, map, Option, Some, None}
+use Rattle.ec_units.specs.declared.slave.Place.{Place}
 use Rattle.ec_units.specs.declared.unit.Unit.{Unit as SyncUnit}
 use Rattle.ec_units.specs.declared.unit.Load.{Load}
 use Rattle.ec_units.specs.Load.{loads_of}
+use Rattle.ec_loads.specs.Cost.{plan_items, IsBusiest}
 use Rattle.ec_loads.specs.Held.{no_places}
+use Rattle.ec_loads.specs.Legal.{IsLegal}
 use Rattle.ec_loads.specs.Line.{line_by}
 use Rattle.ec_loads.specs.Shape.{Shape, open_leaf}
 use Rattle.ec_loads.specs.Search.{IsPartialTree, IsAtMost, node_count, open_count}
@@ -13,6 +16,7 @@ use Rattle.ec_cert.specs.declared.part.Part.{Part}
 use Rattle.ec_cert.specs.Shapes.{CertView, shape_of, cert_view}
 use Rattle.ec_cert.specs.IsBestPlan.{value_of, IsBestPlan}
 use Rattle.ec_checker.specs.Levels.{IsGreatestLevel}
+use Rattle.ec_branch.specs.Kept.{own_places}
 use Rattle.ec_branch.specs.Weights.{IsSearchOrder}
 use Rattle.ec_branch.specs.StrongOrders.{IsStrongOrder}
 use Rattle.ec_book.specs.Finishing.{GrowsFrom}
@@ -108,6 +112,11 @@ abbrev pub HasLevelFrom : List SyncUnit → ℕ → ℕ → Outcome → Type 0
 HasLevelFrom units n l (outcome.Optimal plan b cert) = l ≤ b
 HasLevelFrom units n l (outcome.NoPlan cert) = Unit {0}
 HasLevelFrom units n l (outcome.Unproved best order tree strong why) = (m : ℕ) → IsGreatestLevel (line_by (searched_by strong) (loads_of units) n) (value_of best) (shape_of tree) order m → l ≤ m
+
+-- where each unit has a place of its own, and these are a legal plan, its plan costs at most what that costs
+abbrev pub IsNoDearer : List SyncUnit → ℕ → Outcome → Type 0
+IsNoDearer units n o = (ps : List Place) (b : ℕ) → own_places units ≡ map Some ps → IsLegal (loads_of units) n ps → IsBusiest (plan_items (loads_of units) ps) n b
+    → IsAtMost (value_in o) (Some b)
 
 -- why a search of so many workers has no outcome: memory was refused before it began, or none of several workers could be started
 abbrev pub IsSolveFault : ℕ → SolveFault → Type 0

@@ -11,7 +11,7 @@ ghost use Rattle.ec_loads.specs.Shape.{open_leaf};
 ghost use Rattle.ec_cert.specs.IsBestPlan.{value_of, IsBestPlan};
 ghost use Rattle.ec_cert.specs.Shapes.{cert_view, shape_of};
 ghost use Rattle.ec_branch.specs.Kept.{own_places};
-ghost use Rattle.ec_workers.specs.Answers.{asked_for, GoesBeyond, HasRules, HasSearchOrder, IsOrderBy, IsOutcome, IsSolveFault, is_strong as strong_spec, value_in};
+ghost use Rattle.ec_workers.specs.Answers.{asked_for, GoesBeyond, HasRules, HasSearchOrder, IsNoDearer, IsOrderBy, IsOutcome, IsSolveFault, is_strong as strong_spec};
 ghost use Rattle.ec_workers.specs.Outcomes.{IsPartialCert};
 
 use crate::begin::{order_by, rules_by};
@@ -110,8 +110,7 @@ pub fn solve_kept<R: Threads + Wait + Sync, G: Gate + Sync>(
     requires nodes { (1 ≤ nodes) × (nodes ≤ 10000000) }
     ensures outcome { IfOk result (IsOutcome units.now.units units.now.slots (asked_for strong workers nodes)) }
     ensures beyond { IfOk result (GoesBeyond open_leaf None nodes) }
-    ensures kept { (ps : List Place) (b : ℕ) → own_places units.now.units ≡ map Some ps → IsLegal (loads_of units.now.units) units.now.slots ps → IsBusiest (plan_items (loads_of units.now.units) ps) units.now.slots b →
-        IfOk result (λ o. IsAtMost (value_in o) (Some b)) }
+    ensures kept { IfOk result (IsNoDearer units.now.units units.now.slots) }
     ensures order { IfOk result (HasSearchOrder strong (loads_of units.now.units)) }
     ensures rules { IfOk result (HasRules strong) }
     ensures fault { IfErr result (IsSolveFault workers) }

@@ -11,17 +11,17 @@ pub returns-clause-told : goal.returns-clause-told
 returns-clause-told g c = λ bytes cert read.
     let asked = asked_for c.args.strong c.args.workers c.args.nodes in
     let found = c.in_ok-outcome.ensures in
-    outcome_tells (IsPlanOf asked bytes) (IsPlanFault asked bytes) c.args.units.now c.in_ok-outcome.outcome c.tell_outcome.result
-    (record { read = read; answer = found.outcome; beyond = found.beyond; order = found.order; rules = found.rules }) (inr (inl refl)) c.tell_outcome.ensures.ok c.tell_outcome.ensures.err
+    outcome_tells (IsPlanOf c.args.keep asked bytes) (IsPlanFault asked bytes) c.args.units.now c.in_ok-outcome.outcome c.tell_outcome.result
+    (record { read = read; answer = found.outcome; beyond = found.beyond; order = found.order; rules = found.rules; kept = λ asks. found.kept asks }) (inr (inl refl)) c.tell_outcome.ensures.ok c.tell_outcome.ensures.err
 
 pub returns-in_err-lines-clause-told : goal.returns-in_err-lines-clause-told
 returns-in_err-lines-clause-told g c = λ bytes cert read.
     let asked = asked_for c.args.strong c.args.workers c.args.nodes in
     let p = err_from_is_err_and c.from_residual-in_err-lines.result c.from_residual-in_err-lines.ensures.1 in
-    search_untold (IsPlanOf asked bytes) (IsPlanFault asked bytes) out_of_memory c.from_residual-in_err-lines.result (p.1 ∙ ap (λ e. Err e) p.2) (inr (inl refl))
+    search_untold (IsPlanOf c.args.keep asked bytes) (IsPlanFault asked bytes) out_of_memory c.from_residual-in_err-lines.result (p.1 ∙ ap (λ e. Err e) p.2) (inr (inl refl))
 
 pub returns-in_err-outcome-clause-told : goal.returns-in_err-outcome-clause-told
 returns-in_err-outcome-clause-told g c = λ bytes cert read.
     let asked = asked_for c.args.strong c.args.workers c.args.nodes in
     let p = err_from_is_err_and c.from_residual-in_err-outcome.result c.from_residual-in_err-outcome.ensures.1 in
-    search_untold (IsPlanOf asked bytes) (IsPlanFault asked bytes) (refusal.Solve c.in_err-outcome.field-0.0) c.from_residual-in_err-outcome.result (p.1 ∙ ap (λ e. Err e) p.2) (inr (inr (c.in_err-outcome.field-0.0, refl, c.in_err-outcome.ensures.fault)))
+    search_untold (IsPlanOf c.args.keep asked bytes) (IsPlanFault asked bytes) (refusal.Solve c.in_err-outcome.field-0.0) c.from_residual-in_err-outcome.result (p.1 ∙ ap (λ e. Err e) p.2) (inr (inr (c.in_err-outcome.field-0.0, refl, c.in_err-outcome.ensures.fault)))
