@@ -1,42 +1,28 @@
 //! What is told on standard error at the end of a job.
 
+use crate::own::{Own, tell_other, tell_own};
 use crate::record::Record;
 use crate::refusal::tell_refusal;
 use crate::untold::tell_untold;
-use ec_branch::kept_plan;
 use ec_cert::{Cert, node_count};
 use ec_cli_answers::{File, Told};
 use ec_cli_command::{Effort, Line, MOST_MINUTES, MOST_NODES};
 use ec_cli_explain::{Again, Asked, Cycle, Filed, Found, Written, advice, misread, unset_areas};
 use ec_cli_files::{FileFault, is_no_file};
 use ec_cli_paths::{Host, Target, replaced_at, tell, tell_fault, tell_whole};
-use ec_cli_places::{lacks_place, legal_cost, placed_cost};
+use ec_cli_places::legal_cost;
 use ec_cli_refusals::Refusal;
-use ec_loads::{Plan, busiest};
+use ec_loads::Plan;
 use ec_outcome::Cut;
 use ec_units::Units;
-use std::alloc::{AllocError, Global};
-use std::fmt::Write as _;
 use std::rt::Files;
-use std::{fmt, fs, io};
+use std::{fs, io};
 
 /// The status where reading or writing failed.
 pub const FAILED: u8 = 4;
 
 /// From so many nodes on a certificate shows how many bytes a node takes.
 const MANY_NODES: u64 = 100_000;
-
-/// What is told where the places of the units are another plan than that of the certificate.
-const OTHER_PLAN: &str =
-    "The places in the unit text are another plan: this is the one of the certificate.\n";
-
-/// What helps where the places of the units are as good as those that a search found, or better.
-const KEEP_OWN: &str =
-    "With --keep a search begins at them, and they stay where no plan costs less.\n";
-
-/// What is told of a search that kept places, and ended without a proof.
-const KEEP_AGAIN: &str =
-    "A search that begins anew, as by other rules, has to be given --keep again.\n";
 
 /// Whether a search that was cut short took as many nodes or minutes as may be asked for.
 fn is_most(effort: &Effort, cut: Cut) -> bool {
@@ -92,155 +78,11 @@ fn found_of(told: &Told) -> Found {
     }
 }
 
-/// The units' own places, where they are another legal plan than the one that a search or a merge found, and cost no more, or where that
-/// found none: neither begins at them.
-#[derive(Clone, Copy)]
-struct Own {
-    /// What the busiest tick of their plan costs, in wire bytes.
-    cost: u64,
-    /// The same of the plan that was found.
-    found: Option<u64>,
-    /// How many units have another place in that.
-    moved: usize,
-    /// Whether they cost less, and no plan costs less than they do: by the level that was shown, or by the bytes of the units alone.
-    is_least: bool,
-}
-
-/// How many units that have a place have another one in a plan.
-fn moved_in(units: &Units, plan: &Plan) -> usize {
-    let mut count = 0usize;
-    for (unit, place) in units.units.as_slice().iter().zip(plan.places.as_slice()) {
-        let is_moved = unit.place.is_some_and(|own| own != *place);
-        count = count.saturating_add(usize::from(is_moved));
-    }
-    count
-}
-
-/// Whether some unit has a place.
-fn has_place(units: &Units) -> bool {
-    let mut places = units.units.as_slice().iter().map(|unit| unit.place);
-    places.any(|place| place.is_some())
-}
-
-/// A number of units.
-#[derive(Clone, Copy)]
-struct Count(usize);
-
-impl fmt::Display for Count {
-    fn fmt<W: fmt::Write>(&self, f: &mut fmt::Formatter<W>) -> fmt::Result {
-        let Count(count) = self;
-        let unit = if *count == 1 { "unit" } else { "units" };
-        write!(f, "{count} {unit}")
-    }
-}
-
-/// That a plan moves units with a place, where others have none, and what helps; nothing where it moves none.
-fn moved_text(alloc: Global, units: &Units, plan: &Plan) -> Result<String, AllocError> {
-    let moved = moved_in(units, plan);
-    if moved == 0 || !lacks_place(units) {
-        return Ok(String::new(alloc));
-    }
-    let moved = Count(moved);
-    format!(in alloc;
-        "This plan moves {moved} with a place. With --keep a search begins at their places.\n"
-    )
-}
-
-/// Why a plan doesn't keep the places that it was to keep: there are none, or it moves units; nothing where it keeps them.
-fn unkept_text(alloc: Global, units: &Units, plan: &Plan) -> Result<String, AllocError> {
-    let moved = moved_in(units, plan);
-    if !has_place(units) {
-        return String::from_str(alloc, "No unit has a place, so none was kept.\n");
-    }
-    if moved == 0 {
-        return Ok(String::new(alloc));
-    }
-    let moved = Count(moved);
-    match kept_plan(alloc, units)? {
-        None if lacks_place(units) => format!(in alloc;
-            "No room was found for the other units beside the places in the unit text: this plan moves {moved}.\n"
-        ),
-        None => format!(in alloc;
-            "The places in the unit text are no legal plan: this one moves {moved}.\n"
-        ),
-        Some(kept) => {
-            let (cost, _tick) = busiest(units, &kept);
-            format!(in alloc;
-                "The plan that keeps the places in the unit text costs {cost} bytes in its busiest tick: this one costs less, and moves {moved}.\n"
-            )
-        }
-    }
-}
-
-/// That the places of the units cost so many bytes in their busiest tick, and those of another plan more.
-fn better_text(alloc: Global, own: u64, found: u64) -> Result<String, AllocError> {
-    format!(in alloc;
-        "The places in the unit text are better: their busiest tick costs {own} bytes, and that of this plan {found}.\n"
-    )
-}
-
-impl Own {
-    /// Those of the units, beside what is told.
-    fn of(alloc: Global, told: &Told, units: &Units) -> Option<Own> {
-        let (_plan, cost) = placed_cost(alloc, units)?;
-        let (found, moved) = match told.plan() {
-            Some(other) => (legal_cost(units, other), moved_in(units, other)),
-            None => (None, 0),
-        };
-        let is_better = found.is_none_or(|found| cost < found);
-        let is_least = is_better
-            && told.ending.is_some_and(|ending| cost
-                <= ending.level.max(Cycle::of(units).mean.cost));
-        let own = Own {
-            cost,
-            found,
-            moved,
-            is_least,
-        };
-        Some(own).filter(|_| is_better || (found == Some(cost) && moved > 0))
-    }
-
-    /// What is told of them.
-    fn text(self, alloc: Global) -> Result<String, AllocError> {
-        let Own {
-            cost,
-            found,
-            moved,
-            is_least,
-        } = self;
-        let moved = Count(moved);
-        match found {
-            _ if is_least => format!(in alloc;
-                "The places in the unit text are the best: their busiest tick costs {cost} bytes, and that of no plan costs less.\nNo longer search is needed.\n"
-            ),
-            Some(found) if found == cost => format!(in alloc;
-                "The places in the unit text are as good: their busiest tick costs {cost} bytes, too.\nThis plan moves {moved}, and with them addresses and FMMU records.\n"
-            ),
-            Some(found) => better_text(alloc, cost, found),
-            None => format!(in alloc;
-                "The places in the unit text are a legal plan: its busiest tick costs {cost} bytes.\n"
-            ),
-        }
-    }
-}
-
 /// Tells that a plan whose busiest tick costs so many wire bytes doesn't fit into its ticks, if it doesn't.
 fn tell_unfit(rt: &impl Host, cycle: Cycle<'_>, cost: u64) {
     let given = Found::Given(cost);
     if let Ok(text) = advice(rt.alloc(), given, Some(cycle), Filed::Unasked, Asked::Whole) {
         let _ = rt.eprint(text.as_str());
-    }
-}
-
-/// Tells that the places of the units are another plan than that of a certificate, which costs so many wire bytes, if they are a legal
-/// one.
-fn tell_other(rt: &impl Host, units: &Units, plan: &Plan, cost: u64) {
-    match placed_cost(rt.alloc(), units) {
-        Some((_, own)) if own < cost => tell(rt, better_text(rt.alloc(), own, cost)),
-        Some((own, _)) if own.places.as_slice() != plan.places.as_slice() => {
-            let _ = rt.eprint(OTHER_PLAN);
-        }
-        _ => {}
     }
 }
 
@@ -321,26 +163,6 @@ fn tell_end(rt: &impl Host, done: Done<'_>) {
     match (done.target, done.fault, done.untold) {
         (Some(target), Some(fault), _) => tell_fault(rt, target, fault),
         (Some(target), None, Some(_)) => tell_whole(rt, target),
-        _ => {}
-    }
-}
-
-/// Tells of the units' own places, beside those that were found; `keep` says whether a search was to keep them, if it could have.
-fn tell_own(rt: &impl Host, told: &Told, units: &Units, own: Option<Own>, keep: Option<bool>) {
-    if let Some(own) = own {
-        tell(rt, own.text(rt.alloc()));
-    }
-    match (keep, own, told.plan()) {
-        (Some(false), Some(own), _) if !own.is_least => {
-            let _ = rt.eprint(KEEP_OWN);
-        }
-        (Some(false), None, Some(plan)) => tell(rt, moved_text(rt.alloc(), units, plan)),
-        (Some(true), _, Some(plan)) => {
-            if told.ending.is_some() {
-                let _ = rt.eprint(KEEP_AGAIN);
-            }
-            tell(rt, unkept_text(rt.alloc(), units, plan));
-        }
         _ => {}
     }
 }

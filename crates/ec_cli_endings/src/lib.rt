@@ -7,6 +7,7 @@
 mod after;
 mod ending;
 mod others;
+mod own;
 mod record;
 mod refusal;
 mod untold;

@@ -67,6 +67,15 @@ pub fn lacks_place(units: &Units) -> bool {
         .any(|unit| unit.place.is_none())
 }
 
+/// Whether some unit has a place.
+pub fn has_place(units: &Units) -> bool {
+    units
+        .units
+        .as_slice()
+        .iter()
+        .any(|unit| unit.place.is_some())
+}
+
 /// A unit text that stands at a path, and what it says.
 #[derive(Drop)]
 pub(crate) struct Standing {

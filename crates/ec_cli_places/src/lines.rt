@@ -25,7 +25,7 @@ pub(crate) fn are_among(one: &[u8], other: &[u8]) -> bool {
 }
 
 /// Whether a line says the phase or the slot of a unit, whatever stands beside it.
-fn has_place(line: &[u8]) -> bool {
+fn says_place(line: &[u8]) -> bool {
     let key = line.split(|byte| *byte == b'=').next().unwrap_or(line);
     matches!(
         key.trim_ascii(),
@@ -35,7 +35,7 @@ fn has_place(line: &[u8]) -> bool {
 
 /// What of a line other places leave as it is: of one that says a place its comment, else all but the blanks at its end.
 fn kept_part(line: &[u8]) -> &[u8] {
-    if !has_place(line) {
+    if !says_place(line) {
         return line.trim_ascii_end();
     }
     match line.iter().position(|byte| *byte == b'#') {
