@@ -29,7 +29,7 @@ CostsMore loads n ps u cost q = (b : ℕ) → FitsAt loads n ps u q b → cost <
 abbrev CostsNoLess : List Load → ℕ → Prefix → ℕ → ℕ → Place → Type 0
 CostsNoLess loads n ps u cost q = (b : ℕ) → FitsAt loads n ps u q b → cost ≤ b
 
--- the best of the children looked at so far, with its cost
+-- the best of the places looked at so far, with its cost
 pub record IsBestOf (loads : List Load) (n : ℕ) (ps : Prefix) (u : ℕ) (seen : List Place) (p : Place) (cost : ℕ) : Type 0 where
   pub fits : FitsAt loads n ps u p cost
   pub before : List Place
@@ -45,7 +45,7 @@ BestSoFar loads n ps u seen (Some c) = IsBestOf loads n ps u seen c.place c.cost
 All-map : {X : Type 0} (P Q : X → Type 0) (xs : List X) → ((x : X) → P x → Q x) → All P xs → All Q xs
 All-map P Q xs f all = λ k d h. f (get_or xs k d) (all k d h)
 
--- a child that is too full
+-- a place that is too full
 best_full : (loads : List Load) (n : ℕ) (ps : Prefix) (u : ℕ) (seen : List Place) (q : Place) (best : Option Choice) → IsTooFull loads n ps u q → BestSoFar loads n ps u seen best → BestSoFar loads n ps u (seen ++ q ∷ []) best
 best_full loads n ps u seen q None full so_far = All-push (IsTooFull loads n ps u) seen q so_far full
 best_full loads n ps u seen q (Some c) full so_far =
@@ -58,7 +58,7 @@ best_full loads n ps u seen q (Some c) full so_far =
       later = All-push (CostsNoLess loads n ps u c.cost) so_far.after q so_far.later (λ b fits. absurd (full fits.fits));
     }
 
--- the first child that fits
+-- the first place that fits
 best_first : (loads : List Load) (n : ℕ) (ps : Prefix) (u : ℕ) (seen : List Place) (q : Place) (cost : ℕ) → FitsAt loads n ps u q cost → All (IsTooFull loads n ps u) seen → IsBestOf loads n ps u (seen ++ q ∷ []) q cost
 best_first loads n ps u seen q cost fits so_far =
     record {
@@ -70,7 +70,7 @@ best_first loads n ps u seen q cost fits so_far =
       later = All-nil _;
     }
 
--- a child that costs less than the best so far
+-- a place that costs less than the best so far
 best_less : (loads : List Load) (n : ℕ) (ps : Prefix) (u : ℕ) (seen : List Place) (q : Place) (cost : ℕ) (c : Choice) → FitsAt loads n ps u q cost → cost < c.cost → IsBestOf loads n ps u seen c.place c.cost → IsBestOf loads n ps u (seen ++ q ∷ []) q cost
 best_less loads n ps u seen q cost c fits less so_far =
     let own : CostsMore loads n ps u cost c.place = λ b at. let same = one_busiest (items_at loads ps u c.place) n c.cost b so_far.fits.busiest at.busiest in omega (arith, same, less) in
@@ -97,7 +97,7 @@ best_kept loads n ps u seen q cost c fits low so_far =
       later = All-push (CostsNoLess loads n ps u c.cost) so_far.after q so_far.later (λ b at. let same = one_busiest (items_at loads ps u q) n cost b fits.busiest at.busiest in omega (arith, same, low));
     }
 
--- what is chosen after one child more
+-- what is chosen after one place more
 pub record IsBetter (best : Option Choice) (q : Place) (cost : Option ℕ) (result : Option Choice) : Type 0 where
   pub full : cost ≡ None → result ≡ best
   pub first : (c : ℕ) → cost ≡ Some c → best ≡ None → result ≡ Some (record { place = q; cost = c })
@@ -118,7 +118,7 @@ best_more loads n ps u seen q (Some c) (Some cost) result fits is so_far =
       | inr low ↦ subst (BestSoFar loads n ps u (seen ++ q ∷ [])) (sym (is.kept cost c refl refl low)) (best_kept loads n ps u seen q cost c at low so_far)
     ]
 
--- one more child is tried
+-- one more place is tried
 pub tried : (args cur placed : Held) (u : ℕ) (seen : List Place) (q : Place) (best : Option Choice) (cost : Option ℕ) (result : Option Choice) →
     cur ≡ args → placed ≡ with_place cur u (Some q) →
     MatchOption cost (¬ (Fits (items_of placed) placed.slots)) (λ b. Fits (items_of placed) placed.slots × IsBusiest (items_of placed) placed.slots b) →

@@ -23,15 +23,19 @@ pub record FitsAt (loads : List Load) (n : ℕ) (ps : Prefix) (u : ℕ) (p : Pla
   pub fits : Fits (items_at loads ps u p) n
   pub busiest : IsBusiest (items_at loads ps u p) n b
 
--- the child, by the rules of slots alone, that keeps every payload small enough and has the least busiest tick, and of several such children the first
-pub record IsBestChild (loads : List Load) (n : ℕ) (ps : Prefix) (u : ℕ) (p : Place) : Type 0 where
+-- the place among these that keeps every payload small enough and has the least busiest tick, and of several such places the first
+pub record IsBestAmong (loads : List Load) (n : ℕ) (ps : Prefix) (u : ℕ) (among : List Place) (p : Place) : Type 0 where
   pub cost : ℕ
   pub fits : FitsAt loads n ps u p cost
   pub before : List Place
   pub after : List Place
-  pub child : children (line_by slots_alone loads n) ps u ≡ before ++ p ∷ after
+  pub child : among ≡ before ++ p ∷ after
   pub earlier : All (λ q. (b : ℕ) → FitsAt loads n ps u q b → cost < b) before
   pub later : All (λ q. (b : ℕ) → FitsAt loads n ps u q b → cost ≤ b) after
+
+-- the best child by the rules of slots alone
+abbrev pub IsBestChild : List Load → ℕ → Prefix → ℕ → Place → Type 0
+IsBestChild loads n ps u = IsBestAmong loads n ps u (children (line_by slots_alone loads n) ps u)
 
 -- from a prefix on, each unit of the order at its best child leads to the other prefix
 abbrev pub IsGreedyTo : List Load → ℕ → Prefix → List ℕ → Prefix → Type 0

@@ -9,13 +9,13 @@ ghost use Rattle.ec_loads.specs.Legal.{Fits, IsLegal};
 ghost use Rattle.ec_loads.specs.Line.{slots_alone, line_of};
 ghost use Rattle.ec_loads.specs.Search.{children};
 ghost use Rattle.ec_branch.specs.declared.greedy_plan.Choice.{Choice};
-ghost use Rattle.ec_branch.specs.Greedy.{IsTooFull, IsBestChild, IsGreedyTo, IsStuck, IsGreedyPlan, HasNoGreedyPlan};
+ghost use Rattle.ec_branch.specs.Greedy.{IsTooFull, IsBestAmong, IsBestChild, IsGreedyTo, IsStuck, IsGreedyPlan, HasNoGreedyPlan};
 ghost use Rattle.ec_branch.specs.Walks.{IsReadyFor};
 
 use crate::order::search_order;
 use crate::plan::whole;
 use ec_loads::{Loads, Plan};
-use ec_symmetry::children_of;
+use ec_symmetry::{Children, children_of};
 use ec_units::{Place, Units};
 use std::alloc::{AllocError, Global};
 
@@ -57,16 +57,16 @@ fn better(best: Option<Choice>, place: Place, cost: Option<u64>) -> Option<Choic
     }
 }
 
-/// The first child of least busiest tick, of those that keep every payload small enough.
-pub(crate) fn best_child(loads: &mut Loads, unit: usize) -> Option<Place>
+/// The first of these places of least busiest tick, of those that keep every payload small enough.
+pub(crate) fn best_among(loads: &mut Loads, unit: usize, places: Children) -> Option<Place>
     requires { slice_get loads.old.places unit ≡ Some None }
     ensures same { loads.new ≡ loads.old }
-    ensures best { MatchOption result (All (IsTooFull loads.old.loads loads.old.slots loads.old.places unit) (children (line_of slots_alone loads.old) loads.old.places unit))
-        (λ p. IsBestChild loads.old.loads loads.old.slots loads.old.places unit p) }
+    ensures best { MatchOption result (All (IsTooFull loads.old.loads loads.old.slots loads.old.places unit) places)
+        (λ p. IsBestAmong loads.old.loads loads.old.slots loads.old.places unit places p) }
 {
     let mut best = None;
-    let mut places = children_of(loads, unit, false);
-    while let Some(place) = places.next() {
+    let mut left = places;
+    while let Some(place) = left.next() {
         loads.place(unit, place);
         best = better(best, place, fitting_cost(loads));
         loads.remove(unit);
@@ -75,6 +75,17 @@ pub(crate) fn best_child(loads: &mut Loads, unit: usize) -> Option<Place>
         Some(choice) => Some(choice.place),
         None => None,
     }
+}
+
+/// The first child of least busiest tick, of those that keep every payload small enough.
+fn best_child(loads: &mut Loads, unit: usize) -> Option<Place>
+    requires { slice_get loads.old.places unit ≡ Some None }
+    ensures same { loads.new ≡ loads.old }
+    ensures best { MatchOption result (All (IsTooFull loads.old.loads loads.old.slots loads.old.places unit) (children (line_of slots_alone loads.old) loads.old.places unit))
+        (λ p. IsBestChild loads.old.loads loads.old.slots loads.old.places unit p) }
+{
+    let places = children_of(loads, unit, false);
+    best_among(loads, unit, places)
 }
 
 /// Gives each unit of the order its best child; false where every child of one is too full.

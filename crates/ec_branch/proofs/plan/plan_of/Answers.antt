@@ -1,7 +1,7 @@
 use Rattle.std.proofs.Common.{length, ap, ◌∙◌, arith}
 use Rattle.std.proofs.lemmas.List.{take_all}
 use Rattle.ec_branch.proofs.WalkLemmas.{all_some, same_plan}
-use Rattle.ec_branch.proofs.kept.plan_of.Goals as goal
+use Rattle.ec_branch.proofs.plan.plan_of.Goals as goal
 
 pub returns-in-None-clause-none : goal.returns-in-None-clause-none
 returns-in-None-clause-none c =

@@ -6,7 +6,7 @@ use Rattle.ec_loads.specs.Legal.{IsLegal}
 use Rattle.ec_loads.specs.declared.plan.Plan.{Plan}
 use Rattle.ec_branch.specs.Kept.{Keeps, own_places}
 use Rattle.ec_branch.proofs.KeptLemmas.{all_kept}
-use Rattle.ec_branch.proofs.kept.kept_plan.Goals as goal
+use Rattle.ec_branch.proofs.kept.kept_by.Goals as goal
 
 pub returns-in_default-clause-own : goal.returns-in_default-clause-own
 returns-in_default-clause-own c =
