@@ -3,15 +3,19 @@
 
 use crate::ending::{Done, file_bytes};
 use crate::others::{gone_at, stale_at, tell_old};
+use crate::own::tell_former;
 use ec_checker::Verdict;
 use ec_cli_answers::Told;
 use ec_cli_explain::Cycle;
 use ec_cli_files::{Content, Fate, FileFault, KeepReason, Whole, make_whole, read_file};
 use ec_cli_paths::{Host, Target, tell, tell_fault, tell_path, tell_whole};
-use ec_cli_places::{PlacedFault, Placing, loses_lines, placed_text, reason_to_stay};
+use ec_cli_places::{
+    PlacedFault, Placing, loses_lines, placed_text, reason_to_stay, standing_text,
+};
 use ec_cost_picture::picture;
 use ec_loads::is_legal;
 use ec_master_files::{Claim, header_of, map_of, report_of};
+use ec_unit_text::read_units;
 use ec_units::Units;
 use std::alloc::{AllocError, Global};
 
@@ -180,9 +184,31 @@ impl<R: Host> After<'_, R> {
         }
     }
 
-    /// Lets a file take its place at the path, and tells which lines of the one that stood there are gone, and where that lies.
+    /// The units with the places that stand at the path, where those of a plan are to be written over them.
+    fn former(&self) -> Option<Units> {
+        if self.target.content != Content::Units {
+            return None;
+        }
+        let text = standing_text(self.rt, self.rt.alloc(), self.target.path)?;
+        read_units(self.rt.alloc(), text.as_slice()).ok()
+    }
+
+    /// Tells the places that stood at the path, where the file that had them is gone.
+    fn tell_gone_places(&self, former: &Option<Units>) {
+        if let (Some(former), Some(units), Some(plan)) = (
+            former,
+            self.done.units,
+            self.told.plan(),
+        ) {
+            tell_former(self.rt, self.target.path, former, units, plan);
+        }
+    }
+
+    /// Lets a file take its place at the path, and tells which lines of the one that stood there are gone, and where that lies; of one that
+    /// lies nowhere, the places that it had.
     fn settle(&self, whole: Whole<'_, R>) -> Result<(), AfterFault> {
         let (rt, path) = (self.rt, self.target.path);
+        let former = self.former();
         let gone = if self.is_other_text() {
             gone_at(rt, path, self.done.record.text)
         } else {
@@ -191,6 +217,9 @@ impl<R: Host> After<'_, R> {
         let settled = whole.settle(|_| self.fate());
         if let (Some(gone), Ok(_) | Err(FileFault::Unsynced { .. })) = (gone, &settled) {
             tell(rt, Ok(gone));
+        }
+        if let Ok(None) | Err(FileFault::Unsynced { .. }) = &settled {
+            self.tell_gone_places(&former);
         }
         match settled {
             Ok(Some(old)) => tell_old(rt, path, old.as_str()),

@@ -5,9 +5,9 @@ use ec_cli_answers::Told;
 use ec_cli_explain::Cycle;
 use ec_cli_paths::{Host, tell};
 use ec_cli_places::{has_place, lacks_place, legal_cost, placed_cost};
-use ec_cli_spots::Quoted;
-use ec_loads::{Plan, busiest};
-use ec_units::{Place, Units};
+use ec_cli_spots::{PathPiece, Quoted};
+use ec_loads::{Loads, Plan, busiest};
+use ec_units::{Place, Unit, Units};
 use std::alloc::{AllocError, Global};
 use std::fmt;
 use std::fmt::Write as _;
@@ -34,7 +34,7 @@ pub(crate) struct Own {
     found: Option<u64>,
     /// How many units have another place in that.
     moved: usize,
-    /// Whether they cost less, and no plan costs less than they do: by the level that was shown, or by the bytes of the units alone.
+    /// Whether they cost less, and no plan costs less than they do: by the level that was shown, or by the units alone.
     pub(crate) is_least: bool,
 }
 
@@ -72,6 +72,56 @@ fn moved_text(alloc: Global, units: &Units, plan: &Plan) -> Result<String, Alloc
     )
 }
 
+/// Adds a line with a place of a unit.
+fn push_place(text: &mut String, unit: &Unit, place: Place) -> Result<(), AllocError> {
+    let (name, Place { phase, slot }) = (Quoted(unit.name.as_str()), place);
+    write!(text, "    unit {name}: phase = {phase}, slot = {slot}\n")?;
+    Ok(())
+}
+
+/// The place that a plan gives to the unit of this name, if there is one.
+fn place_of(units: &Units, plan: &Plan, name: &str) -> Option<Place> {
+    let mut pairs = units.units.as_slice().iter().zip(plan.places.as_slice());
+    let (_, place) = pairs.find(|(unit, _)| unit.name.as_str() == name)?;
+    Some(*place)
+}
+
+/// The place that a unit of a unit text that stood at a path had, where a plan gives it another one.
+fn former_place(units: &Units, plan: &Plan, former: &Unit) -> Option<Place> {
+    let place = place_of(units, plan, former.name.as_str())?;
+    former.place.filter(|own| *own != place)
+}
+
+/// The places of a unit text that stood at a path which a plan has changed, and what they are good for; nothing where it changed none.
+fn former_text(
+    alloc: Global,
+    path: &str,
+    former: &Units,
+    units: &Units,
+    plan: &Plan,
+) -> Result<String, AllocError> {
+    let mut text = String::new(alloc);
+    for unit in former.units.as_slice() {
+        if let Some(place) = former_place(units, plan, unit) {
+            if text.is_empty() {
+                write!(text, "These places stood in {} before:\n", PathPiece(path))?;
+            }
+            push_place(&mut text, unit, place)?;
+        }
+    }
+    if !text.is_empty() {
+        text.push_str(
+            "Where they are written into the unit text, a search with --keep begins at them.\n",
+        )?;
+    }
+    Ok(text)
+}
+
+/// Tells which places stood in the unit text at a path before those of a plan were written there, of the units that have others now.
+pub(crate) fn tell_former(rt: &impl Host, path: &str, former: &Units, units: &Units, plan: &Plan) {
+    tell(rt, former_text(rt.alloc(), path, former, units, plan));
+}
+
 /// That a plan that keeps the places of the units costs so many wire bytes, where another one moves so many, and where it puts the others.
 fn kept_text(
     alloc: Global,
@@ -84,15 +134,38 @@ fn kept_text(
         "The plan that keeps the places in the unit text costs {cost} bytes in its busiest tick: this one costs less, and moves {moved}.\n"
     )?;
     if lacks_place(units) {
-        text.push_str("To have that one, write these places into the text:\n")?;
+        text.push_str("That plan has the units without a place here:\n")?;
     }
     for (unit, place) in units.units.as_slice().iter().zip(kept.places.as_slice()) {
         if unit.place.is_none() {
-            let (name, Place { phase, slot }) = (Quoted(unit.name.as_str()), *place);
-            write!(text, "    unit {name}: phase = {phase}, slot = {slot}\n")?;
+            push_place(&mut text, unit, *place)?;
         }
     }
     Ok(text)
+}
+
+/// The tick and the slot in which the places that units have carry too many bytes, if they do.
+fn full_at(alloc: Global, units: &Units) -> Result<Option<(u32, u8)>, AllocError> {
+    let mut loads = Loads::new(alloc, units)?;
+    for (at, unit) in units.units.as_slice().iter().enumerate() {
+        if let (Some(place), Some(None)) = (unit.place, loads.places().get(at)) {
+            loads.place(at, place);
+        }
+    }
+    Ok(loads.full())
+}
+
+/// Why no plan keeps the places of the units, where another one moves so many: they carry too many bytes by themselves, or leave the
+/// other units no room.
+fn unkeepable_text(alloc: Global, units: &Units, moved: Count) -> Result<String, AllocError> {
+    match full_at(alloc, units)? {
+        Some((tick, slot)) => format!(in alloc;
+            "The places in the unit text are no legal plan: in tick {tick} slot {slot} has too many bytes for one frame. This plan moves {moved}.\n"
+        ),
+        None => format!(in alloc;
+            "No room was found for the other units beside the places in the unit text: this plan moves {moved}.\n"
+        ),
+    }
 }
 
 /// Why a plan doesn't keep the places that it was to keep: there are none, or it moves units; nothing where it keeps them.
@@ -106,12 +179,7 @@ fn unkept_text(alloc: Global, units: &Units, plan: &Plan) -> Result<String, Allo
     }
     let moved = Count(moved);
     match kept_plan(alloc, units)? {
-        None if lacks_place(units) => format!(in alloc;
-            "No room was found for the other units beside the places in the unit text: this plan moves {moved}.\n"
-        ),
-        None => format!(in alloc;
-            "The places in the unit text are no legal plan: this one moves {moved}.\n"
-        ),
+        None => unkeepable_text(alloc, units, moved),
         Some(kept) => {
             let (cost, _tick) = busiest(units, &kept);
             kept_text(alloc, units, &kept, cost, moved)
@@ -136,8 +204,7 @@ impl Own {
         };
         let is_better = found.is_none_or(|found| cost < found);
         let is_least = is_better
-            && told.ending.is_some_and(|ending| cost
-                <= ending.level.max(Cycle::of(units).mean.cost));
+            && told.ending.is_some_and(|ending| cost <= ending.level.max(Cycle::of(units).least()));
         let own = Own {
             cost,
             found,

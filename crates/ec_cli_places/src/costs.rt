@@ -1,6 +1,8 @@
 //! What plans cost, and whether a unit text that stands has a better one.
 
 ghost use Rattle.std.specs.Prelude.{◌≡◌, IfSome, None};
+ghost use Rattle.std.specs.List.{list_any};
+ghost use Rattle.std.specs.Option.{is_none, is_some};
 ghost use Rattle.ec_units.specs.Views.{units_view};
 ghost use Rattle.ec_loads.specs.Cost.{plan_items, IsBusiest};
 ghost use Rattle.ec_loads.specs.Legal.{IsLegal};
@@ -59,7 +61,9 @@ pub(crate) fn are_alike(one: &Units, other: &Units) -> bool {
 }
 
 /// Whether some unit has no place, as in a text that is written by hand.
-pub fn lacks_place(units: &Units) -> bool {
+pub fn lacks_place(units: &Units) -> bool
+    ensures { result ≡ list_any (λ u. is_none u.place) units.now.units }
+{
     units
         .units
         .as_slice()
@@ -68,7 +72,9 @@ pub fn lacks_place(units: &Units) -> bool {
 }
 
 /// Whether some unit has a place.
-pub fn has_place(units: &Units) -> bool {
+pub fn has_place(units: &Units) -> bool
+    ensures { result ≡ list_any (λ u. is_some u.place) units.now.units }
+{
     units
         .units
         .as_slice()
