@@ -282,14 +282,14 @@ def try_kept(output, path, stands, trial):
 
 
 def try_output_goes(output, trial):
-    """Standard output goes to the file at PATH, which it has emptied: nothing is written but what is said there."""
+    """Standard output goes to the file at PATH, which it has emptied: nothing is written there."""
     output.put(trial)
     trial.put("of-run", b"")
     before = trial.seen()
     with open(trial.at("of-run"), "wb") as out:
         done = trial.run(*output.line("of-run"), out=out)
     trial.holds(done.code == 4, f"it ended with status {done.code}")
-    trial.left(before, {"of-run": REFUSED_WRITE.encode("ascii")})
+    trial.left(before, {"of-run": b""})
 
 
 def try_no_file(output, trial):

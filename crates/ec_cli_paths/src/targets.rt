@@ -198,6 +198,18 @@ pub fn may_write(rt: &impl Host, targets: &[Option<Target<'_>>]) -> bool {
     !is_any_kept && !has_same(rt, targets)
 }
 
+/// Whether standard output goes to the file at one of some paths to write; tells that. Not even a line that refuses may be written there.
+pub fn goes_to_output(rt: &impl Host, targets: &[Option<Target<'_>>]) -> bool {
+    for target in targets.iter().flatten() {
+        let kept = reason_to_keep(rt, rt.alloc(), target.path, target.content);
+        if kept == Some(KeepReason::IsOutput) {
+            tell_kept(rt, *target, KeepReason::IsOutput);
+            return true;
+        }
+    }
+    false
+}
+
 /// That a path can't be written, while a search goes on.
 fn unwritable_text(
     rt: &impl Host,

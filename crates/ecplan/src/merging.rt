@@ -11,7 +11,9 @@ use ec_cert_merge::Misfit;
 use ec_cli_answers::Told;
 use ec_cli_endings::{Done, FAILED, tell_merged, tell_refusal, tell_untold};
 use ec_cli_files::Content;
-use ec_cli_paths::{Host, Target, is_proof_at, may_write, takes_text, target_at, tell};
+use ec_cli_paths::{
+    Host, Target, goes_to_output, is_proof_at, may_write, takes_text, target_at, tell,
+};
 use ec_cli_refusals::Refusal;
 use ec_cli_run::{MergeFault, do_merge};
 use ec_cli_spots::PathPiece;
@@ -133,10 +135,10 @@ fn writes_to_input(rt: &impl Host, merging: &Merging) -> bool {
 pub(crate) fn do_merging<H: Host + Print + Input>(rt: &H, merging: &Merging, streams: Streams) -> u8
     requires { MergingFits merging.now }
 {
-    if writes_to_input(rt, merging) {
+    let target = target_at(&merging.out, Content::Certificate);
+    if writes_to_input(rt, merging) || goes_to_output(rt, &[target]) {
         return FAILED;
     }
-    let target = target_at(&merging.out, Content::Certificate);
     if !may_write(rt, &[target]) {
         return refuse_line(rt, Refusal::Write);
     }
