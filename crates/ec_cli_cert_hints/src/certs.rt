@@ -2,14 +2,17 @@
 
 use crate::due::CertText;
 use ec_cert_text::CertFault;
-use ec_cli_spots::{Bytes, CertName, Inputs, header_of, line_at, position_of};
+use ec_cli_spots::{Bytes, CertName, Inputs, header_of, line_at, made_text, position_of};
 use ec_text_builder::Draft;
 
 /// Adds a line of a certificate, from 0, as it stands.
 pub(crate) fn add_line(out: &mut Draft, cert: &[u8], line: usize) {
     match line_at(cert, line) {
         None => {}
-        Some([]) => out.add("    (an empty line, or the end of the text)\n"),
+        Some([]) if line_at(cert, line.saturating_add(1)).is_none() => {
+            out.add("    (the end of the text)\n");
+        }
+        Some([]) => out.add("    (an empty line)\n"),
         Some(bytes) => {
             out.add(format_args!("    {}\n", Bytes(bytes, 120)));
             if bytes.ends_with(b" ") {
@@ -68,7 +71,9 @@ fn tell_version(out: &mut Draft, inputs: &Inputs<'_>) {
         Some(cert) => {
             out.add(". It begins:\n");
             add_line(out, cert, 0);
-            if has_unit(cert) {
+            if let Some(made) = made_text(cert) {
+                out.add(made);
+            } else if has_unit(cert) {
                 out.add("It is a unit text: a certificate is what plan --out writes.\n");
             } else if is_newer(cert) {
                 out.add("A newer ecplan may have written it: check it with that one.\n");
@@ -114,7 +119,11 @@ pub fn tell_cert(out: &mut Draft, inputs: &Inputs<'_>, fault: CertFault) {
         ),
         CertFault::NotText => {
             out.add(format_args!("{name} is not plain text.\n"));
-            return add_stranger(out, inputs.cert.unwrap_or(&[]));
+            let cert = inputs.cert.unwrap_or(&[]);
+            return match made_text(cert) {
+                Some(made) => out.add(made),
+                None => add_stranger(out, cert),
+            };
         }
         CertFault::Version => return tell_version(out, inputs),
         CertFault::TooLarge => {

@@ -101,18 +101,19 @@ pub fn tell_check(out: &mut Draft, inputs: &Inputs<'_>, doc: Doc<'_>, fault: Che
         CheckFault::OutOfMemory => tell_memory(out, inputs),
         CheckFault::OtherUnits => tell_others(out, inputs, doc),
         CheckFault::Order => {
-            out.add(format_args!("{name} does not name each unit once in its line order.\n"));
-            if let (Some(cert), Some(line)) = (inputs.cert, line_of(inputs, b"order")) {
-                add_line(out, cert, line);
-            }
+            out.add(format_args!("{name} does not name each unit once in its line order"));
+            add_line_of(out, inputs, line_of(inputs, b"order"));
         }
         CheckFault::Plan(illegal) => {
             out.add(format_args!("{name} has a plan that is not legal.\n"));
             add_illegal(out, doc, illegal);
         }
-        CheckFault::Value(stated, found) => out.add(format_args!(
-            "{name} states the value {stated}, and the busiest tick of its plan costs {found} bytes.\n"
-        )),
+        CheckFault::Value(stated, found) => {
+            out.add(format_args!(
+                "{name} states the value {stated}, and the busiest tick of its plan costs {found} bytes"
+            ));
+            add_line_of(out, inputs, line_of(inputs, b"value"));
+        }
         CheckFault::Level(level, value) => {
             out.add(format_args!(
                 "{name} states the level {level}, and the busiest tick of its plan costs {value} bytes"

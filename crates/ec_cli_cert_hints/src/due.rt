@@ -117,8 +117,8 @@ impl<'a> CertText<'a> {
         }
     }
 
-    /// The form of what is due, and its ranges. In version 1 no leaf has weights, and before version 4 only in version 3 a leaf may
-    /// be open; in version 4 where there is a level.
+    /// The form of what is due, and the ranges of its numbers; those of the nodes that version 4 alone has are told by `note_of`. In
+    /// version 1 no leaf has weights, and before version 4 only in version 3 a leaf may be open; in version 4 where there is a level.
     fn form_of(self, due: Due) -> &'static str {
         match (due, self.version) {
             (Due::Form(form), _) => form,

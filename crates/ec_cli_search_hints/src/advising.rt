@@ -218,7 +218,7 @@ impl Search<'_> {
         }
     }
 
-    /// Adds what its end is good for, what is known of each plan of a line, with the level that its bytes alone give where that is greater,
+    /// Adds what its end is good for, what is known of each plan of a line, with the level that its units alone give where that is greater,
     /// what would help, and how one goes on; less where the line isn't known.
     fn add_ending(mut self, out: &mut Draft, cycle: Option<Cycle<'_>>) {
         let Some(cycle) = cycle else {
@@ -241,10 +241,10 @@ impl Search<'_> {
         if self.ending.best.is_some_and(|best| cycle.is_beyond(best)) {
             cycle.add_unknown(out, least);
         }
-        let level = cycle.mean.cost;
+        let level = cycle.least();
         if level > self.ending.level {
-            cycle.add_mean(out);
-            if self.ending.best == Some(level) {
+            cycle.add_least(out);
+            if self.ending.best == Some(level) && level == cycle.mean.cost {
                 return out.add(format_args!(
                     "No plan's busiest tick costs less than {level} bytes, so none is better.\nIt is not told as optimal, since its certificate does not show that. No longer search is needed.\n"
                 ));

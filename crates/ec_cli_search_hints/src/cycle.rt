@@ -153,8 +153,16 @@ impl<'a> Cycle<'a> {
         }
     }
 
-    /// Adds what some tick of each plan carries at least.
-    pub(crate) fn add_mean(self, out: &mut Draft) {
+    /// Adds why some tick of each plan costs the least that it does: two units meet there, or it carries so many bytes.
+    pub(crate) fn add_least(self, out: &mut Draft) {
+        if let Some(meeting) = self.meeting
+            && self.mean.cost < wire_of_both(meeting)
+        {
+            let cost = wire_of_both(meeting);
+            return out.add(format_args!(
+                "{meeting}, and take at least {cost} bytes on the wire there.\n"
+            ));
+        }
         let MeanTick {
             bytes,
             frames,

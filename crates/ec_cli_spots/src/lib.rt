@@ -6,6 +6,7 @@ mod illegal;
 mod inputs;
 mod kinds;
 mod label;
+mod made;
 mod quoted;
 mod written;
 
@@ -14,6 +15,7 @@ pub use illegal::add_illegal;
 pub use inputs::{Doc, Fields, Inputs, are_coprime, bytes_of, has_period, slave_bytes, ticks_of};
 pub use kinds::{Kind, SLAVE, TOP, UNIT};
 pub use label::{AtLine, In, Named, Pair};
+pub use made::made_text;
 pub use quoted::{
     Bytes, CertName, Coded, Front, Letter, MOST_OF_LINE, PIECE, PathPiece, Quoted, Shown, TextLine,
     Word, is_shown, is_told_whole, quoted_path,

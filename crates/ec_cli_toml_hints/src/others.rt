@@ -1,5 +1,6 @@
 //! A text that isn't one of units, and what it is.
 
+use ec_cli_spots::made_text;
 use ec_text_builder::Draft;
 
 /// Whether a text has one NUL in each of its first four pairs of bytes, as one in UTF-16 has whose letters are plain.
@@ -13,6 +14,9 @@ fn is_wide(text: &str) -> bool {
 
 /// What a text is that isn't one of units, as far as that is seen.
 pub(crate) fn kind_of(text: &str) -> Option<&'static str> {
+    if let Some(made) = made_text(text.as_bytes()) {
+        return Some(made);
+    }
     let version = text.strip_prefix("ecplan ").unwrap_or("");
     let front = text.trim_start_matches('\u{feff}').trim_start();
     let kind = if version.starts_with(|letter: char| letter.is_ascii_digit()) {

@@ -1,10 +1,13 @@
 //! Places of units: out of range, half given, missing, or too many units in one slot.
 
-use ec_cli_spots::{Doc, Fields, In, Named, Pair, Quoted, add_illegal, are_coprime};
+use ec_cli_spots::{Doc, Fields, In, Named, Pair, Quoted, add_illegal, are_coprime, bytes_of};
 use ec_loads::Illegal;
 use ec_text_builder::Draft;
 use ec_unit_text::{Key, Spot};
 use toml::Value;
+
+/// The most bytes of a datagram that is alone in its frame.
+const MOST_OF_DATAGRAM: i128 = 1486;
 
 /// Adds that there can be more slots than the file has, if there can, and this slot can be one of them.
 fn add_more_slots(out: &mut Draft, doc: Doc<'_>, slot: i64) {
@@ -126,6 +129,48 @@ fn has_phases(units: &[Value], tick: i64, slot: i64) -> bool {
     is_alone
 }
 
+/// The bytes of all units that travel in a tick and a slot, and those of the least of them, 0 where none does.
+fn carried(doc: Doc<'_>, tick: i64, slot: i64) -> (i128, i128) {
+    let (mut sum, mut least) = (0i128, None);
+    for unit in 0..doc.units().len() {
+        if travels(doc.unit(Some(unit)), tick, slot) {
+            let bytes = bytes_of(doc.slaves(Some(unit)));
+            sum = sum.saturating_add(bytes);
+            least = Some(least.map_or(bytes, |so_far: i128| so_far.min(bytes)));
+        }
+    }
+    (sum, least.unwrap_or(0))
+}
+
+/// Whether another slot may have room in a tick for one of the units that travel there in this one: with the least of them its frame has
+/// no more bytes than one datagram may have. A slot that the file could have beside its own has room.
+fn has_room(doc: Doc<'_>, tick: i64, slot: i64) -> bool {
+    let slots = doc.top().number(Key::Slots).unwrap_or(8);
+    let (_, least) = carried(doc, tick, slot);
+    for other in 0..slots.min(8) {
+        let (bytes, _) = carried(doc, tick, other);
+        if other != slot && bytes.saturating_add(least) <= MOST_OF_DATAGRAM {
+            return true;
+        }
+    }
+    slots < 8
+}
+
+/// What may help where too much travels in a slot of a tick.
+fn remedy(doc: Doc<'_>, tick: i64, slot: i64) -> &'static str {
+    match (
+        has_phases(doc.units(), tick, slot),
+        has_room(doc, tick, slot),
+    ) {
+        (true, true) => "Give some of them another phase or another slot.\n",
+        (true, false) =>
+            "Give some of them another phase: no other slot has room for one of them in this tick.\n",
+        (false, true) => "Give some of them another slot.\n",
+        (false, false) =>
+            "No other slot has room for one of them in this tick: units of other slots have to give way, or have fewer bytes.\n",
+    }
+}
+
 /// Tells why the places of the file are no legal plan: which slot carries too much in which tick, and which units travel in it. Of
 /// those that reading has judged nothing is told.
 pub fn tell_illegal(out: &mut Draft, doc: Doc<'_>, illegal: Illegal) {
@@ -137,10 +182,6 @@ pub fn tell_illegal(out: &mut Draft, doc: Doc<'_>, illegal: Illegal) {
     if !doc.units().is_empty() {
         add_travelling(out, doc, tick, slot);
     }
-    out.add(if has_phases(doc.units(), tick, slot) {
-        "Give some of them another phase or another slot.\n"
-    } else {
-        "Give some of them another slot.\n"
-    });
+    out.add(remedy(doc, tick, slot));
     add_more_slots(out, doc, slot);
 }
