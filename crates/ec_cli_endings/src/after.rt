@@ -3,7 +3,7 @@
 
 use crate::ending::{Done, file_bytes};
 use crate::others::{gone_at, stale_at, tell_old};
-use crate::own::tell_former;
+use crate::own::{Rewritten, tell_former};
 use ec_checker::Verdict;
 use ec_cli_answers::Told;
 use ec_cli_explain::Cycle;
@@ -195,12 +195,16 @@ impl<R: Host> After<'_, R> {
 
     /// Tells the places that stood at the path, where the file that had them is gone.
     fn tell_gone_places(&self, former: &Option<Units>) {
-        if let (Some(former), Some(units), Some(plan)) = (
-            former,
-            self.done.units,
-            self.told.plan(),
-        ) {
-            tell_former(self.rt, self.target.path, former, units, plan);
+        let (units, plan) = (self.done.units, self.told.plan());
+        if let (Some(former), Some(units), Some(plan)) = (former, units, plan) {
+            let Target { path, is_own, .. } = self.target;
+            let rewritten = Rewritten {
+                path,
+                units,
+                plan,
+                is_own,
+            };
+            tell_former(self.rt, rewritten, former);
         }
     }
 

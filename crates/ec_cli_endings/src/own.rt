@@ -79,47 +79,55 @@ fn push_place(text: &mut String, unit: &Unit, place: Place) -> Result<(), AllocE
     Ok(())
 }
 
-/// The place that a plan gives to the unit of this name, if there is one.
-fn place_of(units: &Units, plan: &Plan, name: &str) -> Option<Place> {
+/// The units of a text and a plan for them, and what the text is to a path where the plan's places were written over others.
+#[derive(Clone, Copy)]
+pub(crate) struct Rewritten<'a> {
+    pub(crate) path: &'a str,
+    pub(crate) units: &'a Units,
+    pub(crate) plan: &'a Plan,
+    /// Whether the text stood there itself; else it still has its places.
+    pub(crate) is_own: bool,
+}
+
+/// The place that a unit of the text which stood at a path had, where the plan gives it another one and no text has it any more.
+fn former_place(rewritten: Rewritten<'_>, former: &Unit) -> Option<Place> {
+    let Rewritten {
+        units,
+        plan,
+        is_own,
+        ..
+    } = rewritten;
     let mut pairs = units.units.as_slice().iter().zip(plan.places.as_slice());
-    let (_, place) = pairs.find(|(unit, _)| unit.name.as_str() == name)?;
-    Some(*place)
+    let (unit, place) = pairs.find(|(unit, _)| unit.name.as_str() == former.name.as_str())?;
+    let own = former.place?;
+    Some(own).filter(|own| own != place && (is_own || unit.place != Some(*own)))
 }
 
-/// The place that a unit of a unit text that stood at a path had, where a plan gives it another one.
-fn former_place(units: &Units, plan: &Plan, former: &Unit) -> Option<Place> {
-    let place = place_of(units, plan, former.name.as_str())?;
-    former.place.filter(|own| *own != place)
-}
-
-/// The places of a unit text that stood at a path which a plan has changed, and what they are good for; nothing where it changed none.
+/// The places of a unit text that stood at a path which are gone; nothing where none is.
 fn former_text(
     alloc: Global,
-    path: &str,
+    rewritten: Rewritten<'_>,
     former: &Units,
-    units: &Units,
-    plan: &Plan,
 ) -> Result<String, AllocError> {
     let mut text = String::new(alloc);
     for unit in former.units.as_slice() {
-        if let Some(place) = former_place(units, plan, unit) {
+        if let Some(place) = former_place(rewritten, unit) {
             if text.is_empty() {
-                write!(text, "These places stood in {} before:\n", PathPiece(path))?;
+                write!(
+                    text,
+                    "These places stood in {} before:\n",
+                    PathPiece(rewritten.path)
+                )?;
             }
             push_place(&mut text, unit, place)?;
         }
-    }
-    if !text.is_empty() {
-        text.push_str(
-            "Where they are written into the unit text, a search with --keep begins at them.\n",
-        )?;
     }
     Ok(text)
 }
 
 /// Tells which places stood in the unit text at a path before those of a plan were written there, of the units that have others now.
-pub(crate) fn tell_former(rt: &impl Host, path: &str, former: &Units, units: &Units, plan: &Plan) {
-    tell(rt, former_text(rt.alloc(), path, former, units, plan));
+pub(crate) fn tell_former(rt: &impl Host, rewritten: Rewritten<'_>, former: &Units) {
+    tell(rt, former_text(rt.alloc(), rewritten, former));
 }
 
 /// That a plan that keeps the places of the units costs so many wire bytes, where another one moves so many, and where it puts the others.
@@ -131,7 +139,7 @@ fn kept_text(
     moved: Count,
 ) -> Result<String, AllocError> {
     let mut text = format!(in alloc;
-        "The plan that keeps the places in the unit text costs {cost} bytes in its busiest tick: this one costs less, and moves {moved}.\n"
+        "A plan that keeps the places in the unit text costs {cost} bytes in its busiest tick: this one costs less, and moves {moved}.\n"
     )?;
     if lacks_place(units) {
         text.push_str("That plan has the units without a place here:\n")?;
