@@ -1,12 +1,7 @@
 -- The plan that keeps the places of the units.
-use Rattle.std.specs.Prelude.{◌≡◌, ℕ, List, map, slice_get, Option, Some}
+use Rattle.std.specs.Prelude.{◌≡◌, ℕ, slice_get, Some}
 use Rattle.ec_units.specs.declared.slave.Place.{Place}
-use Rattle.ec_units.specs.declared.unit.Unit.{Unit as SyncUnit}
 use Rattle.ec_loads.specs.Search.{Prefix}
-
--- the places that the units have
-abbrev pub own_places : List SyncUnit → Prefix
-own_places units = map (λ u. u.place) units
 
 -- each unit with a place in the one prefix has it in the other, too
 abbrev pub Keeps : Prefix → Prefix → Type 0

@@ -37,7 +37,7 @@ pub(crate) fn fitting_cost(loads: &Loads) -> Option<u64>
     }
 }
 
-/// The better of the best choice so far and a later one; none where the later one doesn't fit.
+/// The better of the best choice so far and a place of this cost; that of so far where the place doesn't fit and so has no cost.
 fn better(best: Option<Choice>, place: Place, cost: Option<u64>) -> Option<Choice>
     ensures full { cost ≡ None → result ≡ best }
     ensures first { (c : ℕ) → cost ≡ Some c → best ≡ None → result ≡ Some (record { place = place; cost = c }) }

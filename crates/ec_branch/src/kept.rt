@@ -5,7 +5,8 @@ ghost use Rattle.std.specs.Option.{ForSome};
 ghost use Rattle.ec_units.specs.declared.slave.Place.{Place};
 ghost use Rattle.ec_units.specs.Load.{loads_of};
 ghost use Rattle.ec_loads.specs.Legal.{IsLegal};
-ghost use Rattle.ec_branch.specs.Kept.{own_places, Keeps};
+ghost use Rattle.ec_loads.specs.Held.{own_places};
+ghost use Rattle.ec_branch.specs.Kept.{Keeps};
 
 use crate::greedy_plan::best_among;
 use crate::order::search_order;
@@ -13,21 +14,8 @@ use crate::plan::plan_of;
 use crate::strong::strong_order;
 use ec_loads::{Loads, Plan, busiest, is_legal};
 use ec_symmetry::choices;
-use ec_units::{Place, Unit, Units};
+use ec_units::{Place, Units};
 use std::alloc::{AllocError, Global};
-
-/// Gives each unit that has a place this place.
-fn place_own(loads: &mut Loads, units: &[Unit])
-    requires { length units.now ≤ length loads.old.places }
-    ensures kept { Keeps (own_places units.now) loads.new.places }
-    ensures len { length loads.new.places ≡ length loads.old.places }
-{
-    for i in 0..units.len() {
-        if let Some(place) = units[i].place {
-            loads.place(i, place);
-        }
-    }
-}
 
 /// Whether there is such a unit, and it has no place yet.
 fn is_unplaced(loads: &Loads, unit: usize) -> bool
@@ -68,8 +56,7 @@ fn kept_by(alloc: Global, units: &Units, order: &[u8]) -> Result<Option<Plan>, A
     ensures kept { IfOk result (λ r. ForSome r (λ plan. Keeps (own_places units.now.units) (map Some plan.places))) }
     ensures own { (ps : List Place) → own_places units.now.units ≡ map Some ps → IsLegal (loads_of units.now.units) units.now.slots ps → IfOk result (λ r. IsSomeAnd r (λ plan. plan.places ≡ ps)) }
 {
-    let mut loads = Loads::new(alloc, units)?;
-    place_own(&mut loads, units.units.as_slice());
+    let mut loads = Loads::placed(alloc, units)?;
     place_others(&mut loads, order);
     let Some(plan) = plan_of(alloc, &loads)? else {
         return Ok(None);

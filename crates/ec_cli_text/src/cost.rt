@@ -19,20 +19,6 @@ use ec_wire::{fits, ns_of};
 use std::alloc::{AllocError, Global};
 use std::fmt::Write;
 
-/// The loads of the units at the places of the plan.
-fn loads_at(alloc: Global, units: &Units, plan: &Plan) -> Result<Loads, AllocError>
-    requires { length plan.now.places ≡ length units.now.units }
-    ensures items { IfOk result (λ s. items_of s ≡ plan_items (loads_of units.now.units) plan.now.places) }
-    ensures slots { IfOk result (λ s. s.slots ≡ units.now.slots) }
-{
-    let mut loads = Loads::new(alloc, units)?;
-    let places = plan.places.as_slice();
-    for i in 0..places.len() {
-        loads.place(i, places[i]);
-    }
-    Ok(loads)
-}
-
 /// Adds the line of a tick.
 fn push_tick(text: &mut String, tick: u32, bytes: u64) -> Result<(), AllocError>
     requires { bytes ≤ 1000000 }
@@ -58,7 +44,7 @@ fn cost_text(alloc: Global, units: &Units, plan: &Plan) -> Result<String, AllocE
     ensures { IfOk result (λ text. IsCostText (plan_items (loads_of units.now.units) plan.now.places) units.now.slots
         (lcm_of (periods_of (loads_of units.now.units))) units.now.tick_ns (string_bytes text)) }
 {
-    let loads = loads_at(alloc, units, plan)?;
+    let loads = Loads::at(alloc, units, plan)?;
     let ticks = units.hyper().ticks();
     let mut text = format!(in alloc; "hyperperiod {ticks}\n")?;
     push_ticks(&mut text, &loads, ticks)?;

@@ -1,8 +1,8 @@
 //! The bars: one for each tick, with its frames above one another in the order of their slots.
 
 use crate::frame::{Parts, add_title, parts_of};
+use crate::placed::{At, Placed};
 use crate::scale::Scale;
-use crate::sent::{At, Sent};
 use ec_loads::Loads;
 use ec_text_builder::Draft;
 
@@ -27,11 +27,18 @@ fn add_edge(page: &mut Draft, scale: &Scale, tick: u32, bytes: u64) {
 }
 
 /// Adds a frame above so many bytes.
-fn add_frame(page: &mut Draft, scale: &Scale, sent: Sent<'_>, at: At, below: u64, parts: Parts) {
+fn add_frame(
+    page: &mut Draft,
+    scale: &Scale,
+    placed: Placed<'_>,
+    at: At,
+    below: u64,
+    parts: Parts,
+) {
     let headed = below.saturating_add(parts.overhead);
     let filled = headed.saturating_add(parts.process);
     page.add("<g>");
-    add_title(page, sent, at, parts);
+    add_title(page, placed, at, parts);
     add_part(page, scale, "o", at.tick, below, parts.overhead);
     add_part(page, scale, "d", at.tick, headed, parts.process);
     add_part(page, scale, "p", at.tick, filled, parts.padding);
@@ -40,21 +47,21 @@ fn add_frame(page: &mut Draft, scale: &Scale, sent: Sent<'_>, at: At, below: u64
 }
 
 /// Adds the bar of a tick.
-fn add_bar(page: &mut Draft, scale: &Scale, loads: &Loads, sent: Sent<'_>, tick: u32) {
+fn add_bar(page: &mut Draft, scale: &Scale, loads: &Loads, placed: Placed<'_>, tick: u32) {
     let mut below = 0u64;
     for slot in 0..loads.slots() {
         let at = At { tick, slot };
-        if let Some(parts) = parts_of(loads, sent, at) {
-            add_frame(page, scale, sent, at, below, parts);
+        if let Some(parts) = parts_of(loads, placed, at) {
+            add_frame(page, scale, placed, at, below, parts);
             below = below.saturating_add(parts.sum());
         }
     }
 }
 
 /// Adds the bar of each tick below the hyperperiod.
-pub(crate) fn add_bars(page: &mut Draft, scale: &Scale, loads: &Loads, sent: Sent<'_>) {
+pub(crate) fn add_bars(page: &mut Draft, scale: &Scale, loads: &Loads, placed: Placed<'_>) {
     for tick in 0..loads.ticks() {
-        add_bar(page, scale, loads, sent, tick);
+        add_bar(page, scale, loads, placed, tick);
     }
 }
 

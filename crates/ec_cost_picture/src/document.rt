@@ -3,8 +3,8 @@
 use crate::axes::{add_grid, add_names, add_numbers, add_room};
 use crate::bars::{add_bars, add_busiest};
 use crate::legend::{add_heading, add_legend};
+use crate::placed::Placed;
 use crate::scale::{ABOVE, BELOW, HEIGHT, Scale, near_room};
-use crate::sent::{Sent, placed_loads};
 use ec_loads::{Loads, Plan};
 use ec_text_builder::Draft;
 use ec_units::Units;
@@ -36,7 +36,7 @@ fn open_picture(page: &mut Draft, scale: &Scale) {
 }
 
 /// Adds the picture of loads.
-fn draw(page: &mut Draft, loads: &Loads, sent: Sent<'_>, tick_ns: u32) {
+fn draw(page: &mut Draft, loads: &Loads, placed: Placed<'_>, tick_ns: u32) {
     let room = near_room(loads, tick_ns);
     let (most, _tick) = loads.top();
     let scale = Scale::new(loads.ticks(), most.max(room.unwrap_or(0)));
@@ -44,7 +44,7 @@ fn draw(page: &mut Draft, loads: &Loads, sent: Sent<'_>, tick_ns: u32) {
     add_heading(page, loads, tick_ns);
     add_legend(page, loads, tick_ns, room.is_some());
     add_grid(page, &scale);
-    add_bars(page, &scale, loads, sent);
+    add_bars(page, &scale, loads, placed);
     add_room(page, &scale, room);
     add_busiest(page, &scale, loads);
     add_numbers(page, &scale);
@@ -58,12 +58,12 @@ fn draw(page: &mut Draft, loads: &Loads, sent: Sent<'_>, tick_ns: u32) {
 /// a frame carries is told where the pointer rests on it. A unit without a place, or with one that isn't below its period
 /// and the slot count, isn't drawn. Only want of memory is an error (own profile).
 pub fn picture(alloc: Global, units: &Units, plan: &Plan) -> Result<String, AllocError> {
-    let loads = placed_loads(alloc, units, plan)?;
-    let sent = Sent {
+    let loads = Loads::at(alloc, units, plan)?;
+    let placed = Placed {
         units: units.units.as_slice(),
         places: plan.places.as_slice(),
     };
     let mut page = Draft::new(alloc);
-    draw(&mut page, &loads, sent, units.tick_ns);
+    draw(&mut page, &loads, placed, units.tick_ns);
     page.finish()
 }

@@ -1,7 +1,7 @@
 //! What the bytes of a frame on the wire are.
 
 use crate::label::add_bytes;
-use crate::sent::{At, Sent, add_groups, process_bytes};
+use crate::placed::{At, Placed, add_groups, process_bytes};
 use ec_loads::Loads;
 use ec_text_builder::Draft;
 use ec_wire::{frame_raw, frame_wire};
@@ -24,13 +24,13 @@ impl Parts {
 }
 
 /// The parts of a frame; none where nothing travels.
-pub(crate) fn parts_of(loads: &Loads, sent: Sent<'_>, at: At) -> Option<Parts> {
+pub(crate) fn parts_of(loads: &Loads, placed: Placed<'_>, at: At) -> Option<Parts> {
     let payload = loads.payload(at.tick, at.slot);
     if payload == 0 {
         return None;
     }
     let raw = u64::from(frame_raw(2 + payload));
-    let process = process_bytes(sent, at);
+    let process = process_bytes(placed, at);
     Some(Parts {
         overhead: raw.saturating_sub(process),
         process,
@@ -39,12 +39,12 @@ pub(crate) fn parts_of(loads: &Loads, sent: Sent<'_>, at: At) -> Option<Parts> {
 }
 
 /// Adds what is told of a frame that the pointer rests on.
-pub(crate) fn add_title(page: &mut Draft, sent: Sent<'_>, at: At, parts: Parts) {
+pub(crate) fn add_title(page: &mut Draft, placed: Placed<'_>, at: At, parts: Parts) {
     let (tick, slot) = (at.tick, at.slot);
     page.add(format_args!("<title>tick {tick}, slot {slot}: "));
     add_bytes(page, parts.sum());
     let (overhead, process, padding) = (parts.overhead, parts.process, parts.padding);
     page.add(format_args!("\nprocess data {process}, overhead {overhead}, padding {padding}"));
-    add_groups(page, sent, at);
+    add_groups(page, placed, at);
     page.add("</title>");
 }

@@ -7,8 +7,7 @@ mod document;
 mod frame;
 mod label;
 mod legend;
+mod placed;
 mod scale;
-mod sent;
 
 pub use document::picture;
-pub use sent::placed_loads;

@@ -3,7 +3,6 @@
 use crate::map::map_in;
 use crate::seats::{Seat, seats_of};
 use crate::sends::{Sends, sends_of};
-use ec_cost_picture::placed_loads;
 use ec_fmmu::Mapping;
 use ec_loads::{Loads, Plan};
 use ec_units::Units;
@@ -37,7 +36,7 @@ pub(crate) fn laid_of<'a>(
 ) -> Result<Laid<'a>, AllocError> {
     let seats = seats_of(alloc, units, plan.places.as_slice(), &mapping)?;
     let identity = identity_of(alloc, seats.as_slice())?;
-    let loads = placed_loads(alloc, units, plan)?;
+    let loads = Loads::at(alloc, units, plan)?;
     let sends = sends_of(alloc, mapping.groups.as_slice(), &loads)?;
     Ok(Laid {
         mapping,

@@ -8,7 +8,7 @@ use Rattle.ec_units.specs.Load.{loads_of}
 use Rattle.ec_loads.specs.declared.plan.Plan.{Plan}
 use Rattle.ec_loads.specs.Cost.{plan_items, IsBusiest}
 use Rattle.ec_loads.specs.Legal.{IsLegal}
-use Rattle.ec_branch.specs.Kept.{own_places}
+use Rattle.ec_loads.specs.Held.{own_places}
 use Rattle.ec_cert.specs.declared.cert.Best.{Best}
 use Rattle.ec_cert.specs.IsBestPlan.{value_of}
 use Rattle.ec_loads.specs.Search.{IsAtMost}

@@ -16,7 +16,7 @@ use Rattle.ec_cert.specs.declared.part.Part.{Part}
 use Rattle.ec_cert.specs.Shapes.{CertView, shape_of, cert_view}
 use Rattle.ec_cert.specs.IsBestPlan.{value_of, IsBestPlan}
 use Rattle.ec_checker.specs.Levels.{IsGreatestLevel}
-use Rattle.ec_branch.specs.Kept.{own_places}
+use Rattle.ec_loads.specs.Held.{own_places}
 use Rattle.ec_branch.specs.Weights.{IsSearchOrder}
 use Rattle.ec_branch.specs.StrongOrders.{IsStrongOrder}
 use Rattle.ec_book.specs.Finishing.{GrowsFrom}

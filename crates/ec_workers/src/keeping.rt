@@ -10,7 +10,7 @@ ghost use Rattle.ec_loads.specs.Search.{IsAtMost};
 ghost use Rattle.ec_loads.specs.Shape.{open_leaf};
 ghost use Rattle.ec_cert.specs.IsBestPlan.{value_of, IsBestPlan};
 ghost use Rattle.ec_cert.specs.Shapes.{cert_view, shape_of};
-ghost use Rattle.ec_branch.specs.Kept.{own_places};
+ghost use Rattle.ec_loads.specs.Held.{own_places};
 ghost use Rattle.ec_workers.specs.Answers.{asked_for, GoesBeyond, HasRules, HasSearchOrder, IsNoDearer, IsOrderBy, IsOutcome, IsSolveFault, is_strong as strong_spec};
 ghost use Rattle.ec_workers.specs.Outcomes.{IsPartialCert};
 

@@ -1,14 +1,12 @@
 //! The units at their places, and which of them a frame carries.
 
 use ec_hyper::Hyper;
-use ec_loads::{Loads, Plan};
 use ec_text_builder::Draft;
-use ec_units::{Place, Unit, Units, bytes_of};
-use std::alloc::{AllocError, Global};
+use ec_units::{Place, Unit, bytes_of};
 
 /// Units and their places, both in file order.
 #[derive(Clone, Copy)]
-pub(crate) struct Sent<'a> {
+pub(crate) struct Placed<'a> {
     pub units: &'a [Unit],
     pub places: &'a [Place],
 }
@@ -20,30 +18,15 @@ pub(crate) struct At {
     pub slot: u8,
 }
 
-/// The loads of the units, each at its place in the plan (own profile).
-///
-/// # Errors
-///
-/// `AllocError` where memory ran out.
-pub fn placed_loads(alloc: Global, units: &Units, plan: &Plan) -> Result<Loads, AllocError> {
-    let mut loads = Loads::new(alloc, units)?;
-    for (number, place) in plan.places.as_slice().iter().enumerate() {
-        if number < loads.places().len() {
-            loads.place(number, *place);
-        }
-    }
-    Ok(loads)
-}
-
 /// Whether a unit travels in a frame.
 fn travels(unit: &Unit, place: Place, at: At) -> bool {
     place.slot == at.slot && Hyper::active(unit.period, place.phase, at.tick)
 }
 
 /// The process bytes that a frame carries.
-pub(crate) fn process_bytes(sent: Sent<'_>, at: At) -> u64 {
+pub(crate) fn process_bytes(placed: Placed<'_>, at: At) -> u64 {
     let mut bytes = 0u64;
-    for (unit, place) in sent.units.iter().zip(sent.places) {
+    for (unit, place) in placed.units.iter().zip(placed.places) {
         if travels(unit, *place, at) {
             bytes = bytes.saturating_add(u64::from(bytes_of(unit)));
         }
@@ -52,9 +35,9 @@ pub(crate) fn process_bytes(sent: Sent<'_>, at: At) -> u64 {
 }
 
 /// Adds the names of the units of a period at a place, with their process bytes.
-fn add_names(page: &mut Draft, sent: Sent<'_>, period: u16, place: Place) {
+fn add_names(page: &mut Draft, placed: Placed<'_>, period: u16, place: Place) {
     let mut is_first = true;
-    for (unit, own) in sent.units.iter().zip(sent.places) {
+    for (unit, own) in placed.units.iter().zip(placed.places) {
         if unit.period == period && *own == place {
             let (name, bytes) = (unit.name.as_str(), bytes_of(unit));
             if !is_first {
@@ -67,8 +50,8 @@ fn add_names(page: &mut Draft, sent: Sent<'_>, period: u16, place: Place) {
 }
 
 /// Whether one of the first `count` units has this period and this place.
-fn is_told(sent: Sent<'_>, count: usize, period: u16, place: Place) -> bool {
-    for (unit, own) in sent.units.iter().zip(sent.places).take(count) {
+fn is_told(placed: Placed<'_>, count: usize, period: u16, place: Place) -> bool {
+    for (unit, own) in placed.units.iter().zip(placed.places).take(count) {
         if unit.period == period && *own == place {
             return true;
         }
@@ -77,12 +60,12 @@ fn is_told(sent: Sent<'_>, count: usize, period: u16, place: Place) -> bool {
 }
 
 /// Adds a line for each group that a frame carries, in the order of their first units.
-pub(crate) fn add_groups(page: &mut Draft, sent: Sent<'_>, at: At) {
-    for (count, (unit, place)) in sent.units.iter().zip(sent.places).enumerate() {
+pub(crate) fn add_groups(page: &mut Draft, placed: Placed<'_>, at: At) {
+    for (count, (unit, place)) in placed.units.iter().zip(placed.places).enumerate() {
         let (period, phase) = (unit.period, place.phase);
-        if travels(unit, *place, at) && !is_told(sent, count, period, *place) {
+        if travels(unit, *place, at) && !is_told(placed, count, period, *place) {
             page.add(format_args!("\nperiod {period}, phase {phase}: "));
-            add_names(page, sent, period, *place);
+            add_names(page, placed, period, *place);
         }
     }
 }
