@@ -17,7 +17,7 @@ ghost use Rattle.ec_cert.specs.IsBestPlan.{value_of, IsBestPlan};
 ghost use Rattle.ec_loads.specs.Legal.{IsIllegalBy};
 ghost use Rattle.ec_book.specs.Views.{book_view, ours as ours_of, state_of, opening, after_back, after_better, after_report};
 ghost use Rattle.ec_book.specs.Kept.{NoneFreeBelow};
-ghost use Rattle.ec_book.specs.Faults.{left_of, IsForTaking, IsLowestFree, IsGiven, IsHandedOut, IsPieceHandedOut, IsPieceFault, IsHoldFault, IsBetterFault, IsOfferFault, IsPlanOf, IsReportFault, IsTakenBy, IsWelcome};
+ghost use Rattle.ec_book.specs.Faults.{left_of, IsForTaking, IsLowestFree, HasNothing, IsGiven, IsHandedOut, IsPieceHandedOut, IsPieceFault, IsHoldFault, IsBetterFault, IsOfferFault, IsPlanOf, IsReportFault, IsTakenBy, IsWelcome};
 ghost use Rattle.ec_book.specs.Steps.{IsBelow};
 ghost use Rattle.ec_book.specs.Parts.{is_of_part as is_of_part_spec, NoneIsLeft};
 ghost use Rattle.ec_book.specs.Finishing.{IsFinishedOf};
@@ -375,7 +375,7 @@ impl Book {
     pub fn take(&mut self, worker: usize, most: u32) -> Result<Taken, BookFault>
         requires { 1 ≤ most }
         ensures ok { IfOk result (λ t. IsHandedOut self.old worker most t self.new) }
-        ensures err { IfErr result (λ e. (e ≡ OutOfMemory) × (self.new ≡ self.old)) }
+        ensures err { IfErr result (λ e. (e ≡ OutOfMemory) × (¬ (HasNothing self.old)) × (self.new ≡ self.old)) }
     {
         let Some(at) = self.lowest() else {
             return Ok(self.none_left());
@@ -401,7 +401,7 @@ impl Book {
     pub fn take_piece(&mut self, worker: usize, piece: u64, most: u32) -> Result<Taken, BookFault>
         requires { 1 ≤ most }
         ensures ok { IfOk result (λ t. IsPieceHandedOut self.old worker piece most t self.new) }
-        ensures err { IfErr result (λ e. IsPieceFault self.old piece e × (self.new ≡ self.old)) }
+        ensures err { IfErr result (λ e. IsPieceFault self.old piece e × (e ≡ OutOfMemory → 0 < left_of self.old) × (self.new ≡ self.old)) }
     {
         if !self.is_free(piece) {
             return Err(BookFault::NotFree);

@@ -12,7 +12,6 @@ use crate::version::version_for;
 use ec_cert::{Cert, is_closed};
 use ec_checker::law_faults_refute;
 use ec_outcome::{Cut, Outcome};
-use ec_search_threads::copy_of;
 use ec_tree::{law_levels_bound, law_trees_bound};
 use ec_units::Units;
 use std::alloc::{AllocError, Global};
@@ -78,7 +77,7 @@ fn proved(alloc: Global, units: &Units, cert: Cert) -> Result<Outcome, AllocErro
     law_trees_bound();
     let (plan, busiest) = match &cert.best {
         None => return Ok(Outcome::NoPlan { cert }),
-        Some(best) => (copy_of(alloc, &best.plan)?, best.busiest),
+        Some(best) => (best.plan.copied(alloc)?, best.busiest),
     };
     Ok(Outcome::Optimal {
         plan,

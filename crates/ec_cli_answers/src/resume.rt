@@ -16,7 +16,6 @@ use ec_checker::{Verdict, law_faults_refute};
 use ec_cli_refusals::Refusal;
 use ec_loads::Loads;
 use ec_outcome::Outcome;
-use ec_search_threads::copy_of;
 use ec_tree::{law_levels_bound, law_trees_bound};
 use ec_units::Units;
 use ec_workers::{Gate, solve_from};
@@ -39,7 +38,7 @@ fn proof_of(alloc: Global, units: &Units, cert: Cert) -> Result<Outcome, AllocEr
     let Some(best) = &cert.best else {
         return Ok(Outcome::NoPlan { cert });
     };
-    let plan = copy_of(alloc, &best.plan)?;
+    let plan = best.plan.copied(alloc)?;
     let busiest = best.busiest;
     Ok(Outcome::Optimal {
         plan,

@@ -1,4 +1,5 @@
-//! What is wrong with a frame that comes back, said as relations between its bytes and those of the frame that was sent.
+//! What is wrong with a frame that comes back, said as relations between its bytes and those of the frame that was sent, and that through
+//! modelled slaves none comes back so.
 #![tactic(auto)]
 
 ghost use Rattle.std.specs.Prelude.{◌≡◌, ◌<◌, ◌↔◌, ℕ, true, List, length, map, Some, None, Err};
@@ -34,7 +35,7 @@ pub fn law_what_is_faulty()
     ensures reply { (ds : List Entry) (sent back : List ℕ) → (is_reply_of ds sent back ≡ true) ↔ IsReply ds sent back }
 {}
 
-/// A wrong counter is the first that isn't the one that is wanted; where there is none, all are.
+/// The wrong counter is the first that isn't the one that is wanted. Where there is none, all are the wanted ones.
 pub fn law_wrong_counters()
     ensures wrong { (wants gots : List ℕ) (w : Wrong) → first_wrong 0 wants gots ≡ Some w → IsFirstWrong wants gots w }
     ensures alike { (wants gots : List ℕ) → first_wrong 0 wants gots ≡ None → AreAlike wants gots }

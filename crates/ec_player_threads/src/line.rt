@@ -25,7 +25,7 @@ pub(crate) const RING: usize = 512;
 /// The thread of a slave, with what it promises.
 pub(crate) type Handle<X> = PromisedHandle<Back<X>, Carried<X>>;
 
-/// Starts the thread of a slave, if there is one to start.
+/// Starts the thread of a slave, if it can be started.
 fn start<'s, E, X: Pass + Send + Drop + 's, R: Wait + Sync>(
     rt: &'s R,
     scope: &Scope<'s, E>,

@@ -71,8 +71,6 @@ impl Model for Bound {
 /// lowered to, none before, and the least that it has lowered to itself.
 #[derive(Drop)]
 pub struct Reader {
-    /// The reader's number, from 0.
-    number: u8,
     seat: Seat<(), Known>,
 }
 
@@ -104,12 +102,10 @@ impl Bound {
             &[NOTHING],
             &(),
         )?;
-        for number in 0..readers as u8 {
+        for number in 0..readers {
+            let _ = number;
             let another = table.shared.split_seat::<Twice>(&mut seat);
-            all.push_reserved(Reader {
-                number,
-                seat: another,
-            });
+            all.push_reserved(Reader { seat: another });
         }
         Ok((Bound { table }, all))
     }

@@ -15,6 +15,7 @@ use crate::desk::Desk;
 use crate::ended::Ended;
 use crate::gate::Gate;
 use crate::ground::ground_of;
+use crate::pace::MOST_GRANT;
 use crate::turn::worked_off;
 use ec_book::{Book, BookFault, Taken, Took};
 use ec_book_shared::Search;
@@ -27,9 +28,6 @@ use std::sync::Wait;
 
 /// The number of the only worker.
 const ALONE: usize = 0;
-
-/// The most nodes of one grant.
-const MOST_GRANT: u32 = 4096;
 
 /// A book of the worker's own.
 #[derive(Drop)]

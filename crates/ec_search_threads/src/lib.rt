@@ -2,7 +2,6 @@
 #![tactic(auto)]
 
 mod alone;
-mod copying;
 mod crew;
 mod crew_desk;
 mod desk;
@@ -20,7 +19,6 @@ mod watch;
 mod work;
 
 pub use alone::work_alone;
-pub use copying::copy_of;
 pub use crew::{CrewFault, Crewed, search_by_crew};
 pub use ended::Ended;
 pub use first::opening_plan;

@@ -10,7 +10,7 @@ use std::sync::Wait;
 const FIRST_GRANT: u32 = 64;
 
 /// The most nodes of one grant.
-const MOST_GRANT: u32 = 4096;
+pub(crate) const MOST_GRANT: u32 = 4096;
 
 /// The most nodes that a worker asks for at a time, and how often in a row nothing could be handed out to it yet.
 #[derive(Drop)]

@@ -1,6 +1,6 @@
 //! A turn of a worker: one piece, explored and reported.
 
-ghost use Rattle.std.specs.Prelude.{◌≡◌, ◌<◌, ◌≤◌, IfOk, length, drop};
+ghost use Rattle.std.specs.Prelude.{◌≡◌, ◌<◌, ◌≤◌, ◌↔◌, IfOk, IsTrue, length, drop};
 ghost use Rattle.ec_loads.specs.Line.{line_by};
 ghost use Rattle.ec_loads.specs.Search.{IsPartialTree, node_count};
 ghost use Rattle.ec_symmetry.specs.Orders.{IsReachedPrefix, prefix_of};
@@ -9,7 +9,6 @@ ghost use Rattle.ec_search_threads.specs.Turns.{LeavesPiece, FindsValue};
 ghost use Rattle.ec_search_threads.specs.declared.ended.Ended.{Ended};
 ghost use Rattle.ec_search_threads.specs.declared.turn.Turn.TheVariants.{Stopped};
 
-use crate::copying::has_nodes;
 use crate::desk::Desk;
 use crate::ended::Ended;
 use crate::gate::Gate;
@@ -18,10 +17,20 @@ use crate::watch::Watch;
 use ec_book::{BookFault, Took};
 use ec_book_shared::Search;
 use ec_branch::explore_in;
-use ec_cert::Subtree;
+use ec_cert::{Subtree, Tree};
 use std::alloc::{AllocError, Global};
 use std::marker::PhantomData;
 use std::sync::Wait;
+
+/// Whether a tree splits or closes a node.
+fn has_nodes(tree: &Tree) -> bool
+    ensures { IsTrue result ↔ (0 < node_count (shape_of tree.now)) }
+{
+    match tree {
+        Tree::OpenLeaf => false,
+        _ => true,
+    }
+}
 
 /// What became of a piece in a turn of a worker.
 pub(crate) enum Turn {

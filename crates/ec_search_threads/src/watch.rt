@@ -3,7 +3,6 @@
 ghost use Rattle.std.specs.Option.{is_some};
 ghost use Rattle.ec_search_threads.specs.Turns.{IsTied};
 
-use crate::copying::copy_of;
 use crate::desk::Desk;
 use crate::ended::Ended;
 use crate::gate::Gate;
@@ -47,7 +46,7 @@ impl<'a, S: Search, D: Desk<S>, G: Gate> Guide for Watch<'a, S, D, G> {
     }
 
     fn found(&mut self, plan: &Plan, cost: u64) -> Option<u64> {
-        let Ok(plan) = copy_of(self.alloc, plan) else {
+        let Ok(plan) = plan.copied(self.alloc) else {
             self.stop = Some(Ended::Memory);
             return None;
         };

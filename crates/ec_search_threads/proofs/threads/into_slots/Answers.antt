@@ -3,7 +3,8 @@ use Rattle.std.proofs.lemmas.List.{length_push}
 use Rattle.std.specs.Vec.Iter.{into_iter_items}
 use Rattle.ec_book_shared.specs.Seats.{SeatView, IsOf}
 use Rattle.ec_search_queues.specs.Lowest.{ReaderView, IsNewReader}
-use Rattle.ec_search_threads.proofs.Rows.{all_head, all_tail, tails_even}
+use Rattle.ec_search_queues.proofs.Rows.{all_head, all_tail}
+use Rattle.ec_search_threads.proofs.Rows.{tails_even}
 use Rattle.ec_search_threads.proofs.threads.into_slots.Goals as goal
 
 pub invariant_of-new-clause-ours : goal.invariant_of-new-clause-ours

@@ -1,7 +1,7 @@
 use Rattle.std.proofs.Common.{All, arith, subst, sym, ◌∙◌}
 use Rattle.std.proofs.lemmas.List.{length_push}
 use Rattle.ec_book_shared.specs.Seats.{SeatView, IsOf}
-use Rattle.ec_search_threads.proofs.Rows.{all_push}
+use Rattle.ec_search_queues.proofs.Rows.{all_push}
 use Rattle.ec_search_threads.proofs.threads.out_of_slots.Goals as goal
 
 pub loop-slot-preserved : goal.loop-slot-preserved

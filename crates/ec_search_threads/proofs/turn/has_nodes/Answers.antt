@@ -3,7 +3,7 @@ use Rattle.ec_loads.specs.Shape.{open_leaf}
 use Rattle.ec_loads.specs.Search.{node_count}
 use Rattle.ec_cert.specs.Shapes.{shape_of}
 use Rattle.ec_cert.specs.declared.tree.Tree.{OpenLeaf, the_lemmas}
-use Rattle.ec_search_threads.proofs.copying.has_nodes.Goals as goal
+use Rattle.ec_search_threads.proofs.turn.has_nodes.Goals as goal
 
 leaf_is : shape_of OpenLeaf ≡ open_leaf
 leaf_is = search (rules, the_lemmas)
