@@ -7,6 +7,7 @@ mod missing;
 mod nearest;
 mod places;
 mod ranges;
+mod rooms;
 mod telling;
 mod units;
 

@@ -1,13 +1,13 @@
 //! Places of units: out of range, half given, missing, or too many units in one slot.
 
-use ec_cli_spots::{Doc, Fields, In, Named, Pair, Quoted, add_illegal, are_coprime, bytes_of};
+use crate::rooms::room_elsewhere;
+use ec_cli_spots::{Doc, Fields, In, Named, Pair, Quoted, add_illegal};
 use ec_loads::Illegal;
 use ec_text_builder::Draft;
-use ec_unit_text::{Key, Spot};
+use ec_unit_text::{Key, Spot, read_units};
+use ec_units::Place;
+use std::alloc::AllocError;
 use toml::Value;
-
-/// The most bytes of a datagram that is alone in its frame.
-const MOST_OF_DATAGRAM: i128 = 1486;
 
 /// Adds that there can be more slots than the file has, if there can, and this slot can be one of them.
 fn add_more_slots(out: &mut Draft, doc: Doc<'_>, slot: i64) {
@@ -112,62 +112,21 @@ fn add_travelling(out: &mut Draft, doc: Doc<'_>, tick: i64, slot: i64) {
     out.add(".\n");
 }
 
-/// Whether another phase may part some of the units that travel in a tick and a slot: the periods of two of them have a common divisor.
-/// Also where no unit is known to travel in it.
-fn has_phases(units: &[Value], tick: i64, slot: i64) -> bool {
-    let (mut is_alone, mut product) = (true, 1u64);
-    for unit in units.iter().map(Fields::of) {
-        if travels(unit, tick, slot) {
-            let period = unit.number(Key::Period).unwrap_or(1).unsigned_abs();
-            if !are_coprime(product, period) {
-                return true;
-            }
-            is_alone = false;
-            product = product.saturating_mul(period);
-        }
-    }
-    is_alone
-}
-
-/// The bytes of all units that travel in a tick and a slot, and those of the least of them, 0 where none does.
-fn carried(doc: Doc<'_>, tick: i64, slot: i64) -> (i128, i128) {
-    let (mut sum, mut least) = (0i128, None);
-    for unit in 0..doc.units().len() {
-        if travels(doc.unit(Some(unit)), tick, slot) {
-            let bytes = bytes_of(doc.slaves(Some(unit)));
-            sum = sum.saturating_add(bytes);
-            least = Some(least.map_or(bytes, |so_far: i128| so_far.min(bytes)));
-        }
-    }
-    (sum, least.unwrap_or(0))
-}
-
-/// Whether another slot may have room in a tick for one of the units that travel there in this one: with the least of them its frame has
-/// no more bytes than one datagram may have. A slot that the file could have beside its own has room.
-fn has_room(doc: Doc<'_>, tick: i64, slot: i64) -> bool {
-    let slots = doc.top().number(Key::Slots).unwrap_or(8);
-    let (_, least) = carried(doc, tick, slot);
-    for other in 0..slots.min(8) {
-        let (bytes, _) = carried(doc, tick, other);
-        if other != slot && bytes.saturating_add(least) <= MOST_OF_DATAGRAM {
-            return true;
-        }
-    }
-    slots < 8
-}
-
-/// What may help where too much travels in a slot of a tick.
-fn remedy(doc: Doc<'_>, tick: i64, slot: i64) -> &'static str {
-    match (
-        has_phases(doc.units(), tick, slot),
-        has_room(doc, tick, slot),
-    ) {
-        (true, true) => "Give some of them another phase or another slot.\n",
-        (true, false) =>
-            "Give some of them another phase: no other slot has room for one of them in this tick.\n",
-        (false, true) => "Give some of them another slot.\n",
-        (false, false) =>
-            "No other slot has room for one of them in this tick: units of other slots have to give way, or have fewer bytes.\n",
+/// Adds what makes a frame small enough: another place for one of its units, or else places for all of the file, if it has units that
+/// are right.
+fn add_remedy(out: &mut Draft, doc: Doc<'_>, tick: u32, slot: u8) {
+    let Ok(units) = read_units(doc.alloc, doc.text.as_bytes()) else {
+        return;
+    };
+    match room_elsewhere(doc.alloc, &units, tick, slot) {
+        Ok(Some((unit, Place { phase, slot }))) => out.add(format_args!(
+            "There is room for {} at phase = {phase}, slot = {slot}.\n",
+            Quoted(unit.name.as_str())
+        )),
+        Ok(None) => out.add(
+            "Another place for one of them is not enough: plan --places PATH looks for places of all units.\n",
+        ),
+        Err(AllocError) => out.give_up(),
     }
 }
 
@@ -177,11 +136,10 @@ pub fn tell_illegal(out: &mut Draft, doc: Doc<'_>, illegal: Illegal) {
     let Illegal::Full { tick, slot, .. } = illegal else {
         return;
     };
-    let (tick, slot) = (i64::from(tick), i64::from(slot));
     add_illegal(out, doc, illegal);
     if !doc.units().is_empty() {
-        add_travelling(out, doc, tick, slot);
+        add_travelling(out, doc, i64::from(tick), i64::from(slot));
     }
-    out.add(remedy(doc, tick, slot));
-    add_more_slots(out, doc, slot);
+    add_remedy(out, doc, tick, slot);
+    add_more_slots(out, doc, i64::from(slot));
 }
