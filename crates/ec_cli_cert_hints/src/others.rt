@@ -2,7 +2,7 @@
 
 use crate::due::CertText;
 use ec_cli_spots::{Bytes, Doc, Fields, Named, Quoted, bytes_of};
-use ec_text_builder::Draft;
+use ec_text_builder::{Amount, Draft};
 use ec_unit_text::Key;
 
 /// A unit by its name, its bytes and its period.
@@ -146,8 +146,8 @@ pub(crate) fn add_differences(out: &mut Draft, doc: Doc<'_>, cert: CertText<'_>)
         ));
     }
     if ours != theirs {
-        let noun = if ours == 1 { "unit" } else { "units" };
-        out.add(format_args!("The file has {ours} {noun}, the certificate {theirs}.\n"));
+        let units = Amount(ours as u64, "unit");
+        out.add(format_args!("The file has {units}, the certificate {theirs}.\n"));
     }
     if are_strangers(doc, cert) {
         return out.add("No unit has a name that the certificate has: it may be of another line.\n");

@@ -2,7 +2,7 @@
 
 use crate::meeting::{Meeting, crowd, heaviest};
 use ec_bounds::{MeanTick, mean_tick};
-use ec_text_builder::Draft;
+use ec_text_builder::{Amount, Draft};
 use ec_units::{Slave, Unit, Units, bytes_of};
 use ec_wire::{BYTE_NS, fits, frame_wire};
 
@@ -168,9 +168,9 @@ impl<'a> Cycle<'a> {
             frames,
             cost,
         } = self.mean;
-        let noun = if frames == 1 { "frame" } else { "frames" };
+        let frames = Amount(u64::from(frames), "frame");
         out.add(format_args!(
-            "Some tick of each plan carries at least {bytes} bytes of units: at least {frames} {noun}, and {cost} bytes on the wire.\n"
+            "Some tick of each plan carries at least {bytes} bytes of units: at least {frames}, and {cost} bytes on the wire.\n"
         ));
     }
 

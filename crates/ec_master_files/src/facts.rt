@@ -5,7 +5,7 @@ use crate::claim::Claim;
 use crate::laid::Laid;
 use ec_fmmu::FIRST_ADDRESS;
 use ec_loads::MOST_PAYLOAD;
-use ec_text_builder::Draft;
+use ec_text_builder::{Amount, Draft};
 use ec_units::Units;
 use ec_wire::{BYTE_NS, fits};
 
@@ -27,12 +27,11 @@ fn add_busiest(page: &mut Draft, units: &Units, laid: &Laid<'_>) {
 /// Adds the limits: how long a tick is, how many frames it may have, and how much a frame may carry.
 fn add_limits(page: &mut Draft, units: &Units, laid: &Laid<'_>) {
     let (tick_ns, slots) = (units.tick_ns, units.slots);
-    let room = u64::from(tick_ns) / BYTE_NS;
-    let ticks = laid.loads.ticks();
-    let noun = if ticks == 1 { "tick" } else { "ticks" };
+    let room = Amount(u64::from(tick_ns) / BYTE_NS, "byte");
+    let ticks = Amount(u64::from(laid.loads.ticks()), "tick");
     page.add(format_args!(
-        "<tr><th scope=\"row\">Length of a tick</th><td>{tick_ns} ns, which is room for {room} bytes</td></tr>
-<tr><th scope=\"row\">Hyperperiod</th><td>{ticks} {noun}, after which all repeats</td></tr>
+        "<tr><th scope=\"row\">Length of a tick</th><td>{tick_ns} ns, which is room for {room}</td></tr>
+<tr><th scope=\"row\">Hyperperiod</th><td>{ticks}, after which all repeats</td></tr>
 <tr><th scope=\"row\">Slots</th><td>{slots}, the most frames in a tick</td></tr>
 <tr><th scope=\"row\">A frame carries at most</th><td>{MOST_PAYLOAD} bytes of datagrams, each its data and 12 bytes</td></tr>
 "
