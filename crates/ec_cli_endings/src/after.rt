@@ -10,7 +10,7 @@ use ec_cli_explain::Cycle;
 use ec_cli_files::{Content, Fate, FileFault, KeepReason, Whole, make_whole, read_file};
 use ec_cli_paths::{Host, Target, tell, tell_fault, tell_path, tell_whole};
 use ec_cli_places::{
-    PlacedFault, Placing, loses_lines, placed_text, reason_to_stay, standing_text,
+    PlacedFault, Placing, loses_lines, placed_text, reason_to_keep_text, standing_text,
 };
 use ec_cost_picture::picture;
 use ec_loads::is_legal;
@@ -156,12 +156,12 @@ impl<R: Host> After<'_, R> {
             has_cert: self.done.target.is_some(),
             is_cert_kept: self.is_cert_kept(),
         };
-        reason_to_stay(self.rt, self.rt.alloc(), self.target.path, placing)
+        reason_to_keep_text(self.rt, self.rt.alloc(), self.target.path, placing)
     }
 
     /// Why what stands at the path is kept: it is the units' own file, and doesn't hold their text any more; or it is a unit text over
     /// which no places are written.
-    fn reason_to_leave(&self) -> Option<KeepReason> {
+    fn reason_to_keep(&self) -> Option<KeepReason> {
         if self.target.is_own && !self.holds_still() {
             return Some(KeepReason::Changed);
         }
@@ -177,7 +177,7 @@ impl<R: Host> After<'_, R> {
     /// it.
     fn fate(&self) -> Fate {
         let (rt, path, units) = (self.rt, self.target.path, self.done.record.text);
-        match self.reason_to_leave() {
+        match self.reason_to_keep() {
             Some(why) => Fate::Kept(why),
             None if self.is_other_text() && loses_lines(rt, rt.alloc(), path, units) => Fate::Old,
             None => Fate::Replaced,
@@ -238,7 +238,7 @@ impl<R: Host> After<'_, R> {
     fn write(&self) -> Result<(), AfterFault> {
         let Target { path, content, .. } = self.target;
         let text = self.text()?;
-        if let Some(why) = self.reason_to_leave() {
+        if let Some(why) = self.reason_to_keep() {
             return Err(AfterFault::Unplaced(why));
         }
         if self.target.is_own && text.as_bytes() == self.done.record.text {

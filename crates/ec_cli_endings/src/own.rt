@@ -7,9 +7,9 @@ use ec_cli_paths::{Host, tell};
 use ec_cli_places::{has_place, lacks_place, legal_cost, placed_cost};
 use ec_cli_spots::{PathPiece, Quoted};
 use ec_loads::{Loads, Plan, busiest};
+use ec_text_builder::Amount;
 use ec_units::{Place, Unit, Units};
 use std::alloc::{AllocError, Global};
-use std::fmt;
 use std::fmt::Write as _;
 
 /// What is told where the places of the units are another plan than that of the certificate.
@@ -48,16 +48,9 @@ fn moved_in(units: &Units, plan: &Plan) -> usize {
     count
 }
 
-/// A number of units.
-#[derive(Clone, Copy)]
-struct Count(usize);
-
-impl fmt::Display for Count {
-    fn fmt<W: fmt::Write>(&self, f: &mut fmt::Formatter<W>) -> fmt::Result {
-        let Count(count) = self;
-        let unit = if *count == 1 { "unit" } else { "units" };
-        write!(f, "{count} {unit}")
-    }
+/// So many units.
+fn units_of(units: usize) -> Amount<'static> {
+    Amount(units as u64, "unit")
 }
 
 /// That a plan moves units with a place, where others have none, and what helps; nothing where it moves none.
@@ -66,7 +59,7 @@ fn moved_text(alloc: Global, units: &Units, plan: &Plan) -> Result<String, Alloc
     if moved == 0 || !lacks_place(units) {
         return Ok(String::new(alloc));
     }
-    let moved = Count(moved);
+    let moved = units_of(moved);
     format!(in alloc;
         "This plan moves {moved} with a place. With --keep a search begins at their places.\n"
     )
@@ -136,7 +129,7 @@ fn kept_text(
     units: &Units,
     kept: &Plan,
     cost: u64,
-    moved: Count,
+    moved: Amount<'_>,
 ) -> Result<String, AllocError> {
     let mut text = format!(in alloc;
         "A plan that keeps the places in the unit text costs {cost} bytes in its busiest tick: this one costs less, and moves {moved}.\n"
@@ -152,21 +145,10 @@ fn kept_text(
     Ok(text)
 }
 
-/// The tick and the slot in which the places that units have carry too many bytes, if they do.
-fn full_at(alloc: Global, units: &Units) -> Result<Option<(u32, u8)>, AllocError> {
-    let mut loads = Loads::new(alloc, units)?;
-    for (at, unit) in units.units.as_slice().iter().enumerate() {
-        if let (Some(place), Some(None)) = (unit.place, loads.places().get(at)) {
-            loads.place(at, place);
-        }
-    }
-    Ok(loads.full())
-}
-
 /// Why no plan keeps the places of the units, where another one moves so many: they carry too many bytes by themselves, or leave the
 /// other units no room.
-fn unkeepable_text(alloc: Global, units: &Units, moved: Count) -> Result<String, AllocError> {
-    match full_at(alloc, units)? {
+fn unkeepable_text(alloc: Global, units: &Units, moved: Amount<'_>) -> Result<String, AllocError> {
+    match Loads::placed(alloc, units)?.full() {
         Some((tick, slot)) => format!(in alloc;
             "The places in the unit text are no legal plan: in tick {tick} slot {slot} has too many bytes for one frame. This plan moves {moved}.\n"
         ),
@@ -185,7 +167,7 @@ fn unkept_text(alloc: Global, units: &Units, plan: &Plan) -> Result<String, Allo
     if moved == 0 {
         return Ok(String::new(alloc));
     }
-    let moved = Count(moved);
+    let moved = units_of(moved);
     match kept_plan(alloc, units)? {
         None => unkeepable_text(alloc, units, moved),
         Some(kept) => {
@@ -230,7 +212,7 @@ impl Own {
             moved,
             is_least,
         } = self;
-        let moved = Count(moved);
+        let moved = units_of(moved);
         match found {
             _ if is_least => format!(in alloc;
                 "The places in the unit text are the best: their busiest tick costs {cost} bytes, and that of no plan costs less.\nNo longer search is needed.\n"

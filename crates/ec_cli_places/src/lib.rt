@@ -9,4 +9,4 @@ mod standing;
 pub use costs::{has_place, lacks_place, legal_cost, placed_cost};
 pub use lines::others_in;
 pub use placed::{PlacedFault, placed_text, unfit_text};
-pub use standing::{Placing, loses_lines, others_at, reason_to_stay, standing_text};
+pub use standing::{Placing, loses_lines, others_at, reason_to_keep_text, standing_text};

@@ -42,7 +42,7 @@ fn reason_by_names(alloc: Global, held: &Units, units: &Units) -> Option<KeepRea
 /// the units' text in more than places. Or it is of another line. Or its units have the same names, periods and bytes, and places that
 /// cost less, or as much where the certificate was left as it is, since they may be its plan's. Where it differs in places alone, cheaper
 /// ones are better, and ones that cost as much are as good, unless a certificate is to have the same plan.
-fn reason_by(
+fn reason_by_costs(
     alloc: Global,
     standing: &Standing,
     units: &Units,
@@ -77,7 +77,7 @@ fn reason_by(
 }
 
 /// Why places aren't written over the unit text that stands at a path; none where nothing of it is lost (own profile).
-pub fn reason_to_stay<F: Files>(
+pub fn reason_to_keep_text<F: Files>(
     files: &F,
     alloc: Global,
     path: &str,
@@ -88,7 +88,7 @@ pub fn reason_to_stay<F: Files>(
     };
     let standing = standing?;
     match placing.units {
-        Some(units) => reason_by(alloc, &standing, units, placing),
+        Some(units) => reason_by_costs(alloc, &standing, units, placing),
         None => Some(KeepReason::TooLittleMemory),
     }
 }

@@ -9,7 +9,7 @@ use Rattle.ec_cli_answers.specs.Told.{HasInput}
 none-some : {X : Type 0} {x : X} → None ≡ Some x → ⊥
 none-some h = absurd cc
 
-pub some-none : {X : Type 0} {x : X} → Some x ≡ None → ⊥
+some-none : {X : Type 0} {x : X} → Some x ≡ None → ⊥
 some-none h = absurd cc
 
 -- a line with the path of a certificate reads one
@@ -34,3 +34,8 @@ with_path {B} now {found} {path} {of_line} is same = sym (ap (option_map now) is
 
 pub without_path : {B : Type 0} (now : B → String Global) {found : Option B} {of_line : Option (String Global)} → found ≡ None → option_map now found ≡ of_line → None ≡ of_line
 without_path {B} now {found} {of_line} is same = sym (ap (option_map now) is) ∙ same
+
+-- nothing is found only where there is nothing
+pub found_none : {A B : Type 0} (f : A → B) (o : Option A) → option_map f o ≡ None → o ≡ None
+found_none f None is = refl
+found_none f (Some x) is = absurd (some-none is)

@@ -12,7 +12,7 @@ ghost use Rattle.ec_cli_run.specs.Sound.{LineIsTrue};
 
 use crate::answering::tell;
 use crate::delivering::write_file;
-use crate::older::reason_to_stay;
+use crate::older::reason_to_keep_cert;
 use crate::reporting::{Report, deliver_report};
 use ec_cli_answers::{File, Told};
 use ec_cli_command::{Job, Line};
@@ -112,7 +112,7 @@ fn fate_at<F: Files>(alloc: Global, origin: Origin, file: &File, whole: &Whole<'
     if from.is_some() && whole.seen() == from {
         return Fate::Replaced;
     }
-    match reason_to_stay(alloc, whole, cert, is_part) {
+    match reason_to_keep_cert(alloc, whole, cert, is_part) {
         Some(why) => Fate::Kept(why),
         None if cert.level.is_some() && whole.holds_other_proof() => Fate::Old,
         None => Fate::Replaced,
@@ -147,18 +147,35 @@ fn settle_file<F: Folders>(
     }
 }
 
-/// Writes the file of what is told, if there is one, that comes from there, and lets it take its place. Why it isn't there.
+/// The file at a path, if there is one, of which nothing was written yet.
+pub(crate) fn late_at<'a, F: Folders>(
+    files: &'a F,
+    alloc: Global,
+    path: Option<&String>,
+    content: Content,
+) -> Result<Option<Late<'a, F>>, AllocError>
+    ensures { path.entry ≡ None → IfOk result (λ late. late ≡ None) }
+{
+    match path {
+        Some(path) => Ok(Some(Late::new(files, alloc, path.as_str(), content)?)),
+        None => Ok(None),
+    }
+}
+
+/// Writes the file of what is told, if there is one and it has a path, that comes from there, and lets it take its place. Why it isn't
+/// there.
 pub(crate) fn write_late<E, F: Folders>(
     alloc: Global,
     origin: Origin,
     told: &Result<Told, E>,
-    late: Late<'_, F>,
+    late: Option<Late<'_, F>>,
 ) -> Option<FileFault>
     requires { IfOk told.now (λ t. HasText t.file) }
+    ensures { late.entry ≡ None → result ≡ None }
 {
-    match told {
-        Ok(told) => settle_file(alloc, origin, &told.file, late).err(),
-        Err(_) => None,
+    match (told, late) {
+        (Ok(told), Some(late)) => settle_file(alloc, origin, &told.file, late).err(),
+        _ => None,
     }
 }
 
@@ -169,41 +186,6 @@ fn origin_of<F: Files>(files: &F, line: &Line) -> Origin {
         _ => (None, false),
     };
     Origin { from, is_part }
-}
-
-/// Does what a command line says, on these units and to this text.
-fn report_line<R: Read, W: Write, F: Folders, T: Threads + Wait + Sync, G: Gate + Sync>(
-    files: &F,
-    wait: &T,
-    alloc: Global,
-    line: &Line,
-    units: &mut Io<R>,
-    text: &mut Io<W>,
-    gate: &G,
-) -> Report<Refusal>
-    requires fits { JobFits (job_of line.now) }
-    requires units { has_failed units.old ≡ false }
-    requires text { has_failed text.old ≡ false }
-    ensures does { Tells (λ w. w ≡ reported refused result.told result.fault) (used W.contents text.old text.new) result.status.code }
-    ensures told { has_failed units.new ≡ false → IfSome (R.remaining (stream units.old)) (λ bytes. AnswersLine (job_of line.now) (cert_of line.now) bytes result.told) }
-    ensures read { ReadsUpTo (used R.remaining units.old units.new) most_of_units (result.told ≡ Err Refusal.Read) }
-    ensures fault { out_of line.now ≡ None → result.fault ≡ None }
-{
-    let Some(path) = line.out() else {
-        let told = tell_line(wait, files, alloc, line, units, gate);
-        return deliver_report(told, None, text);
-    };
-    let origin = origin_of(files, line);
-    match Late::new(files, alloc, path.as_str(), content_of(line)) {
-        Ok(late) => {
-            let told = tell_line(wait, files, alloc, line, units, gate);
-            let fault = write_late(alloc, origin, &told, late);
-            deliver_report(told, fault, text)
-        }
-        Err(AllocError) => {
-            deliver_report(Err(Refusal::Unit(UnitFault::OutOfMemory)), None, text)
-        }
-    }
 }
 
 /// Does what a command line says, on these units and to this text. The certificate or the capture file is at its path,
@@ -228,5 +210,12 @@ pub fn do_line<R: Read, W: Write, F: Folders, T: Threads + Wait + Sync, G: Gate 
 {
     law_trees_bound();
     law_levels_bound();
-    report_line(files, wait, alloc, line, units, text, gate)
+    let origin = origin_of(files, line);
+    let Ok(late) = late_at(files, alloc, line.out(), content_of(line)) else {
+        let refusal = Refusal::Unit(UnitFault::OutOfMemory);
+        return deliver_report(Err(refusal), None, text);
+    };
+    let told = tell_line(wait, files, alloc, line, units, gate);
+    let fault = write_late(alloc, origin, &told, late);
+    deliver_report(told, fault, text)
 }

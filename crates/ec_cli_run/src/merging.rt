@@ -14,7 +14,7 @@ ghost use Rattle.ec_cli_answers.specs.Told.{HasText, file_bytes};
 ghost use Rattle.ec_cli_run.specs.Merging.{HandsMerge, IsMergeFault, IsNoCert, IsTrueMerge, IsUnmerged, MergeTellsTruth, unmerged};
 ghost use Rattle.ec_cli_run.specs.Runs.{Tells, reported};
 
-use crate::doing::{Origin, write_late};
+use crate::doing::{Origin, late_at, write_late};
 use crate::job::{Status, refuse};
 use crate::misfits::refuse_misfit;
 use crate::reporting::{Reason, Report, deliver_report};
@@ -22,7 +22,7 @@ use ec_cert::Cert;
 use ec_cert_merge::Misfit;
 use ec_checker::CheckFault;
 use ec_cli_answers::{Told, joined, right_cert, tell_merged};
-use ec_cli_files::{Content, Folders, Late, Seen, are_same_file};
+use ec_cli_files::{Content, Folders, Seen, are_same_file};
 use ec_cli_inputs::{cert_text, read_alone};
 use ec_cli_refusals::Refusal;
 use ec_loads::Loads;
@@ -30,7 +30,7 @@ use ec_tree::law_levels_bound;
 use ec_unit_text::UnitFault;
 use ec_units::Units;
 use ec_wire::Io;
-use std::alloc::{AllocError, Global};
+use std::alloc::Global;
 use std::fs;
 use std::io::{Read, Write};
 use std::rt::Files;
@@ -188,53 +188,14 @@ fn tell_merge<R: Read, F: Files>(
 }
 
 /// What stands at the path of the merged certificate before the others are read, if it is one of those: what is merged says no less.
-fn seen_among<F: Files>(files: &F, paths: &[String], out: &str) -> Option<Seen> {
+fn seen_among<F: Files>(files: &F, paths: &[String], out: Option<&String>) -> Option<Seen> {
+    let out = out?.as_str();
     for path in paths {
         if are_same_file(files, path.as_str(), out) {
             return Seen::at(files, out);
         }
     }
     None
-}
-
-/// Merges the certificates at some paths for the units that the reader has, and reports it.
-fn report_merge<R: Read, W: Write, F: Folders>(
-    files: &F,
-    alloc: Global,
-    paths: &[String],
-    out: Option<&String>,
-    units: &mut Io<R>,
-    text: &mut Io<W>,
-) -> Report<MergeFault>
-    requires some { 1 ≤ length paths.now }
-    requires units { has_failed units.old ≡ false }
-    requires text { has_failed text.old ≡ false }
-    ensures does { Tells (λ w. w ≡ reported unmerged result.told result.fault) (used W.contents text.old text.new) result.status.code }
-    ensures told { has_failed units.new ≡ false → IfSome (R.remaining (stream units.old)) (λ bytes. IsTrueMerge bytes result.told) }
-    ensures err { has_failed units.new ≡ false → IfSome (R.remaining (stream units.old)) (λ bytes. IfErr result.told (IsMergeFault bytes (length paths.now))) }
-    ensures read { ReadsUpTo (used R.remaining units.old units.new) most_of_units (result.told ≡ Err (MergeFault.Refused Refusal.Read)) }
-    ensures fault { out.entry ≡ None → result.fault ≡ None }
-{
-    let Some(path) = out else {
-        let told = tell_merge(files, alloc, paths, units);
-        return deliver_report(told, None, text);
-    };
-    match Late::new(files, alloc, path.as_str(), Content::Certificate) {
-        Ok(late) => {
-            let origin = Origin {
-                from: seen_among(files, paths, path.as_str()),
-                is_part: true,
-            };
-            let told = tell_merge(files, alloc, paths, units);
-            let fault = write_late(alloc, origin, &told, late);
-            deliver_report(told, fault, text)
-        }
-        Err(AllocError) => deliver_report(
-            Err(MergeFault::Refused(Refusal::Unit(UnitFault::OutOfMemory))),
-            None,
-            text,
-        ),
-    }
 }
 
 /// Merges the certificates at some paths, of which there is at least one, for the units that the reader has, and tells what they show
@@ -263,5 +224,15 @@ pub fn do_merge<R: Read, W: Write, F: Folders>(
     ensures read { ReadsUpTo (used R.remaining units.old units.new) most_of_units (result.told ≡ Err (MergeFault.Refused Refusal.Read)) }
     ensures fault { out.entry ≡ None → result.fault ≡ None }
 {
-    report_merge(files, alloc, paths, out, units, text)
+    let origin = Origin {
+        from: seen_among(files, paths, out),
+        is_part: true,
+    };
+    let Ok(late) = late_at(files, alloc, out, Content::Certificate) else {
+        let refusal = Refusal::Unit(UnitFault::OutOfMemory);
+        return deliver_report(Err(MergeFault::Refused(refusal)), None, text);
+    };
+    let told = tell_merge(files, alloc, paths, units);
+    let fault = write_late(alloc, origin, &told, late);
+    deliver_report(told, fault, text)
 }

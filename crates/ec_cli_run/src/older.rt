@@ -138,7 +138,7 @@ fn has_closed_more(older: &Tree, newer: &Tree) -> bool {
 
 /// Why an older certificate stays for the same units: it is a proof, it has closed what a newer one of the same search leaves open,
 /// where that `is_part` of what both come from, or it says more.
-fn reason_by(older: &Cert, newer: &Cert, is_part: bool) -> Option<KeepReason> {
+fn reason_by_claims(older: &Cert, newer: &Cert, is_part: bool) -> Option<KeepReason> {
     let says_more = says_more(older, newer);
     if says_more && older.level.is_none() {
         return Some(KeepReason::IsProof);
@@ -193,7 +193,7 @@ fn reason_over<F: Files>(
         return Ok(None);
     }
     match standing_cert(alloc, whole)? {
-        Some(older) => Ok(reason_by(&older, newer, is_part)),
+        Some(older) => Ok(reason_by_claims(&older, newer, is_part)),
         None => Ok(None),
     }
 }
@@ -201,7 +201,7 @@ fn reason_over<F: Files>(
 /// Why a certificate that stands at the path of a newer one makes no room for it: it is for another line; it says more for the same units,
 /// or has closed what the newer one leaves open, where that `is_part` of what both come from; or it can't be read, or not in this memory.
 /// None where nothing of it is lost (own profile).
-pub(crate) fn reason_to_stay<F: Files>(
+pub(crate) fn reason_to_keep_cert<F: Files>(
     alloc: Global,
     whole: &Whole<'_, F>,
     newer: &Cert,

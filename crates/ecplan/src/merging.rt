@@ -5,16 +5,13 @@ ghost use Rattle.ec_cli_words.specs.Merges.{MergingFits};
 
 use crate::before::tell_of_units;
 use crate::job::Streams;
-use crate::output::{Output, refuse_line};
-use crate::units::{Recorder, open_units};
+use crate::output::Output;
+use crate::units::{Recorder, begin};
 use ec_cert_merge::Misfit;
 use ec_cli_answers::Told;
 use ec_cli_endings::{Done, FAILED, tell_merged, tell_refusal, tell_untold};
 use ec_cli_files::Content;
-use ec_cli_paths::{
-    Host, Target, goes_to_output, is_proof_at, may_write, takes_text, target_at, tell,
-};
-use ec_cli_refusals::Refusal;
+use ec_cli_paths::{Host, Target, is_proof_at, takes_text, target_at, tell};
 use ec_cli_run::{MergeFault, do_merge};
 use ec_cli_spots::PathPiece;
 use ec_cli_words::Merging;
@@ -136,13 +133,10 @@ pub(crate) fn do_merging<H: Host + Print + Input>(rt: &H, merging: &Merging, str
     requires { MergingFits merging.now }
 {
     let target = target_at(&merging.out, Content::Certificate);
-    if writes_to_input(rt, merging) || goes_to_output(rt, &[target]) {
+    if writes_to_input(rt, merging) {
         return FAILED;
     }
-    if !may_write(rt, &[target]) {
-        return refuse_line(rt, Refusal::Write);
-    }
-    match open_units(rt, &merging.units, streams.is_closed) {
+    match begin(rt, &merging.units, &[target], streams.is_closed) {
         Ok(Some(file)) => merge_units(rt, merging, target, file),
         Ok(None) => merge_units(rt, merging, target, rt.reader()),
         Err(code) => code,

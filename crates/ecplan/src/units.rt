@@ -1,8 +1,8 @@
-//! The units that a job reads: opened first, and kept for what is told afterwards.
+//! The units that a job reads: opened once its paths were looked at, and kept for what is told afterwards.
 
 use crate::output::refuse_line;
-use ec_cli_endings::Record;
-use ec_cli_paths::{Host, tell_unread};
+use ec_cli_endings::{FAILED, Record};
+use ec_cli_paths::{Host, Target, goes_to_output, may_write, tell_unread};
 use ec_cli_refusals::Refusal;
 use ec_unit_text::MOST_BYTES;
 use std::alloc::Global;
@@ -94,7 +94,7 @@ impl<'a, R: Read> Read for Recorder<'a, R> {
 
 /// The file of the units, where they have a path; none where they come on standard input. Where they can't be opened, or
 /// standard input is closed, that is refused and told: the status.
-pub(crate) fn open_units<H: Host + Print>(
+fn open_units<H: Host + Print>(
     rt: &H,
     path: &Option<String>,
     is_closed: bool,
@@ -115,4 +115,21 @@ pub(crate) fn open_units<H: Host + Print>(
             Err(code)
         }
     }
+}
+
+/// Opens the units as `open_units` does, once the paths to write were looked at. The status also where standard output goes to one of
+/// them, or what stands at one is to be left as it is.
+pub(crate) fn begin<H: Host + Print>(
+    rt: &H,
+    units: &Option<String>,
+    targets: &[Option<Target<'_>>],
+    is_closed: bool,
+) -> Result<Option<H::File>, u8> {
+    if goes_to_output(rt, targets) {
+        return Err(FAILED);
+    }
+    if !may_write(rt, targets) {
+        return Err(refuse_line(rt, Refusal::Write));
+    }
+    open_units(rt, units, is_closed)
 }
