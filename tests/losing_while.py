@@ -9,7 +9,7 @@ import signal
 from functools import partial
 
 from losing import NOTES, UNWRITABLE, put_all_paths
-from trials import NOBODY, REFUSED_WRITE, Done, Skipped, example, stop_once_begun
+from trials import NOBODY, REFUSED_WRITE, Done, Output, Skipped, example, stop_once_begun
 
 NOTE = b"# a note of mine\n"
 # How often two runs are started at one time.
@@ -330,10 +330,10 @@ def two_runs(outputs):
 def try_resumed(output, put, newer, trial):
     """A search goes on with a certificate and writes over it, while another run puts a certificate there: one that says more stays,
     and what was found lies beside it."""
-    output.put(trial)
+    alone = Output("", ["resume", "--cert", "given.cert", "--nodes", "150000"], "--out", output.units, b"", output.older).run_undisturbed(trial)
     trial.put("c", output.older)
     before = trial.seen()
-    with search_begun(trial, output, "resume", "--cert", "c", "--nodes", "150000", "--out", "c", "units.toml") as child:
+    with search_begun(trial, alone, "resume", "--cert", "c", "--nodes", "150000", "--out", "c", "units.toml") as child:
         change(trial, before, lambda it: put(it, "c", newer), "c")
         done = go_on(trial, child)
     if newer == output.older:
