@@ -1,6 +1,6 @@
 //! Places of units: out of range, half given, missing, or too many units in one slot.
 
-use crate::rooms::room_elsewhere;
+use crate::rooms::{Room, room_elsewhere};
 use ec_cli_spots::{Doc, Fields, In, Named, Pair, Quoted, add_illegal};
 use ec_loads::Illegal;
 use ec_text_builder::Draft;
@@ -56,7 +56,7 @@ pub(crate) fn tell_range(out: &mut Draft, doc: Doc<'_>, spot: Spot) {
     let (last_phase, last_slot) = (period.saturating_sub(1), slots.saturating_sub(1));
     add_place(out, doc, spot);
     out.add(format_args!(
-        ", but with its period its phase is 0 to {last_phase}, and with the slots of the file its slot is 0 to {last_slot}.\n"
+        ", but with its period its phase is 0 to {last_phase},\nand with the slots of the file its slot is 0 to {last_slot}.\n"
     ));
     match count_outside(doc.units(), slots) {
         0 | 1 => out.add("Write one of these; or take phase and slot of this unit out.\n"),
@@ -92,46 +92,68 @@ pub fn tell_no_place(out: &mut Draft, doc: Doc<'_>, unit: usize) {
     }
 }
 
+/// From so many columns on a list of names goes on in a new line: with one more name a line may be cut.
+const MOST_COLUMNS: usize = 100;
+
 /// Whether a unit with this place travels in a tick and a slot.
 fn travels(unit: Fields<'_>, tick: i64, slot: i64) -> bool {
     let rest = tick.checked_rem(unit.number(Key::Period).unwrap_or(0));
     rest.is_some() && unit.number(Key::Phase) == rest && unit.number(Key::Slot) == Some(slot)
 }
 
-/// Adds the names of the units that travel in a tick and a slot.
+/// Adds the names of the units that travel in a tick and a slot, in as many lines as they take.
 fn add_travelling(out: &mut Draft, doc: Doc<'_>, tick: i64, slot: i64) {
     out.add("In it travel");
-    let mut sign = " ";
+    let (mut sign, mut columns) = (" ", 0usize);
     for unit in doc.units() {
         let unit = Fields::of(unit);
         if travels(unit, tick, slot) {
-            out.add(format_args!("{sign}{}", Quoted(unit.text(Key::Name).unwrap_or(""))));
+            let name = unit.text(Key::Name).unwrap_or("");
+            out.add(format_args!("{sign}{}", Quoted(name)));
+            columns = columns.saturating_add(name.len()).saturating_add(4);
             sign = ", ";
+            if columns >= MOST_COLUMNS {
+                columns = 0;
+                sign = ",\n    ";
+            }
         }
     }
     out.add(".\n");
 }
 
-/// Adds what makes a frame small enough: another place for one of its units, or else places for all of the file, if it has units that
-/// are right.
+/// Adds a place at which one of the units of a frame has room, if there is one, and else what looks for places of all units. Nothing of
+/// units that aren't right.
 fn add_remedy(out: &mut Draft, doc: Doc<'_>, tick: u32, slot: u8) {
     let Ok(units) = read_units(doc.alloc, doc.text.as_bytes()) else {
         return;
     };
-    match room_elsewhere(doc.alloc, &units, tick, slot) {
-        Ok(Some((unit, Place { phase, slot }))) => out.add(format_args!(
-            "There is room for {} at phase = {phase}, slot = {slot}.\n",
-            Quoted(unit.name.as_str())
-        )),
-        Ok(None) => out.add(
-            "Another place for one of them is not enough: plan --places PATH looks for places of all units.\n",
-        ),
-        Err(AllocError) => out.give_up(),
-    }
+    let found = match room_elsewhere(doc.alloc, &units, tick, slot) {
+        Ok(found) => found,
+        Err(AllocError) => return out.give_up(),
+    };
+    let Some(
+        Room {
+            unit,
+            place: Place { phase, slot },
+            is_enough,
+        },
+    ) = found
+    else {
+        return out.add(
+            "None of them has room elsewhere: plan --places PATH looks for places of all units.\n",
+        );
+    };
+    let name = Quoted(unit.name.as_str());
+    let end = if is_enough {
+        ""
+    } else {
+        "; more than one has to go"
+    };
+    out.add(format_args!("There is room for {name} at phase = {phase}, slot = {slot}{end}.\n"));
 }
 
-/// Tells why the places of the file are no legal plan: which slot carries too much in which tick, and which units travel in it. Of
-/// those that reading has judged nothing is told.
+/// Tells why the places of the file are no legal plan: which slot carries too much in which tick, which units travel in it, and where one
+/// of them has room. Of those that reading has judged nothing is told.
 pub fn tell_illegal(out: &mut Draft, doc: Doc<'_>, illegal: Illegal) {
     let Illegal::Full { tick, slot, .. } = illegal else {
         return;

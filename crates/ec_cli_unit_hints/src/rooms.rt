@@ -6,7 +6,7 @@ use ec_loads::{Loads, MOST_PAYLOAD};
 use ec_units::{Place, Unit, Units};
 use std::alloc::{AllocError, Global};
 
-/// The first place in a slot at which a unit without a place leaves every frame small enough.
+/// The first place in a slot at which a unit without a place makes no frame too full.
 fn place_in(loads: &Loads, unit: usize, slot: u8) -> Option<Place>
     requires free { slice_get loads.now.places unit ≡ Some None }
     requires slot { slot < loads.now.slots }
@@ -35,37 +35,59 @@ fn place_from(loads: &Loads, unit: usize, first: u8) -> Option<Place>
     None
 }
 
-/// The place to which a unit can go while the others stay, where a frame isn't too full once it is gone.
-fn room_for(
-    alloc: Global,
-    units: &Units,
-    unit: usize,
-    tick: u32,
-    slot: u8,
-) -> Result<Option<Place>, AllocError> {
-    let mut loads = Loads::placed(alloc, units)?;
-    let Some(Some(_)) = loads.places().get(unit) else {
-        return Ok(None);
-    };
-    loads.remove(unit);
-    if loads.payload(tick, slot) > MOST_PAYLOAD {
-        return Ok(None);
-    }
-    Ok(place_from(&loads, unit, slot))
+/// A unit of a frame that is too full, and a place at which it has room while the others stay.
+#[derive(Clone, Copy)]
+pub(crate) struct Room<'a> {
+    pub unit: &'a Unit,
+    pub place: Place,
+    /// Whether the frame is small enough without it.
+    pub is_enough: bool,
 }
 
-/// The first unit of a frame that is too full which can go to another place while the others stay, so that it isn't too full any more,
-/// and that place: in its own slot, if there is one.
-pub(crate) fn room_elsewhere(
+/// The room elsewhere for the unit with this number, if it travels in a frame and has some.
+fn room_for<'a>(
     alloc: Global,
-    units: &Units,
+    units: &'a Units,
+    number: usize,
     tick: u32,
     slot: u8,
-) -> Result<Option<(&Unit, Place)>, AllocError> {
-    for (number, unit) in units.units.as_slice().iter().enumerate() {
-        if let Some(place) = room_for(alloc, units, number, tick, slot)? {
-            return Ok(Some((unit, place)));
+) -> Result<Option<Room<'a>>, AllocError> {
+    let mut loads = Loads::placed(alloc, units)?;
+    let (Some(Some(_)), Some(unit)) = (
+        loads.places().get(number),
+        units.units.as_slice().get(number),
+    ) else {
+        return Ok(None);
+    };
+    let before = loads.payload(tick, slot);
+    loads.remove(number);
+    let bytes = loads.payload(tick, slot);
+    if bytes == before {
+        return Ok(None);
+    }
+    let is_enough = bytes <= MOST_PAYLOAD;
+    Ok(place_from(&loads, number, slot).map(|place| Room {
+        unit,
+        place,
+        is_enough,
+    }))
+}
+
+/// The first unit without which a frame is small enough, and which has room elsewhere; else the first one that has room. Its place is in
+/// its own slot, if there is one.
+pub(crate) fn room_elsewhere<'a>(
+    alloc: Global,
+    units: &'a Units,
+    tick: u32,
+    slot: u8,
+) -> Result<Option<Room<'a>>, AllocError> {
+    let mut found = None;
+    for number in 0..units.units.as_slice().len() {
+        match room_for(alloc, units, number, tick, slot)? {
+            Some(room) if room.is_enough => return Ok(Some(room)),
+            Some(room) if found.is_none() => found = Some(room),
+            _ => {}
         }
     }
-    Ok(None)
+    Ok(found)
 }
