@@ -7,7 +7,9 @@ use crate::own::{Rewritten, tell_former};
 use ec_checker::Verdict;
 use ec_cli_answers::Told;
 use ec_cli_explain::Cycle;
-use ec_cli_files::{Content, Fate, FileFault, KeepReason, Whole, make_whole, read_file};
+use ec_cli_files::{
+    Content, Fate, FileFault, KeepReason, Whole, is_no_file, make_whole, read_file,
+};
 use ec_cli_paths::{Host, Target, tell, tell_fault, tell_path, tell_whole};
 use ec_cli_places::{
     PlacedFault, Placing, loses_lines, placed_text, reason_to_keep_text, standing_text,
@@ -161,7 +163,7 @@ impl<R: Host> After<'_, R> {
 
     /// Why what stands at the path is kept: it is the units' own file, and doesn't hold their text any more; or it is a unit text over
     /// which no places are written.
-    fn reason_to_keep(&self) -> Option<KeepReason> {
+    fn reason_here(&self) -> Option<KeepReason> {
         if self.target.is_own && !self.holds_still() {
             return Some(KeepReason::Changed);
         }
@@ -177,7 +179,7 @@ impl<R: Host> After<'_, R> {
     /// it.
     fn fate(&self) -> Fate {
         let (rt, path, units) = (self.rt, self.target.path, self.done.record.text);
-        match self.reason_to_keep() {
+        match self.reason_here() {
             Some(why) => Fate::Kept(why),
             None if self.is_other_text() && loses_lines(rt, rt.alloc(), path, units) => Fate::Old,
             None => Fate::Replaced,
@@ -193,16 +195,20 @@ impl<R: Host> After<'_, R> {
         read_units(self.rt.alloc(), text.as_slice()).ok()
     }
 
+    /// Whether the text of the units stands nowhere else: it stood at the path, or came from what is no file, as a pipe.
+    fn is_text_gone(&self) -> bool {
+        self.target.is_own || is_no_file(self.rt, self.done.record.path.unwrap_or("/dev/stdin"))
+    }
+
     /// Tells the places that stood at the path, where the file that had them is gone.
     fn tell_gone_places(&self, former: &Option<Units>) {
         let (units, plan) = (self.done.units, self.told.plan());
         if let (Some(former), Some(units), Some(plan)) = (former, units, plan) {
-            let Target { path, is_own, .. } = self.target;
             let rewritten = Rewritten {
-                path,
+                path: self.target.path,
                 units,
                 plan,
-                is_own,
+                is_gone: self.is_text_gone(),
             };
             tell_former(self.rt, rewritten, former);
         }
@@ -238,7 +244,7 @@ impl<R: Host> After<'_, R> {
     fn write(&self) -> Result<(), AfterFault> {
         let Target { path, content, .. } = self.target;
         let text = self.text()?;
-        if let Some(why) = self.reason_to_keep() {
+        if let Some(why) = self.reason_here() {
             return Err(AfterFault::Unplaced(why));
         }
         if self.target.is_own && text.as_bytes() == self.done.record.text {

@@ -49,7 +49,7 @@ fn moved_in(units: &Units, plan: &Plan) -> usize {
 }
 
 /// So many units.
-fn units_of(units: usize) -> Amount<'static> {
+fn amount_of(units: usize) -> Amount<'static> {
     Amount(units as u64, "unit")
 }
 
@@ -59,7 +59,7 @@ fn moved_text(alloc: Global, units: &Units, plan: &Plan) -> Result<String, Alloc
     if moved == 0 || !lacks_place(units) {
         return Ok(String::new(alloc));
     }
-    let moved = units_of(moved);
+    let moved = amount_of(moved);
     format!(in alloc;
         "This plan moves {moved} with a place. With --keep a search begins at their places.\n"
     )
@@ -78,8 +78,8 @@ pub(crate) struct Rewritten<'a> {
     pub(crate) path: &'a str,
     pub(crate) units: &'a Units,
     pub(crate) plan: &'a Plan,
-    /// Whether the text stood there itself; else it still has its places.
-    pub(crate) is_own: bool,
+    /// Whether the text stands nowhere else; else it still has its places.
+    pub(crate) is_gone: bool,
 }
 
 /// The place that a unit of the text which stood at a path had, where the plan gives it another one and no text has it any more.
@@ -87,13 +87,13 @@ fn former_place(rewritten: Rewritten<'_>, former: &Unit) -> Option<Place> {
     let Rewritten {
         units,
         plan,
-        is_own,
+        is_gone,
         ..
     } = rewritten;
     let mut pairs = units.units.as_slice().iter().zip(plan.places.as_slice());
     let (unit, place) = pairs.find(|(unit, _)| unit.name.as_str() == former.name.as_str())?;
     let own = former.place?;
-    Some(own).filter(|own| own != place && (is_own || unit.place != Some(*own)))
+    Some(own).filter(|own| own != place && (is_gone || unit.place != Some(*own)))
 }
 
 /// The places of a unit text that stood at a path which are gone; nothing where none is.
@@ -167,7 +167,7 @@ fn unkept_text(alloc: Global, units: &Units, plan: &Plan) -> Result<String, Allo
     if moved == 0 {
         return Ok(String::new(alloc));
     }
-    let moved = units_of(moved);
+    let moved = amount_of(moved);
     match kept_plan(alloc, units)? {
         None => unkeepable_text(alloc, units, moved),
         Some(kept) => {
@@ -212,13 +212,13 @@ impl Own {
             moved,
             is_least,
         } = self;
-        let moved = units_of(moved);
+        let moved = amount_of(moved);
         match found {
             _ if is_least => format!(in alloc;
                 "The places in the unit text are the best: their busiest tick costs {cost} bytes, and that of no plan costs less.\nNo longer search is needed.\n"
             ),
             Some(found) if found == cost => format!(in alloc;
-                "The places in the unit text are as good: their busiest tick costs {cost} bytes, too.\nThis plan moves {moved}, and with them addresses and FMMU records.\n"
+                "The places in the unit text are as good: their busiest tick costs {cost} bytes, too.\nThis plan moves {moved}: addresses and FMMU records may change.\n"
             ),
             Some(found) => better_text(alloc, cost, found),
             None => format!(in alloc;

@@ -88,13 +88,21 @@ fn named_targets(words: &Words) -> Targets<'_> {
     }
 }
 
+/// A path to write, and whether it leads to the units, which come from there or from standard input.
+pub fn beside_units<'a>(rt: &impl Host, target: Target<'a>, units: Option<&str>) -> Target<'a> {
+    Target {
+        is_own: is_own_file(rt, target.path, units),
+        is_read: is_own_pipe(rt, target.path, units),
+        ..target
+    }
+}
+
 /// What the words of a line write.
 pub fn targets_of<'a>(rt: &impl Host, words: &'a Words) -> Targets<'a> {
     let mut targets = named_targets(words);
     for i in 0..targets.len() {
-        if let Some(target) = &mut targets[i] {
-            target.is_own = is_own_file(rt, target.path, words.units.as_deref());
-            target.is_read = is_own_pipe(rt, target.path, words.units.as_deref());
+        if let Some(target) = targets[i] {
+            targets[i] = Some(beside_units(rt, target, words.units.as_deref()));
         }
     }
     targets

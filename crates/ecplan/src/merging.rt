@@ -11,7 +11,7 @@ use ec_cert_merge::Misfit;
 use ec_cli_answers::Told;
 use ec_cli_endings::{Done, FAILED, tell_merged, tell_refusal, tell_untold};
 use ec_cli_files::Content;
-use ec_cli_paths::{Host, Target, is_proof_at, takes_text, target_at, tell};
+use ec_cli_paths::{Host, Target, beside_units, is_proof_at, takes_text, target_at, tell};
 use ec_cli_run::{MergeFault, do_merge};
 use ec_cli_spots::PathPiece;
 use ec_cli_words::Merging;
@@ -132,7 +132,11 @@ fn writes_to_input(rt: &impl Host, merging: &Merging) -> bool {
 pub(crate) fn do_merging<H: Host + Print + Input>(rt: &H, merging: &Merging, streams: Streams) -> u8
     requires { MergingFits merging.now }
 {
-    let target = target_at(&merging.out, Content::Certificate);
+    let target = target_at(&merging.out, Content::Certificate).map(|target| beside_units(
+        rt,
+        target,
+        merging.units.as_deref(),
+    ));
     if writes_to_input(rt, merging) {
         return FAILED;
     }
