@@ -1,6 +1,6 @@
 //! Text in the picture.
 
-use ec_text_builder::Draft;
+use ec_text_builder::{Amount, Draft};
 use ec_wire::BYTE_NS;
 
 /// Adds a time of so many ns in microseconds, with as many decimals as it needs.
@@ -22,7 +22,7 @@ pub(crate) fn add_micros(page: &mut Draft, ns: u64) {
 
 /// Adds how many bytes, and how long they take on the wire.
 pub(crate) fn add_bytes(page: &mut Draft, bytes: u64) {
-    page.add(format_args!("{bytes} bytes, "));
+    page.add(format_args!("{}, ", Amount(bytes, "byte")));
     add_micros(page, bytes.saturating_mul(BYTE_NS));
 }
 

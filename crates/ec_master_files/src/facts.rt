@@ -41,12 +41,13 @@ fn add_limits(page: &mut Draft, units: &Units, laid: &Laid<'_>) {
 /// Adds how many units, slaves, bytes, groups and frames there are.
 fn add_counts(page: &mut Draft, units: &Units, laid: &Laid<'_>) {
     let (count, slaves) = (units.units.as_slice().len(), laid.seats.len());
-    let (total, groups) = (laid.mapping.total, laid.mapping.groups.as_slice().len());
+    let total = Amount(u64::from(laid.mapping.total), "byte");
+    let groups = laid.mapping.groups.as_slice().len();
     let frames = laid.sends.frames.len();
     page.add(format_args!(
         "<tr><th scope=\"row\">Units</th><td>{count}</td></tr>
 <tr><th scope=\"row\">Slaves</th><td>{slaves}</td></tr>
-<tr><th scope=\"row\">Process image</th><td>{total} bytes, from the logical address 0x{FIRST_ADDRESS:08x} on</td></tr>
+<tr><th scope=\"row\">Process image</th><td>{total}, from the logical address 0x{FIRST_ADDRESS:08x} on</td></tr>
 <tr><th scope=\"row\">Groups</th><td>{groups}</td></tr>
 <tr><th scope=\"row\">Frames in a hyperperiod</th><td>{frames}</td></tr>
 "
